@@ -1,0 +1,3 @@
+pub mod Character
+pub mod StandardLimits
+pub mod formers

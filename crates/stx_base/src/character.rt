@@ -1,0 +1,79 @@
+ghost use Rattle.std.specs.Prelude.{◌≡◌, false, slice_get};
+ghost use Rattle.std.specs.List.{list_all};
+ghost use Rattle.std.specs.Option.{option_map_or};
+ghost use Rattle.std.specs.Str.{chars};
+ghost use Rattle.stx_base.specs.Character as class;
+
+/// Whether `c` is a Char (XML 1.0, 2.2).
+pub fn is_char(c: char) -> bool
+    ensures { result ≡ class.is_char c }
+{
+    matches!(
+        c,
+        '\t' | '\n' | '\r' | ' '..='\u{D7FF}' | '\u{E000}'..='\u{FFFD}' | '\u{10000}'..='\u{10FFFF}'
+    )
+}
+
+/// Whether `c` is white space, S (XML 1.0, 2.3).
+pub fn is_space(c: char) -> bool
+    ensures { result ≡ class.is_space c }
+{
+    matches!(c, ' ' | '\t' | '\r' | '\n')
+}
+
+/// Whether `c` is a NameStartChar (XML 1.0, 2.3).
+pub fn is_name_start(c: char) -> bool
+    ensures { result ≡ class.is_name_start c }
+{
+    matches!(
+        c,
+        ':' | 'A'..='Z'
+            | '_'
+            | 'a'..='z'
+            | '\u{C0}'..='\u{D6}'
+            | '\u{D8}'..='\u{F6}'
+            | '\u{F8}'..='\u{2FF}'
+            | '\u{370}'..='\u{37D}'
+            | '\u{37F}'..='\u{1FFF}'
+            | '\u{200C}'..='\u{200D}'
+            | '\u{2070}'..='\u{218F}'
+            | '\u{2C00}'..='\u{2FEF}'
+            | '\u{3001}'..='\u{D7FF}'
+            | '\u{F900}'..='\u{FDCF}'
+            | '\u{FDF0}'..='\u{FFFD}'
+            | '\u{10000}'..='\u{EFFFF}'
+    )
+}
+
+/// Whether `c` is a NameChar (XML 1.0, 2.3).
+pub fn is_name_char(c: char) -> bool
+    ensures { result ≡ class.is_name_char c }
+{
+    is_name_start(c)
+        || matches!(
+            c,
+            '-' | '.' | '0'..='9' | '\u{B7}' | '\u{300}'..='\u{36F}' | '\u{203F}'..='\u{2040}'
+        )
+}
+
+/// Whether `text` is an NCName: a Name without colon (Namespaces in XML 1.0, 3).
+pub fn is_ncname(text: &str) -> bool
+    ensures { result ≡ class.is_ncname (chars text.now) }
+{
+    begins_as_name(text) && holds_ncname_chars(text)
+}
+
+fn begins_as_name(text: &str) -> bool
+    ensures { result ≡ option_map_or class.is_name_start (slice_get (chars text.now) 0) false }
+{
+    match text.chars().next() {
+        None => false,
+        Some(first) => is_name_start(first),
+    }
+}
+
+fn holds_ncname_chars(text: &str) -> bool
+    ensures { result ≡ list_all class.is_ncname_char (chars text.now) }
+{
+    text.chars().all(|c| is_name_char(c) && c != ':')
+}

@@ -1,0 +1,28 @@
+//! What every layer of stx speaks of: texts, lists, names, places, limits, faults and parts.
+#![tactic(auto)]
+
+mod boxed;
+mod character;
+mod copied;
+mod expression;
+mod fault;
+mod limits;
+mod list;
+mod memory;
+mod name;
+mod node;
+mod part;
+mod text;
+
+pub use boxed::Boxed;
+pub use character::{is_char, is_name_char, is_name_start, is_ncname, is_space};
+pub use copied::Copied;
+pub use expression::{Cmp, Fun, Op};
+pub use fault::{Place, RunCode, RunFault, SheetCode, SheetFault, XmlFault, XmlKind};
+pub use limits::Limits;
+pub use list::List;
+pub use memory::Memory;
+pub use name::{Attr, Binding, Name};
+pub use node::{First, NodeTest};
+pub use part::Part;
+pub use text::Text;
