@@ -4,6 +4,7 @@
 mod boxed;
 mod character;
 mod copied;
+pub mod course_law;
 mod expression;
 mod fault;
 mod limits;
