@@ -185,6 +185,7 @@ module _ {Q R O E : Type 0} {code : Q → Course Q R O E} where
     | inr c ↦ inr (record { result = c.0; before = c.1; rest = c.2; joined = c.5; gives = record { depth = a.depth; comes = c.3 }; ends = record { depth = a.depth; comes = c.4 } })
   ]
 
+module _ {Q R O E : Type 0} (code : Q → Course Q R O E) where
   -- what is done with a call's result follows what its code does
   call_ends : (q : Q) (k : R → Course Q R O E) (os : List O) (e : E) (n : ℕ) → value (run code n) (Ask q k) ≡ Over os e → Ends code (and_then (code q) k) os e
   call_ends q k os e zero h = cc
@@ -205,6 +206,7 @@ module _ {Q R O E : Type 0} {code : Q → Course Q R O E} where
         };
       }
 
+  -- what is equal has the same ends
   pub same_equal : {x y : Course Q R O E} → x ≡ y → Same code x y
   same_equal {x} {y} p =
       record {
@@ -212,6 +214,24 @@ module _ {Q R O E : Type 0} {code : Q → Course Q R O E} where
         from = λ os e a. subst (λ z. Ends code z os e) (sym p) a;
       }
 
+  -- what a call does, where that computes to y
+  pub unfolds : (q : Q) (k : R → Course Q R O E) {y : Course Q R O E} → and_then (code q) k ≡ y → Same code (Ask q k) y
+  unfolds q k e =
+      let a = unfolded q k in
+      record { to = λ os f h. subst (λ z. Ends code z os f) e (a.to os f h); from = λ os f h. a.from os f (subst (λ z. Ends code z os f) (sym e) h) }
+
+  -- two calls that do the same
+  pub same_call : (q p : Q) (k : R → Course Q R O E) → code q ≡ code p → Same code (Ask q k) (Ask p k)
+  same_call q p k e =
+      let a = unfolds q k (ap (λ x. and_then x k) e) in
+      let b = unfolded p k in
+      record { to = λ os f h. b.from os f (a.to os f h); from = λ os f h. a.from os f (b.to os f h) }
+
+  -- the whole ends where it stops
+  pub stopped : (os : List O) (e : E) → Ends code (says os (Halt e)) os e
+  stopped os e = record { depth = 0; comes = value_says (run code 0) os (Halt e) ∙ ap (λ l. Over l e) (append-nil os) }
+
+module _ {Q R O E : Type 0} {code : Q → Course Q R O E} where
   pub same_back : {x y : Course Q R O E} → Same code x y → Same code y x
   same_back a = record { to = a.from; from = a.to }
 
@@ -231,10 +251,6 @@ module _ {Q R O E : Type 0} {code : Q → Course Q R O E} where
   -- what was said first begins all that is said
   pub said_first : (os : List O) (x : Course Q R O E) {ps : List O} {e : E} → Ends code (says os x) ps e → Begins os ps
   said_first os x a = let c = said_ends os x a in (c.0, c.2)
-
-  -- the whole ends where it stops
-  pub stopped : (os : List O) (e : E) → Ends code (says os (Halt e)) os e
-  stopped os e = record { depth = 0; comes = value_says (run code 0) os (Halt e) ∙ ap (λ l. Over l e) (append-nil os) }
 
   said_one_way : (os : List O) (x y : Course Q R O E) → ((ps : List O) (e : E) → Ends code x ps e → Ends code y ps e) → (ps : List O) (e : E) → Ends code (says os x) ps e → Ends code (says os y) ps e
   said_one_way os x y g ps e a =
