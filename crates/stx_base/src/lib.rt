@@ -13,6 +13,8 @@ mod memory;
 mod name;
 mod node;
 mod part;
+#[cfg(test)]
+mod tests;
 mod text;
 
 pub use boxed::Boxed;
