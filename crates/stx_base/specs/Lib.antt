@@ -1,3 +1,6 @@
 pub mod Character
+pub mod Course
+pub mod Refinement
 pub mod StandardLimits
+pub mod Termination
 pub mod formers

@@ -4,6 +4,7 @@
 mod boxed;
 mod character;
 mod copied;
+pub mod course_law;
 mod expression;
 mod fault;
 mod limits;
@@ -12,6 +13,8 @@ mod memory;
 mod name;
 mod node;
 mod part;
+#[cfg(test)]
+mod tests;
 mod text;
 
 pub use boxed::Boxed;
