@@ -1,0 +1,119 @@
+#!/usr/bin/env python3
+"""Write a document of a given shape and size; the same one every time.
+
+Usage: make_documents.py SHAPE MEGABYTES > DOCUMENT
+
+A document is one root element and a line feed. It holds start tags, end tags,
+attributes and text in ASCII, with no references and no prefixed names, so that
+every program under comparison can read it. It ends with the first unit that
+reaches MEGABYTES (of 1,000,000 bytes).
+"""
+
+import sys
+
+PIECE_UNITS = 256
+DEPTH = 200
+PARAGRAPH_BYTES = 2000
+
+WORDS = (
+    "a stream of events passes through the rules in the order of the document "
+    "and every rule sees only what has gone by so memory stays small however "
+    "long the input grows while output follows close behind"
+).split()
+COLOURS = ("red", "green", "blue", "white", "black")
+
+
+def make_sentences(count):
+    sentences = []
+    state = 1
+    for number in range(count):
+        words = []
+        for _ in range(8 + number % 13):
+            # A generator of our own keeps the documents the same whatever the
+            # version of Python.
+            state = (state * 1103515245 + 12345) % 2**31
+            words.append(WORDS[(state >> 16) % len(WORDS)])
+        sentences.append(" ".join(words).capitalize() + ".\n")
+    return sentences
+
+
+SENTENCES = make_sentences(211)
+OPENING = "".join(f'<level{depth} depth="{depth}">down {depth} ' for depth in range(1, DEPTH))
+CLOSING = "".join(f" up {depth}</level{depth}>" for depth in range(DEPTH - 1, 0, -1))
+
+
+def records(number):
+    return (
+        f'<rec id="{number}"><name>item {number}</name>'
+        f"<qty>{number * 7 % 100}</qty></rec>\n"
+    )
+
+
+def attributes(number):
+    return (
+        f'<entry id="{number}" name="item {number}" colour="{COLOURS[number % 5]}" '
+        f'width="{number * 7 % 1000}" height="{number * 13 % 1000}" '
+        f'price="{number * 31 % 500}.95" updated="2024-03-17T08:{number % 60:02}:00" '
+        f'link="http://example.org/items/{number}"></entry>\n'
+    )
+
+
+def text(number):
+    parts = [f"<p>Paragraph {number}.\n"]
+    size = 0
+    choice = number * 37
+    while size < PARAGRAPH_BYTES:
+        sentence = SENTENCES[choice % len(SENTENCES)]
+        parts.append(sentence)
+        size += len(sentence)
+        choice += 17
+    parts.append("</p>\n")
+    return "".join(parts)
+
+
+def deep(number):
+    # The root is one level more, so the depth is DEPTH in all.
+    return f"{OPENING}bottom {number}{CLOSING}\n"
+
+
+def one_text(number):
+    return SENTENCES[number * 37 % len(SENTENCES)]
+
+
+SHAPES = {
+    "records": records,
+    "attributes": attributes,
+    "text": text,
+    "deep": deep,
+    "one_text": one_text,
+}
+
+
+def document(shape, size):
+    """Yield the document in pieces of bytes."""
+    unit = SHAPES[shape]
+    written = 0
+    number = 1
+    end = b"</doc>\n"
+    piece = ["<doc>\n"]
+    remaining = size - len(end) - len(piece[0])
+    while remaining > 0:
+        part = unit(number)
+        piece.append(part)
+        remaining -= len(part)
+        number += 1
+        if number % PIECE_UNITS == 0:
+            yield "".join(piece).encode("ascii")
+            piece.clear()
+    yield "".join(piece).encode("ascii") + end
+
+
+def main(arguments):
+    if len(arguments) != 2 or arguments[0] not in SHAPES or not arguments[1].isdecimal():
+        sys.exit(f"usage: make_documents.py {'|'.join(SHAPES)} MEGABYTES > DOCUMENT")
+    for piece in document(arguments[0], int(arguments[1]) * 1_000_000):
+        sys.stdout.buffer.write(piece)
+
+
+if __name__ == "__main__":
+    main(sys.argv[1:])

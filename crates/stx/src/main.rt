@@ -1,0 +1,29 @@
+//! Applies a sheet to the document on standard input: `stx SHEET < document`.
+#![tactic(auto)]
+
+use std::io::ErrorKind;
+use std::process::ExitCode;
+use std::{env, io};
+use stx_engine::transform;
+use stx_host::RealHost;
+
+/// The status where the words can't be had from the system.
+const NO_WORDS: u8 = 11;
+
+/// The status where memory was wanting for them.
+const OUT_OF_MEMORY: u8 = 7;
+
+fn main(rt: HostRuntime) -> ExitCode {
+    let status = match words(&rt) {
+        Ok(words) => transform(rt.alloc(), words.as_slice(), &mut RealHost::new(rt)),
+        Err(error) if error.kind() == ErrorKind::OutOfMemory => OUT_OF_MEMORY,
+        Err(_) => NO_WORDS,
+    };
+    ExitCode::from(status)
+}
+
+// The words after the program's name.
+fn words(rt: &(impl Env + AllocGlobal)) -> io::Result<Vec<String>> {
+    let words: Vec<String> = env::args(rt)?.skip(1).collect(rt.alloc())?;
+    Ok(words)
+}

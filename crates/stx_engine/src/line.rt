@@ -1,0 +1,102 @@
+use crate::outcome::{HostFault, Outcome};
+use std::alloc::Global;
+use stx_base::{Memory, SheetCode, XmlKind};
+
+/// What the program says of words that it refuses.
+const USAGE: &str = "stx: usage: stx SHEET [NAME=VALUE]... [--fuel N] [--lexeme N] [--instances N] [--check] [--sample N]\n";
+
+/// What the program says where memory was wanting.
+pub const OUT_OF_MEMORY: &str = "stx: out of memory\n";
+
+/// The fault line of an outcome, with its line feed; empty for a run that is done.
+pub fn line(alloc: Global, outcome: &Outcome) -> Result<String, Memory> {
+    match outcome {
+        Outcome::Done => Ok(String::new(alloc)),
+        Outcome::Usage => copied(alloc, USAGE),
+        Outcome::Sheet(fault) => {
+            fault_line(alloc, fault.file.as_str(), sheet_code(fault.code), fault.offset)
+        }
+        Outcome::Xml { file, fault } => {
+            fault_line(alloc, file.as_str(), xml_kind(fault.kind), fault.offset)
+        }
+        Outcome::Host {
+            file,
+            fault,
+            offset,
+        } => fault_line(alloc, file.as_str(), host_fault(*fault), *offset),
+        Outcome::Memory => copied(alloc, OUT_OF_MEMORY),
+    }
+}
+
+fn copied(alloc: Global, text: &str) -> Result<String, Memory> {
+    let line = String::from_str(alloc, text)?;
+    Ok(line)
+}
+
+// `stx: FILE: CODE at OFFSET` and a line feed.
+fn fault_line(alloc: Global, file: &str, code: &str, offset: u64) -> Result<String, Memory> {
+    let line = format!(in alloc; "stx: {file}: {code} at {offset}\n")?;
+    Ok(line)
+}
+
+fn host_fault(fault: HostFault) -> &'static str {
+    match fault {
+        HostFault::Doc => "Doc",
+        HostFault::Read => "Read",
+        HostFault::Write => "Write",
+    }
+}
+
+fn sheet_code(code: SheetCode) -> &'static str {
+    match code {
+        SheetCode::SheetTooLarge => "SheetTooLarge",
+        SheetCode::BadXml => "BadXml",
+        SheetCode::NotStx => "NotStx",
+        SheetCode::UnknownElement => "UnknownElement",
+        SheetCode::Misplaced => "Misplaced",
+        SheetCode::UnknownAttribute => "UnknownAttribute",
+        SheetCode::MissingAttribute => "MissingAttribute",
+        SheetCode::Version => "Version",
+        SheetCode::BadValue => "BadValue",
+        SheetCode::Fraction => "Fraction",
+        SheetCode::BadPath => "BadPath",
+        SheetCode::DuplicateName => "DuplicateName",
+        SheetCode::IncludeLoop => "IncludeLoop",
+        SheetCode::NoDocument => "NoDocument",
+        SheetCode::NoGroup => "NoGroup",
+        SheetCode::NoProcedure => "NoProcedure",
+        SheetCode::NoBuffer => "NoBuffer",
+        SheetCode::NoVariable => "NoVariable",
+        SheetCode::NotBuilt => "NotBuilt",
+    }
+}
+
+fn xml_kind(kind: XmlKind) -> &'static str {
+    match kind {
+        XmlKind::LexemeTooLong => "LexemeTooLong",
+        XmlKind::BadUtf8 => "BadUtf8",
+        XmlKind::BadChar => "BadChar",
+        XmlKind::InternalSubset => "InternalSubset",
+        XmlKind::BadMarkup => "BadMarkup",
+        XmlKind::BadDeclaration => "BadDeclaration",
+        XmlKind::BadVersion => "BadVersion",
+        XmlKind::Encoding => "Encoding",
+        XmlKind::BadComment => "BadComment",
+        XmlKind::BadPi => "BadPi",
+        XmlKind::CdataEnd => "CdataEnd",
+        XmlKind::BadTag => "BadTag",
+        XmlKind::BadReference => "BadReference",
+        XmlKind::UnknownEntity => "UnknownEntity",
+        XmlKind::Misplaced => "Misplaced",
+        XmlKind::BadName => "BadName",
+        XmlKind::BadBinding => "BadBinding",
+        XmlKind::UndeclaredPrefix => "UndeclaredPrefix",
+        XmlKind::DuplicateAttribute => "DuplicateAttribute",
+        XmlKind::Mismatch => "Mismatch",
+        XmlKind::TooDeep => "TooDeep",
+        XmlKind::TextTooLong => "TextTooLong",
+        XmlKind::Truncated => "Truncated",
+        XmlKind::InputTooLong => "InputTooLong",
+        XmlKind::NotBuilt => "NotBuilt",
+    }
+}
