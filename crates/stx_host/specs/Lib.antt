@@ -1,0 +1,3 @@
+pub mod MemHost
+pub mod Outside
+pub mod Table
