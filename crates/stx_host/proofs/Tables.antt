@@ -1,8 +1,7 @@
 -- Look-ups in a table and what changes them.
-use Rattle.std.proofs.Common.{◌≡◌, ◌≢◌, ℕ, zero, suc, ◌==◌, ◌||◌, ◌+◌, ◌<◌, Bool, true, false, cond, nat_lt, not, length, get_or, filter, take, drop, List, [], ◌∷◌, ◌++◌, Option, Some, None, map, is_some, position, ap, sym, ◌∙◌, refl, arith}
+use Rattle.std.proofs.Common.{◌≡◌, ℕ, zero, suc, ◌==◌, ◌||◌, ◌+◌, ◌<◌, Bool, true, false, cond, nat_lt, not, length, get_or, filter, List, [], ◌∷◌, Option, Some, None, is_some, position, ap, sym, ◌∙◌, refl, arith}
 use Rattle.std.specs.List.{list_any, prefix_len, remove}
 use Rattle.std.specs.Option.{option_map}
-use Rattle.std.proofs.lemmas.List.Quantifiers.{position-Some}
 use Rattle.std.proofs.lemmas.Bool.Decides.{nat_tests}
 use Rattle.stx_host.specs.declared.table.Slot.{Slot}
 use Rattle.stx_host.specs.Outside.{is_among}

@@ -1,11 +1,11 @@
 -- What a host in memory has to come, after each change of its table.
-use Rattle.std.proofs.Common.{◌≡◌, ◌≢◌, ℕ, zero, suc, ◌==◌, ◌||◌, ◌+◌, ◌<◌, Bool, true, false, cond, not, length, get_or, filter, drop, find, List, [], ◌∷◌, ◌++◌, Option, Some, None, map, slice_get, ap, sym, ◌∙◌, refl, arith, position, eqb, if◌then◌else◌, subst, inl, inr, min, is_some}
+use Rattle.std.proofs.Common.{◌≡◌, ◌≢◌, ℕ, zero, suc, ◌==◌, ◌||◌, ◌+◌, ◌<◌, Bool, true, false, cond, not, length, get_or, filter, drop, find, List, [], ◌∷◌, ◌++◌, Option, Some, None, slice_get, ap, sym, ◌∙◌, refl, arith, position, if◌then◌else◌, subst, inl, inr, is_some}
 use Rattle.std.specs.List.{list_any, slice_set as set}
 use Rattle.std.specs.Option.{option_map, option_and_then}
 use Rattle.std.proofs.Math.Path.{fun_ext}
 use Rattle.std.proofs.lemmas.Bool.{false≢true, cases_eq}
 use Rattle.std.proofs.lemmas.Bool.Decides.{nat_tests}
-use Rattle.std.proofs.lemmas.List.{map-append, get_or-set_same, get_or-set_other, length-set, drop-drop}
+use Rattle.std.proofs.lemmas.List.{get_or-set_same, get_or-set_other, length-set, drop-drop}
 use Rattle.std.proofs.lemmas.List.Quantifiers.{position-Some}
 use Rattle.std.proofs.lemmas.List.Recursion.{found_at}
 use Rattle.stx_host.specs.declared.act.Doc.{Doc}
@@ -97,8 +97,9 @@ with_other to_come id bytes k h = ap (λ b. if b then bytes else to_come k) (eq_
 -- two functions of ids are one where they give the same at an id and at the others
 pub by_id : (new old : ℕ → Option (List ℕ)) (id : ℕ) (bytes : Option (List ℕ)) → new id ≡ bytes → ((k : ℕ) → k ≢ id → new k ≡ old k) → new ≡ with_bytes old id bytes
 by_id new old id bytes here others = fun_ext (λ k. elim (cases_eq k id) [
-    inl e ↦ subst (λ j. new j ≡ with_bytes old id bytes j) (sym e) (here ∙ sym (with_here old id bytes))
-  | inr h ↦ others k h ∙ sym (with_other old id bytes k h) ])
+  | inl e ↦ subst (λ j. new j ≡ with_bytes old id bytes j) (sym e) (here ∙ sym (with_here old id bytes))
+  | inr h ↦ others k h ∙ sym (with_other old id bytes k h)
+])
 
 -- the documents' part decides where the id isn't 0
 pub doc_at : (main : List ℕ) (at : ℕ) (docs : List Doc) (slots : List (Slot Reading)) (id : ℕ) → 0 < id → all_to_come main at docs slots id ≡ rest_of_id docs slots id
@@ -109,8 +110,8 @@ same_doc main at docs new old k e = ap (λ rest. if k == 0 then Some (drop at ma
 
 -- a change of the table that is one of the documents' part
 pub by_doc : (main : List ℕ) (at : ℕ) (docs : List Doc) (new old : List (Slot Reading)) (id : ℕ) (bytes : Option (List ℕ)) → 0 < id
-  → rest_of_id docs new id ≡ bytes → ((k : ℕ) → k ≢ id → rest_of_id docs new k ≡ rest_of_id docs old k)
-  → all_to_come main at docs new ≡ with_bytes (all_to_come main at docs old) id bytes
+    → rest_of_id docs new id ≡ bytes → ((k : ℕ) → k ≢ id → rest_of_id docs new k ≡ rest_of_id docs old k)
+    → all_to_come main at docs new ≡ with_bytes (all_to_come main at docs old) id bytes
 by_doc main at docs new old id bytes h here others = by_id (all_to_come main at docs new) (all_to_come main at docs old) id bytes
     (doc_at main at docs new id h ∙ here) (λ k other. same_doc main at docs new old k (others k other))
 
@@ -123,28 +124,28 @@ nothing_more p xs = nothing_step (list_any p xs) (find p xs) (find-none p xs)
 
 -- one more slot, of an id that wasn't open
 pub to_come-added : (main : List ℕ) (at : ℕ) (docs : List Doc) (slots : List (Slot Reading)) (id : ℕ) (reading : Reading) → 0 < id → is_among (ids_of slots) id ≡ false
-  → all_to_come main at docs (slots ++ record { id = id; held = reading } ∷ []) ≡ with_bytes (all_to_come main at docs slots) id (rest_of docs reading)
+    → all_to_come main at docs (slots ++ record { id = id; held = reading } ∷ []) ≡ with_bytes (all_to_come main at docs slots) id (rest_of docs reading)
 to_come-added main at docs slots id reading above none =
     let slot : Slot Reading = record { id = id; held = reading } in
     by_doc main at docs (slots ++ slot ∷ []) slots id (rest_of docs reading) above
-      (ap (λ o. option_and_then (λ s. rest_of docs s.held) o) (find-push (λ s. s.id == id) slots slot
-        ∙ ap (λ b. cond b (find (λ s. s.id == id) slots) (cond (id == id) (Some slot) None)) (is_among-ids_of slots id ∙ none)
-        ∙ ap (λ b. cond b (Some slot) None) (eq_self id)))
-      (λ k other. ap (λ o. option_and_then (λ s. rest_of docs s.held) o) (find-push (λ s. s.id == k) slots slot
-        ∙ ap (λ b. cond (list_any (λ s. s.id == k) slots) (find (λ s. s.id == k) slots) (cond b (Some slot) None)) (eq_other_way k id other)
-        ∙ nothing_more (λ s. s.id == k) slots))
+    (ap (λ o. option_and_then (λ s. rest_of docs s.held) o) (find-push (λ s. s.id == id) slots slot
+    ∙ ap (λ b. cond b (find (λ s. s.id == id) slots) (cond (id == id) (Some slot) None)) (is_among-ids_of slots id ∙ none)
+    ∙ ap (λ b. cond b (Some slot) None) (eq_self id)))
+    (λ k other. ap (λ o. option_and_then (λ s. rest_of docs s.held) o) (find-push (λ s. s.id == k) slots slot
+    ∙ ap (λ b. cond (list_any (λ s. s.id == k) slots) (find (λ s. s.id == k) slots) (cond b (Some slot) None)) (eq_other_way k id other)
+    ∙ nothing_more (λ s. s.id == k) slots))
 
 -- the slots of an id gone
 pub to_come-removed : (main : List ℕ) (at : ℕ) (docs : List Doc) (slots : List (Slot Reading)) (id : ℕ) → 0 < id
-  → all_to_come main at docs (filter (λ slot. not (slot.id == id)) slots) ≡ with_bytes (all_to_come main at docs slots) id None
+    → all_to_come main at docs (filter (λ slot. not (slot.id == id)) slots) ≡ with_bytes (all_to_come main at docs slots) id None
 to_come-removed main at docs slots id above =
     by_doc main at docs (filter (λ s. not (s.id == id)) slots) slots id None above
-      (ap (λ o. option_and_then (λ s. rest_of docs s.held) o) (find-filter_gone (λ s. s.id == id) (λ s. not (s.id == id)) (λ s h. same_id id id s.id refl h) slots))
-      (λ k other. ap (λ o. option_and_then (λ s. rest_of docs s.held) o) (find-filter_kept (λ s. s.id == k) (λ s. not (s.id == id)) (λ s h. other_id k id s.id other h) slots))
+    (ap (λ o. option_and_then (λ s. rest_of docs s.held) o) (find-filter_gone (λ s. s.id == id) (λ s. not (s.id == id)) (λ s h. same_id id id s.id refl h) slots))
+    (λ k other. ap (λ o. option_and_then (λ s. rest_of docs s.held) o) (find-filter_kept (λ s. s.id == k) (λ s. not (s.id == id)) (λ s h. other_id k id s.id other h) slots))
 
 -- where the first slot of an id stands, it is found
 pub found_slot : (slots : List (Slot Reading)) (id at : ℕ) (d : Slot Reading) → position (λ slot. slot.id == id) slots ≡ Some at
-  → find (λ slot. slot.id == id) slots ≡ Some (get_or slots at d)
+    → find (λ slot. slot.id == id) slots ≡ Some (get_or slots at d)
 found_slot slots id at d found =
     let p : Slot Reading → Bool = λ slot. slot.id == id in
     let here = position-Some p slots at d found in
@@ -152,14 +153,14 @@ found_slot slots id at d found =
 
 -- a slot of the same id in its place
 pub found_set : (slots : List (Slot Reading)) (id at : ℕ) (new d : Slot Reading) → position (λ slot. slot.id == id) slots ≡ Some at → (new.id == id) ≡ true
-  → find (λ slot. slot.id == id) (set slots at new) ≡ Some new
+    → find (λ slot. slot.id == id) (set slots at new) ≡ Some new
 found_set slots id at new d found same =
     let p : Slot Reading → Bool = λ slot. slot.id == id in
     let here = position-Some p slots at d found in
     let within : at < length slots = here.0 in
     let is_new : get_or (set slots at new) at d ≡ new = get_or-set_same slots at new d within in
     found_at (find p) p (λ s. Some s) None refl (λ _ _. refl) (set slots at new) at d (omega (arith, length-set slots at new))
-      (λ k below. ap p (get_or-set_other slots at k new d (λ e. absurd (omega arith))) ∙ here.2 k below) (ap p is_new ∙ same) ∙ ap (λ s. Some s) is_new
+    (λ k below. ap p (get_or-set_other slots at k new d (λ e. absurd (omega arith))) ∙ here.2 k below) (ap p is_new ∙ same) ∙ ap (λ s. Some s) is_new
 
 dropped_step : (docs : List Doc) (doc at n : ℕ) (o : Option Doc) → option_map (λ d. drop (at + n) d.bytes) o ≡ option_map (λ bytes. drop n bytes) (option_map (λ d. drop at d.bytes) o)
 dropped_step docs doc at n None = refl
@@ -183,41 +184,41 @@ module _ (docs : List Doc) (slots : List (Slot Reading)) (id at : ℕ) (old : Sl
   rest_here = ap (λ o. option_and_then (λ s. rest_of docs s.held) o) is_found
 
   pub rest-read : (n : ℕ) (held : Reading) → held ≡ record { doc = old.held.doc; at = old.held.at + n }
-    → rest_of_id docs (set slots at (record { id = old.id; held = held })) ≡ with_bytes (rest_of_id docs slots) id (option_map (λ bytes. drop n bytes) (rest_of_id docs slots id))
+      → rest_of_id docs (set slots at (record { id = old.id; held = held })) ≡ with_bytes (rest_of_id docs slots) id (option_map (λ bytes. drop n bytes) (rest_of_id docs slots id))
   rest-read n held moved =
       let new : Slot Reading = record { id = old.id; held = held } in
       let here = position-Some (λ slot. slot.id == id) slots at old found in
       let same : (old.id == id) ≡ true = ap (λ s. s.id == id) is ∙ here.1 in
       by_id (rest_of_id docs (set slots at new)) (rest_of_id docs slots) id (option_map (λ bytes. drop n bytes) (rest_of_id docs slots id))
-        (ap (λ o. option_and_then (λ s. rest_of docs s.held) o) (found_set slots id at new old found same)
-          ∙ ap (rest_of docs) moved ∙ rest_of-further docs old.held.doc old.held.at n ∙ sym (ap (λ o. option_map (λ bytes. drop n bytes) o) rest_here))
-        (λ k other. ap (λ o. option_and_then (λ s. rest_of docs s.held) o)
-          (find-set_other (λ s. s.id == k) slots at new old (differs k id old.id other same) (differs k id (get_or slots at old).id other here.1)))
+      (ap (λ o. option_and_then (λ s. rest_of docs s.held) o) (found_set slots id at new old found same)
+      ∙ ap (rest_of docs) moved ∙ rest_of-further docs old.held.doc old.held.at n ∙ sym (ap (λ o. option_map (λ bytes. drop n bytes) o) rest_here))
+      (λ k other. ap (λ o. option_and_then (λ s. rest_of docs s.held) o)
+      (find-set_other (λ s. s.id == k) slots at new old (differs k id old.id other same) (differs k id (get_or slots at old).id other here.1)))
 
 -- the same of all that is to come
 pub to_come-read : (main : List ℕ) (at : ℕ) (docs : List Doc) (old new : List (Slot Reading)) (id n : ℕ) → 0 < id
-  → rest_of_id docs new ≡ with_bytes (rest_of_id docs old) id (option_map (λ bytes. drop n bytes) (rest_of_id docs old id))
-  → all_to_come main at docs new ≡ with_bytes (all_to_come main at docs old) id (option_map (λ bytes. drop n bytes) (all_to_come main at docs old id))
+    → rest_of_id docs new ≡ with_bytes (rest_of_id docs old) id (option_map (λ bytes. drop n bytes) (rest_of_id docs old id))
+    → all_to_come main at docs new ≡ with_bytes (all_to_come main at docs old) id (option_map (λ bytes. drop n bytes) (all_to_come main at docs old id))
 to_come-read main at docs old new id n above e =
     let bytes : Option (List ℕ) = option_map (λ bytes. drop n bytes) (rest_of_id docs old id) in
     by_doc main at docs new old id bytes above (ap (λ f. f id) e ∙ with_here (rest_of_id docs old) id bytes) (λ k other. ap (λ f. f k) e ∙ with_other (rest_of_id docs old) id bytes k other)
-      ∙ ap (λ o. with_bytes (all_to_come main at docs old) id (option_map (λ bytes. drop n bytes) o)) (sym (doc_at main at docs old id above))
+    ∙ ap (λ o. with_bytes (all_to_come main at docs old) id (option_map (λ bytes. drop n bytes) o)) (sym (doc_at main at docs old id above))
 
 drop_none : (o : Option (List ℕ)) → option_map (λ bytes. drop 0 bytes) o ≡ o
 drop_none None = refl
 drop_none (Some bytes) = refl
 
-kept_bytes : (f : ℕ → Option (List ℕ)) (id : ℕ) → with_bytes f id (f id) ≡ f
+pub kept_bytes : (f : ℕ → Option (List ℕ)) (id : ℕ) → with_bytes f id (f id) ≡ f
 kept_bytes f id = sym (by_id f f id (f id) refl (λ k other. refl))
 
 -- after a read of nothing
 pub to_come-end : (main : List ℕ) (at : ℕ) (docs : List Doc) (old new : List (Slot Reading)) (id n : ℕ) → n ≡ 0
-  → rest_of_id docs new ≡ with_bytes (rest_of_id docs old) id (option_map (λ bytes. drop n bytes) (rest_of_id docs old id))
-  → all_to_come main at docs new ≡ all_to_come main at docs old
+    → rest_of_id docs new ≡ with_bytes (rest_of_id docs old) id (option_map (λ bytes. drop n bytes) (rest_of_id docs old id))
+    → all_to_come main at docs new ≡ all_to_come main at docs old
 to_come-end main at docs old new id n none e =
     let same : rest_of_id docs new ≡ rest_of_id docs old =
-        e ∙ ap (λ m. with_bytes (rest_of_id docs old) id (option_map (λ bytes. drop m bytes) (rest_of_id docs old id))) none
-          ∙ ap (with_bytes (rest_of_id docs old) id) (drop_none (rest_of_id docs old id)) ∙ kept_bytes (rest_of_id docs old) id in
+    e ∙ ap (λ m. with_bytes (rest_of_id docs old) id (option_map (λ bytes. drop m bytes) (rest_of_id docs old id))) none
+    ∙ ap (with_bytes (rest_of_id docs old) id) (drop_none (rest_of_id docs old id)) ∙ kept_bytes (rest_of_id docs old) id in
     fun_ext (λ k. same_doc main at docs new old k (ap (λ f. f k) same))
 
 -- the first bytes of a document are all of it

@@ -1,5 +1,5 @@
 -- What a host in memory tells, and where its calls fail.
-use Rattle.std.specs.Prelude.{◌≡◌, [], ◌∷◌, ◌++◌, length, ℕ, ◌==◌, List, take, drop, find, min, IfSome, slice_get, Option, Some, None, option_map, if◌then◌else◌}
+use Rattle.std.specs.Prelude.{◌≡◌, [], ◌∷◌, ◌++◌, length, ℕ, ◌==◌, List, take, drop, find, min, IfSome, slice_get, Option, Some, option_map, if◌then◌else◌}
 use Rattle.std.specs.Option.{option_and_then, option_map_or}
 use Rattle.stx_host.specs.declared.act.Act.{Act}
 use Rattle.stx_host.specs.declared.act.Act.TheVariants.{Write}

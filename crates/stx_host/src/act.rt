@@ -36,21 +36,12 @@ pub enum Lane {
 pub enum Act {
     /// The place of the document among those that the host tells, and the id given; `None` and 0 for
     /// an absent name.
-    Open {
-        doc: Option<usize>,
-        id: u32,
-    },
+    Open { doc: Option<usize>, id: u32 },
     /// How many bytes an id gave; 0 at its end.
-    Read {
-        id: u32,
-        got: usize,
-    },
+    Read { id: u32, got: usize },
     Close(u32),
     /// How many bytes a lane took.
-    Write {
-        lane: Lane,
-        len: usize,
-    },
+    Write { lane: Lane, len: usize },
 }
 
 /// A document and its name.

@@ -5,8 +5,10 @@ mod act;
 mod faults;
 mod host;
 mod mem_host;
+mod real_host;
 mod table;
 
 pub use act::{Act, Call, Doc, Fail, Got, Lane, Opened, Put};
 pub use host::Host;
 pub use mem_host::MemHost;
+pub use real_host::RealHost;

@@ -7,8 +7,8 @@ use crate::act::{Act, Call, Doc, Fail, Got, Lane, Opened, Put};
 use crate::faults::{Faults, raised};
 use crate::host::Host;
 use crate::table::Table;
-use stx_base::{List, Memory, Text};
 use std::alloc::Global;
+use stx_base::{List, Memory, Text};
 
 /// How far an open document was read.
 #[derive(Clone, Copy, Debug)]

@@ -27,6 +27,22 @@ impl<T: Drop> Table<T> {
         Ok(Table { slots })
     }
 
+    pub(crate) fn new(alloc: Global) -> Table<T>
+        ensures { result.slots.items ≡ [] }
+    {
+        Table {
+            slots: Vec::new(alloc),
+        }
+    }
+
+    /// Makes room for one more.
+    pub(crate) fn reserve(&mut self) -> Result<(), AllocError>
+        ensures room { OnOk result (vec_len self.new.slots < vec_capacity self.new.slots) }
+        ensures unchanged { self.new.slots.items ≡ self.old.slots.items }
+    {
+        self.slots.reserve(1)
+    }
+
     /// Where an id stands.
     pub(crate) fn position(&self, id: u32) -> Option<usize>
         ensures { result ≡ position (λ slot. slot.id == id) self.now.slots.items }
@@ -51,7 +67,11 @@ impl<T: Drop> Table<T> {
                 return Some(id);
             }
         }
-        if self.has(u32::MAX) { None } else { Some(u32::MAX) }
+        if self.has(u32::MAX) {
+            None
+        } else {
+            Some(u32::MAX)
+        }
     }
 
     /// Gives an id to what is to be held, where there is room and a number above 0 is free.

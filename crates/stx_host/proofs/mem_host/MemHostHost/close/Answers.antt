@@ -1,4 +1,4 @@
-use Rattle.std.proofs.Common.{◌≡◌, ◌==◌, not, filter, Some, ap, refl, sym, ◌∙◌, inl, inr, rules, arith}
+use Rattle.std.proofs.Common.{Some, ap, ◌∙◌, inl, inr}
 use Rattle.stx_host.specs.MemHost.{outside_of, all_to_come}
 use Rattle.stx_host.specs.Table.{ids_of}
 use Rattle.stx_host.proofs.ToCome.{to_come-removed, ids_of-filter}

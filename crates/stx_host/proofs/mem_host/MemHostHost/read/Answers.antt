@@ -1,4 +1,4 @@
-use Rattle.std.proofs.Common.{◌≡◌, ℕ, ◌<◌, [], ◌∷◌, ◌++◌, Some, ap, refl, sym, ◌∙◌, rules, arith}
+use Rattle.std.proofs.Common.{◌<◌, [], ◌∷◌, ◌++◌, Some, ap, ◌∙◌, arith}
 use Rattle.stx_host.specs.declared.act.Act.TheVariants.{Read}
 use Rattle.stx_host.specs.MemHost.{outside_of}
 use Rattle.stx_host.proofs.ToCome.{to_come-read, to_come-end}

@@ -1,4 +1,4 @@
-use Rattle.std.proofs.Common.{◌≡◌, ◌==◌, false, ◌∙◌, sym, ap, rules, is_some}
+use Rattle.std.proofs.Common.{◌≡◌, ◌==◌, false, ◌∙◌, sym, ap, is_some}
 use Rattle.std.specs.List.{list_any}
 use Rattle.std.proofs.lemmas.List.Quantifiers.{position-Some}
 use Rattle.stx_host.proofs.Tables.{filter-remove, filter-none, is_some-position}
@@ -14,5 +14,5 @@ pub returns : goal.returns
 returns g c =
     let slots = c.loop-at.self.slots.items in
     let none : list_any (λ slot. slot.id == c.args.id) slots ≡ false =
-        sym (is_some-position (λ slot. slot.id == c.args.id) slots) ∙ sym (ap is_some c.position.ensures) ∙ ap is_some c.in_default.is in
+    sym (is_some-position (λ slot. slot.id == c.args.id) slots) ∙ sym (ap is_some c.position.ensures) ∙ ap is_some c.in_default.is in
     sym (filter-none (λ slot. slot.id == c.args.id) slots none) ∙ c.loop-at.invariant

@@ -1,4 +1,4 @@
-use Rattle.std.proofs.Common.{◌≡◌, ℕ, filter, not, ◌==◌, vec_len}
+use Rattle.std.proofs.Common.{◌≡◌, filter, not, ◌==◌, vec_len}
 use Rattle.stx_host.proofs.table.Table.remove.Given as goal
 
 -- what is to be kept stays
