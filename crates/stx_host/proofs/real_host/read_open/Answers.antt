@@ -1,0 +1,8 @@
+use Rattle.std.proofs.Common.{ap}
+use Rattle.std.proofs.Math.Seq.{map-set_same}
+use Rattle.stx_host.proofs.real_host.read_open.Goals as goal
+
+pub returns-clause-ids : goal.returns-clause-ids
+returns-clause-ids g c =
+    map-set_same (λ slot. slot.id) c.args.table.now.slots.items c.in-Some.at (record { id = c.index_mut-slot.result.now.id; held = c.read_some.new.source })
+    c.index_mut-slot.result.now (ap (λ slot. slot.id) c.index_mut-slot.ensures.value)

@@ -1,0 +1,9 @@
+use Rattle.std.proofs.Common.{◌≡◌, filter, not, ◌==◌, vec_len}
+use Rattle.stx_host.proofs.table.Table.remove.Given as goal
+
+-- what is to be kept stays
+abbrev pub invariant-loop-at : goal.invariant-loop-at
+invariant-loop-at g l = filter (λ slot. not (slot.id == l.id)) l.self.slots.items ≡ filter (λ slot. not (slot.id == l.id)) l.initial.self.slots.items
+
+abbrev pub decreases-loop-at : goal.decreases-loop-at
+decreases-loop-at g l = vec_len l.self.slots

@@ -1,0 +1,4 @@
+pub mod MemHost
+pub mod Outside
+pub mod RealHost
+pub mod Table

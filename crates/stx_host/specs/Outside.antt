@@ -1,0 +1,178 @@
+-- What a host tells of the outside, and what its four calls do to that.
+use Rattle.std.specs.Prelude.{◌≡◌, ℕ, ◌-◌, ◌^◌, ◌<◌, ◌≤◌, Bool, false, not, ◌==◌, IsTrue, ◌⊎◌, List, [], ◌∷◌, ◌++◌, length, take, drop, filter, position, bytes_eq, slice_get, Option, None, IsSome, IfSome, option_map, if◌then◌else◌}
+use Rattle.std.specs.List.{list_any}
+use Rattle.std.specs.Option.{option_and_then}
+use Rattle.stx_host.specs.declared.act.Act.{Act}
+use Rattle.stx_host.specs.declared.act.Act.TheVariants.{Open, Read, Close, Write}
+use Rattle.stx_host.specs.declared.act.Doc.{Doc}
+use Rattle.stx_host.specs.declared.act.Lane.{Lane}
+use Rattle.stx_host.specs.declared.act.Lane.TheVariants.{Out, Note}
+use Rattle.stx_host.specs.declared.act.Opened.{Opened}
+use Rattle.stx_host.specs.declared.act.Opened.TheVariants.{Id, Absent, Failed, Memory}
+use Rattle.stx_host.specs.declared.act.Got.{Got}
+use Rattle.stx_host.specs.declared.act.Got.TheVariants.{Bytes, End, Failed as Unread}
+use Rattle.stx_host.specs.declared.act.Put.{Put}
+use Rattle.stx_host.specs.declared.act.Put.TheVariants.{Took, Failed as Unwritten}
+
+-- What a host tells. Each meaning is told (`Some`) or not; the four counts of faults always are.
+pub record Outside : Type 0 where
+  -- the documents; of two with one name the first counts
+  pub documents : Option (List Doc)
+  -- the bytes still to come of each open id; id 0 is the main document
+  pub to_come : ℕ → Option (List ℕ)
+  -- the ids that were given out and not given back
+  pub open_ids : Option (List ℕ)
+  -- the acts so far, in order
+  pub log : Option (List Act)
+  -- the bytes that each lane took so far
+  pub out : Option (List ℕ)
+  pub note : Option (List ℕ)
+  pub doc_faults : ℕ
+  pub main_faults : ℕ
+  pub out_faults : ℕ
+  pub note_faults : ℕ
+
+-- the place of the first document of a name
+abbrev pub place : List Doc → List ℕ → Option ℕ
+place docs name = position (λ doc. bytes_eq doc.name name) docs
+
+-- its bytes
+abbrev pub document : List Doc → List ℕ → Option (List ℕ)
+document docs name = option_and_then (λ at. option_map (λ doc. doc.bytes) (slice_get docs at)) (place docs name)
+
+-- whether an id is one of these
+abbrev pub is_among : List ℕ → ℕ → Bool
+is_among ids id = list_any (λ k. k == id) ids
+
+-- an id of a document, and open as far as the host tells
+pub record IsOpen (open_ids : Option (List ℕ)) (id : ℕ) : Type 0 where
+  pub above_zero : 0 < id
+  pub told : IfSome open_ids (λ ids. IsTrue (is_among ids id))
+
+-- the main document can always be read, and a document while it is open
+abbrev pub IsReadable : Option (List ℕ) → ℕ → Type 0
+IsReadable open_ids id = (id ≡ 0) ⊎ IsOpen open_ids id
+
+-- a told list, and one more
+abbrev pub and_one : {X : Type 0} → Option (List X) → X → Option (List X)
+and_one told x = option_map (λ xs. xs ++ x ∷ []) told
+
+-- what is to come, but other bytes for one id
+abbrev pub with_bytes : (ℕ → Option (List ℕ)) → ℕ → Option (List ℕ) → ℕ → Option (List ℕ)
+with_bytes to_come id bytes k = if k == id then bytes else to_come k
+
+-- a count rose: it is greater, or stands at the last value of u64
+abbrev pub Rose : ℕ → ℕ → Type 0
+Rose before now = (before < now) ⊎ (now ≡ 2 ^ 64 - 1)
+
+-- what a failing call does to its count
+pub record Raises (before now : ℕ) : Type 0 where
+  pub no_fall : before ≤ now
+  pub rose : Rose before now
+  pub is_u64 : now < 2 ^ 64
+
+-- nothing changed but this count, and that rose
+pub record DocFault (old new : Outside) : Type 0 where
+  pub alone : new ≡ record old { doc_faults = new.doc_faults }
+  pub count : Raises old.doc_faults new.doc_faults
+
+pub record MainFault (old new : Outside) : Type 0 where
+  pub alone : new ≡ record old { main_faults = new.main_faults }
+  pub count : Raises old.main_faults new.main_faults
+
+pub record OutFault (old new : Outside) : Type 0 where
+  pub alone : new ≡ record old { out_faults = new.out_faults }
+  pub count : Raises old.out_faults new.out_faults
+
+pub record NoteFault (old new : Outside) : Type 0 where
+  pub alone : new ≡ record old { note_faults = new.note_faults }
+  pub count : Raises old.note_faults new.note_faults
+
+-- an id that `open` may give: above 0, not open, and of a name that the told documents have
+pub record IsNewId (old : Outside) (name : List ℕ) (id : ℕ) : Type 0 where
+  pub above_zero : 0 < id
+  pub not_open : IfSome old.open_ids (λ ids. is_among ids id ≡ false)
+  pub known : IfSome old.documents (λ docs. IsSome (place docs name))
+
+-- the answers that `open` may give
+abbrev pub MayOpen : Outside → List ℕ → Opened → Type 0
+MayOpen old name (Id id) = IsNewId old name id
+MayOpen old name Absent = IfSome old.documents (λ docs. place docs name ≡ None)
+MayOpen old name Failed = Unit {0}
+MayOpen old name Memory = Unit {0}
+
+-- after `Id`: an act more, an id more, and all bytes of the document to come
+abbrev pub opened : Outside → List ℕ → ℕ → Outside
+opened old name id = record old {
+  log = and_one old.log (Open (option_and_then (λ docs. place docs name) old.documents) id);
+  open_ids = and_one old.open_ids id;
+  to_come = with_bytes old.to_come id (option_and_then (λ docs. document docs name) old.documents);
+}
+
+-- what `open` changes, by its answer
+abbrev pub Opens : Outside → List ℕ → Opened → Outside → Type 0
+Opens old name (Id id) new = new ≡ opened old name id
+Opens old name Absent new = new ≡ record old { log = and_one old.log (Open None 0) }
+Opens old name Failed new = DocFault old new
+Opens old name Memory new = new ≡ old
+
+-- the next n bytes stand at the front of the room
+pub record GivesBytes (to_come : Option (List ℕ)) (n : ℕ) (room : List ℕ) : Type 0 where
+  pub some : 0 < n
+  pub fits : n ≤ length room
+  pub next : IfSome to_come (λ bytes. bytes ≡ take n room ++ drop n bytes)
+
+-- the answers that `read` may give, with the room as it then is
+abbrev pub MayRead : Outside → ℕ → Got → List ℕ → Type 0
+MayRead old id (Bytes n) room = GivesBytes (old.to_come id) n room
+MayRead old id End room = IfSome (old.to_come id) (λ bytes. bytes ≡ [])
+MayRead old id Unread room = Unit {0}
+
+-- a failing read: for id 0 the count of the main document, else that of documents
+pub record ReadFault (id : ℕ) (old new : Outside) : Type 0 where
+  pub main : id ≡ 0 → MainFault old new
+  pub doc : 0 < id → DocFault old new
+
+-- what `read` changes, by its answer
+abbrev pub Reads : Outside → ℕ → Got → Outside → Type 0
+Reads old id (Bytes n) new = new ≡ record old {
+  log = and_one old.log (Read id n);
+  to_come = with_bytes old.to_come id (option_map (λ bytes. drop n bytes) (old.to_come id));
+}
+Reads old id End new = new ≡ record old { log = and_one old.log (Read id 0) }
+Reads old id Unread new = ReadFault id old new
+
+-- after `close`: an id less
+abbrev pub closed : Outside → ℕ → Outside
+closed old id = record old {
+  open_ids = option_map (λ ids. filter (λ k. not (k == id)) ids) old.open_ids;
+  to_come = with_bytes old.to_come id None;
+}
+
+-- what `close` changes; it adds an act or none
+abbrev pub Closes : Outside → ℕ → Outside → Type 0
+Closes old id new = (new ≡ record (closed old id) { log = and_one old.log (Close id) }) ⊎ (new ≡ closed old id)
+
+-- the answers that `write` may give
+abbrev pub MayWrite : List ℕ → Put → Type 0
+MayWrite bytes (Took n) = (0 < n) × (n ≤ length bytes)
+MayWrite bytes Unwritten = Unit {0}
+
+-- a lane's bytes, and then these
+abbrev pub and_bytes : Option (List ℕ) → List ℕ → Option (List ℕ)
+and_bytes taken bytes = option_map (λ before. before ++ bytes) taken
+
+-- after a lane took n bytes, these
+abbrev pub wrote : Outside → Lane → ℕ → List ℕ → Outside
+wrote old Out n bytes = record old { log = and_one old.log (Write Out n); out = and_bytes old.out bytes }
+wrote old Note n bytes = record old { log = and_one old.log (Write Note n); note = and_bytes old.note bytes }
+
+-- a failing write: the lane's count
+abbrev pub LaneFault : Lane → Outside → Outside → Type 0
+LaneFault Out old new = OutFault old new
+LaneFault Note old new = NoteFault old new
+
+-- what `write` changes, by its answer
+abbrev pub Writes : Outside → Lane → List ℕ → Put → Outside → Type 0
+Writes old lane bytes (Took n) new = new ≡ wrote old lane n (take n bytes)
+Writes old lane bytes Unwritten new = LaneFault lane old new

@@ -1,0 +1,275 @@
+ghost use Rattle.std.specs.Prelude.{◌≡◌, ℕ, ◌+◌, ◌<◌, ◌≤◌, ◌∷◌, [], ◌++◌, length, take, drop, min, ◌==◌, true, false, IfOk, IfSome, IfNone, Some, None, position, bytes_eq, vec_len, vec_capacity, ◌↔◌, IsTrue, option_map};
+ghost use Rattle.stx_host.specs.Outside.{with_bytes, IsOpen, IsReadable, MayOpen, Opens, MayRead, Reads, Closes, MayWrite, Writes, place};
+ghost use Rattle.stx_host.specs.MemHost.{outside_of, rest_of, rest_of_id, Gives, Puts};
+ghost use Rattle.stx_host.specs.Table.{ids_of};
+
+use crate::act::{Act, Call, Doc, Fail, Got, Lane, Opened, Put};
+use crate::faults::{Faults, raised};
+use crate::host::Host;
+use crate::table::Table;
+use std::alloc::Global;
+use stx_base::{List, Memory, Text};
+
+/// How far an open document was read.
+#[derive(Clone, Copy, Debug)]
+pub(crate) struct Reading {
+    pub(crate) doc: usize,
+    pub(crate) at: usize,
+}
+
+/// How many calls of each kind there were, up to the last value of u64.
+#[derive(Clone, Copy, Debug)]
+pub(crate) struct Calls {
+    pub(crate) open: u64,
+    pub(crate) read_doc: u64,
+    pub(crate) read_main: u64,
+    pub(crate) write: u64,
+}
+
+/// A host in memory, which tells everything.
+///
+/// Room is kept in advance, so its calls take no memory. A call for which the room is too small
+/// fails, as one that `fails` lists does.
+#[derive(Debug, Drop)]
+pub struct MemHost {
+    /// The main document.
+    pub main: List<u8>,
+    /// The other documents; of two with one name the first counts.
+    pub docs: List<Doc>,
+    /// The largest length of each read of the main document in turn, where 0 counts as 1. After
+    /// its end the room's length counts.
+    pub cuts: List<u32>,
+    /// The calls that are to fail.
+    pub fails: List<Fail>,
+    pub log: Vec<Act>,
+    /// The bytes that `Lane::Out` took.
+    pub out: Vec<u8>,
+    /// The bytes that `Lane::Note` took.
+    pub note: Vec<u8>,
+    pub(crate) main_at: usize,
+    pub(crate) table: Table<Reading>,
+    pub(crate) calls: Calls,
+    pub(crate) faults: Faults,
+}
+
+impl MemHost {
+    /// A host with room for this many acts, as many open ids, and this many bytes in each lane.
+    pub fn new(
+        alloc: Global,
+        main: List<u8>,
+        docs: List<Doc>,
+        cuts: List<u32>,
+        fails: List<Fail>,
+        acts: usize,
+        bytes: usize,
+    ) -> Result<MemHost, Memory> {
+        Ok(MemHost {
+            main,
+            docs,
+            cuts,
+            fails,
+            log: Vec::with_capacity(alloc, acts)?,
+            out: Vec::with_capacity(alloc, bytes)?,
+            note: Vec::with_capacity(alloc, bytes)?,
+            main_at: 0,
+            table: Table::with_room(alloc, acts)?,
+            calls: Calls {
+                open: 0,
+                read_doc: 0,
+                read_main: 0,
+                write: 0,
+            },
+            faults: Faults::NONE,
+        })
+    }
+}
+
+/// Whether nothing more can be pushed without taking memory.
+fn is_full(log: &Vec<Act>) -> bool
+    ensures { IsTrue result ↔ (vec_capacity log.now ≤ vec_len log.now) }
+{
+    log.capacity() <= log.len()
+}
+
+/// Adds an act.
+fn add_act(log: &mut Vec<Act>, act: Act)
+    requires { vec_len log.old < vec_capacity log.old }
+    ensures { log.new.items ≡ log.old.items ++ act ∷ [] }
+{
+    let _ = log.push(act);
+}
+
+/// Where the first document of a name stands.
+fn find_doc(docs: &List<Doc>, name: &Text) -> Option<usize>
+    ensures { result ≡ place docs.now name.now }
+{
+    docs.as_slice().iter().position(|doc| doc.name.same(name))
+}
+
+/// Puts the next bytes into the room, at most so many, and says how many.
+fn give(bytes: &[u8], at: usize, most: usize, room: &mut [u8]) -> usize
+    ensures count { result ≡ min most (min (length room.old) (length (drop at bytes.now))) }
+    ensures given { take result room.new ≡ take result (drop at bytes.now) }
+    ensures len { length room.new ≡ length room.old }
+{
+    let rest = if at <= bytes.len() { &bytes[at..] } else { &[] };
+    let count = most.min(room.len().min(rest.len()));
+    room[..count].copy_from_slice(&rest[..count]);
+    count
+}
+
+/// Counts a call, and says whether it is one that is to fail.
+fn counted(calls: &mut u64, fails: &List<Fail>, call: Call) -> bool {
+    *calls = calls.saturating_add(1);
+    fails.as_slice().contains(&Fail { call, nth: *calls })
+}
+
+/// The largest length of the nth read of the main document, counted from 1.
+fn cut(cuts: &List<u32>, nth: u64, room: usize) -> usize
+    ensures { 0 < room → 0 < result }
+{
+    match cuts.get(nth.saturating_sub(1) as usize) {
+        Some(most) => (*most).max(1) as usize,
+        None => room,
+    }
+}
+
+/// Gives the next bytes of a document, as many as there are and as fit, and says how many.
+fn give_doc(docs: &List<Doc>, reading: &mut Reading, room: &mut [u8]) -> usize
+    ensures given { Gives (rest_of docs.now reading.old) result room.new }
+    ensures moved { reading.new ≡ record { doc = reading.old.doc; at = reading.old.at + result } }
+    ensures len { length room.new ≡ length room.old }
+{
+    let Some(doc) = docs.get(reading.doc) else {
+        return 0;
+    };
+    let count = give(doc.bytes.as_slice(), reading.at, room.len(), room);
+    reading.at += count;
+    count
+}
+
+/// The same for what is open under an id.
+fn give_open(docs: &List<Doc>, table: &mut Table<Reading>, id: u32, room: &mut [u8]) -> usize
+    ensures given { Gives (rest_of_id docs.now table.old.slots.items id) result room.new }
+    ensures moved { rest_of_id docs.now table.new.slots.items ≡ with_bytes (rest_of_id docs.now table.old.slots.items) id
+        (option_map (λ bytes. drop result bytes) (rest_of_id docs.now table.old.slots.items id)) }
+    ensures ids { ids_of table.new.slots.items ≡ ids_of table.old.slots.items }
+    ensures len { length room.new ≡ length room.old }
+{
+    let Some(at) = table.position(id) else {
+        return 0;
+    };
+    let slot = &mut table.slots[at];
+    give_doc(docs, &mut slot.held, room)
+}
+
+/// Writes all of the bytes to a lane, or fails.
+fn put(
+    listed: bool,
+    log: &mut Vec<Act>,
+    taken: &mut Vec<u8>,
+    faults: &mut u64,
+    lane: Lane,
+    bytes: &[u8],
+) -> Put
+    ensures { Puts log.old.items taken.old.items faults.old lane bytes.now result log.new.items taken.new.items faults.new }
+{
+    if listed || is_full(log) || taken.capacity() - taken.len() < bytes.len() {
+        *faults = raised(*faults);
+        return Put::Failed;
+    }
+    let _ = taken.extend_from_slice(bytes);
+    let len = bytes.len();
+    add_act(log, Act::Write { lane, len });
+    Put::Took(len)
+}
+
+impl MemHost {
+    fn read_main(&mut self, room: &mut [u8]) -> Got
+        requires { 0 < length room.old }
+        ensures answer { MayRead (outside_of self.old) 0 result room.new }
+        ensures change { Reads (outside_of self.old) 0 result (outside_of self.new) }
+    {
+        let listed = counted(&mut self.calls.read_main, &self.fails, Call::ReadMain);
+        if listed || is_full(&self.log) {
+            self.faults.main = raised(self.faults.main);
+            return Got::Failed;
+        }
+        let most = cut(&self.cuts, self.calls.read_main, room.len());
+        let count = give(self.main.as_slice(), self.main_at, most, room);
+        add_act(&mut self.log, Act::Read { id: 0, got: count });
+        if count == 0 {
+            return Got::End;
+        }
+        self.main_at += count;
+        Got::Bytes(count)
+    }
+}
+
+impl Host for MemHost {
+    ghost outside = { outside_of };
+
+    fn open(&mut self, name: &Text) -> Opened {
+        let listed = counted(&mut self.calls.open, &self.fails, Call::Open);
+        if listed || is_full(&self.log) {
+            self.faults.doc = raised(self.faults.doc);
+            return Opened::Failed;
+        }
+        let Some(doc) = find_doc(&self.docs, name) else {
+            add_act(&mut self.log, Act::Open { doc: None, id: 0 });
+            return Opened::Absent;
+        };
+        let Some(id) = self.table.take(Reading { doc, at: 0 }) else {
+            self.faults.doc = raised(self.faults.doc);
+            return Opened::Failed;
+        };
+        add_act(&mut self.log, Act::Open { doc: Some(doc), id });
+        Opened::Id(id)
+    }
+
+    fn read(&mut self, id: u32, room: &mut [u8]) -> Got {
+        if id == 0 {
+            return self.read_main(room);
+        }
+        let listed = counted(&mut self.calls.read_doc, &self.fails, Call::ReadDoc);
+        if listed || is_full(&self.log) {
+            self.faults.doc = raised(self.faults.doc);
+            return Got::Failed;
+        }
+        let count = give_open(&self.docs, &mut self.table, id, room);
+        add_act(&mut self.log, Act::Read { id, got: count });
+        if count == 0 {
+            return Got::End;
+        }
+        Got::Bytes(count)
+    }
+
+    fn close(&mut self, id: u32) {
+        self.table.remove(id);
+        if !is_full(&self.log) {
+            add_act(&mut self.log, Act::Close(id));
+        }
+    }
+
+    fn write(&mut self, lane: Lane, bytes: &[u8]) -> Put {
+        let listed = counted(&mut self.calls.write, &self.fails, Call::Write);
+        match lane {
+            Lane::Out => put(
+                listed,
+                &mut self.log,
+                &mut self.out,
+                &mut self.faults.out,
+                lane,
+                bytes,
+            ),
+            Lane::Note => put(
+                listed,
+                &mut self.log,
+                &mut self.note,
+                &mut self.faults.note,
+                lane,
+                bytes,
+            ),
+        }
+    }
+}
