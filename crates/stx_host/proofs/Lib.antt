@@ -1,2 +1,5 @@
+pub mod CopiedSoFar
+pub mod Counts
+pub mod Stretches
 pub mod Tables
 pub mod ToCome

@@ -1,3 +1,6 @@
+pub mod Before
+pub mod Copy
+pub mod Laws
 pub mod MemHost
 pub mod Outside
 pub mod RealHost

@@ -1,5 +1,5 @@
 -- What a host tells of the outside, and what its four calls do to that.
-use Rattle.std.specs.Prelude.{◌≡◌, ℕ, ◌-◌, ◌^◌, ◌<◌, ◌≤◌, Bool, false, not, ◌==◌, IsTrue, ◌⊎◌, List, [], ◌∷◌, ◌++◌, length, take, drop, filter, position, bytes_eq, slice_get, Option, None, IsSome, IfSome, option_map, if◌then◌else◌}
+use Rattle.std.specs.Prelude.{◌≡◌, ℕ, ◌-◌, ◌^◌, ◌<◌, ◌≤◌, Bool, false, not, ◌==◌, IsTrue, ◌⊎◌, List, [], ◌∷◌, ◌++◌, length, map, take, drop, filter, position, bytes_eq, slice_get, Option, None, IsSome, IfSome, option_map, if◌then◌else◌}
 use Rattle.std.specs.List.{list_any}
 use Rattle.std.specs.Option.{option_and_then}
 use Rattle.stx_host.specs.declared.act.Act.{Act}
@@ -53,9 +53,9 @@ pub record IsOpen (open_ids : Option (List ℕ)) (id : ℕ) : Type 0 where
 abbrev pub IsReadable : Option (List ℕ) → ℕ → Type 0
 IsReadable open_ids id = (id ≡ 0) ⊎ IsOpen open_ids id
 
--- a told list, and one more
-abbrev pub and_one : {X : Type 0} → Option (List X) → X → Option (List X)
-and_one told x = option_map (λ xs. xs ++ x ∷ []) told
+-- a told list, and these after it
+abbrev pub and_more : {X : Type 0} → Option (List X) → List X → Option (List X)
+and_more told more = option_map (λ so_far. so_far ++ more) told
 
 -- what is to come, but other bytes for one id
 abbrev pub with_bytes : (ℕ → Option (List ℕ)) → ℕ → Option (List ℕ) → ℕ → Option (List ℕ)
@@ -104,15 +104,15 @@ MayOpen old name Memory = Unit {0}
 -- after `Id`: an act more, an id more, and all bytes of the document to come
 abbrev pub opened : Outside → List ℕ → ℕ → Outside
 opened old name id = record old {
-  log = and_one old.log (Open (option_and_then (λ docs. place docs name) old.documents) id);
-  open_ids = and_one old.open_ids id;
+  log = and_more old.log (Open (option_and_then (λ docs. place docs name) old.documents) id ∷ []);
+  open_ids = and_more old.open_ids (id ∷ []);
   to_come = with_bytes old.to_come id (option_and_then (λ docs. document docs name) old.documents);
 }
 
 -- what `open` changes, by its answer
 abbrev pub Opens : Outside → List ℕ → Opened → Outside → Type 0
 Opens old name (Id id) new = new ≡ opened old name id
-Opens old name Absent new = new ≡ record old { log = and_one old.log (Open None 0) }
+Opens old name Absent new = new ≡ record old { log = and_more old.log (Open None 0 ∷ []) }
 Opens old name Failed new = DocFault old new
 Opens old name Memory new = new ≡ old
 
@@ -136,10 +136,10 @@ pub record ReadFault (id : ℕ) (old new : Outside) : Type 0 where
 -- what `read` changes, by its answer
 abbrev pub Reads : Outside → ℕ → Got → Outside → Type 0
 Reads old id (Bytes n) new = new ≡ record old {
-  log = and_one old.log (Read id n);
+  log = and_more old.log (Read id n ∷ []);
   to_come = with_bytes old.to_come id (option_map (λ bytes. drop n bytes) (old.to_come id));
 }
-Reads old id End new = new ≡ record old { log = and_one old.log (Read id 0) }
+Reads old id End new = new ≡ record old { log = and_more old.log (Read id 0 ∷ []) }
 Reads old id Unread new = ReadFault id old new
 
 -- after `close`: an id less
@@ -151,21 +151,21 @@ closed old id = record old {
 
 -- what `close` changes; it adds an act or none
 abbrev pub Closes : Outside → ℕ → Outside → Type 0
-Closes old id new = (new ≡ record (closed old id) { log = and_one old.log (Close id) }) ⊎ (new ≡ closed old id)
+Closes old id new = (new ≡ record (closed old id) { log = and_more old.log (Close id ∷ []) }) ⊎ (new ≡ closed old id)
 
 -- the answers that `write` may give
 abbrev pub MayWrite : List ℕ → Put → Type 0
 MayWrite bytes (Took n) = (0 < n) × (n ≤ length bytes)
 MayWrite bytes Unwritten = Unit {0}
 
--- a lane's bytes, and then these
-abbrev pub and_bytes : Option (List ℕ) → List ℕ → Option (List ℕ)
-and_bytes taken bytes = option_map (λ before. before ++ bytes) taken
+-- writes to a lane, of these lengths
+abbrev pub writes : Lane → List ℕ → List Act
+writes lane lens = map (λ len. Write lane len) lens
 
--- after a lane took n bytes, these
-abbrev pub wrote : Outside → Lane → ℕ → List ℕ → Outside
-wrote old Out n bytes = record old { log = and_one old.log (Write Out n); out = and_bytes old.out bytes }
-wrote old Note n bytes = record old { log = and_one old.log (Write Note n); note = and_bytes old.note bytes }
+-- after a lane took these bytes, in writes of these lengths
+abbrev pub wrote : Outside → Lane → List ℕ → List ℕ → Outside
+wrote old Out lens bytes = record old { log = and_more old.log (writes Out lens); out = and_more old.out bytes }
+wrote old Note lens bytes = record old { log = and_more old.log (writes Note lens); note = and_more old.note bytes }
 
 -- a failing write: the lane's count
 abbrev pub LaneFault : Lane → Outside → Outside → Type 0
@@ -174,5 +174,5 @@ LaneFault Note old new = NoteFault old new
 
 -- what `write` changes, by its answer
 abbrev pub Writes : Outside → Lane → List ℕ → Put → Outside → Type 0
-Writes old lane bytes (Took n) new = new ≡ wrote old lane n (take n bytes)
+Writes old lane bytes (Took n) new = new ≡ wrote old lane (n ∷ []) (take n bytes)
 Writes old lane bytes Unwritten new = LaneFault lane old new
