@@ -1,9 +1,7 @@
 -- Laws of the first place of a byte or a word.
-use Rattle.std.proofs.Common.{◌≡◌, ◌≢◌, ℕ, zero, suc, ◌+◌, ◌-◌, ◌<◌, ◌≤◌, Bool, true, false, ◌&&◌, ◌||◌, ◌==◌, nat_lt, List, [], ◌∷◌, ◌++◌, Option, Some, None, length, get_or, take, drop, refl, sym, ap, ◌∙◌, arith, ⊎_elim, cond, add-one, drop-cons, length-append, length-drop, add-zero}
+use Rattle.std.proofs.Common.{◌≡◌, ◌≢◌, ℕ, zero, suc, ◌+◌, ◌<◌, ◌≤◌, Bool, true, false, ◌&&◌, ◌==◌, List, [], ◌∷◌, ◌++◌, Option, Some, None, length, get_or, drop, refl, sym, ap, ◌∙◌, arith, ⊎_elim, cond, add-one, drop-cons, add-zero}
 use Rattle.std.proofs.lemmas.Bool.{cases_Bool, eqb-true, eq-eqb, ne_eqb, eqb-false}
-use Rattle.std.proofs.lemmas.List.{drop-append-le, get_or_append_left, append-nil, drop_all}
 use Rattle.std.specs.List.{starts_with}
-use lib.Pointwise.{pointwise}
 use Rattle.xml_tokens.specs.Places.{begins, is_part, first_byte, first_word, quote_after, is_outside, first_outside}
 
 pub eqb-sym : (a b : ℕ) → (a == b) ≡ (b == a)

@@ -1,25 +1,24 @@
 -- Laws of what comes next.
-use Rattle.std.proofs.Common.{◌≡◌, ◌≢◌, ◌⊎◌, ℕ, zero, suc, ◌+◌, ◌-◌, ◌<◌, ◌≤◌, Bool, true, false, not, ◌&&◌, ◌||◌, ◌==◌, nat_lt, List, [], ◌∷◌, ◌++◌, Option, Some, None, length, take, drop, refl, sym, ap, ◌∙◌, arith, ⊎_elim, cond, subst, length-drop, length-append, inl, inr, add_assoc, min}
-use Rattle.std.proofs.lemmas.List.{length-take, drop-drop, drop-append-le, append_assoc, take-append-le, take_all, append-nil}
-use Rattle.std.proofs.lemmas.Bool.{cases_Bool, cases_lt, ne_eqb, eqb-true, eq-eqb}
+use Rattle.std.proofs.Common.{◌≡◌, ℕ, ◌+◌, ◌-◌, ◌<◌, ◌≤◌, Bool, true, false, not, ◌&&◌, ◌||◌, ◌==◌, nat_lt, List, [], ◌++◌, Option, Some, None, length, take, drop, refl, sym, ap, ◌∙◌, arith, ⊎_elim, cond, subst, length-drop, inl, inr}
+use Rattle.std.proofs.lemmas.List.{length-take, drop-append-le, append_assoc, take-append-le, take_all, append-nil}
+use Rattle.std.proofs.lemmas.Bool.{cases_Bool, cases_lt, eqb-true, eq-eqb}
 use Rattle.std.proofs.lemmas.Bool.Decides.{nat_tests}
 use Rattle.stx_base.specs.declared.fault.XmlKind.TheVariants.{LexemeTooLong, Truncated, InputTooLong}
 use Rattle.std.specs.Prelude.{unwrap_or, IfSome}
 use Rattle.stx_base.specs.declared.limits.Limits.{Limits}
 use Rattle.xml_tokens.specs.Places.{begins, is_part}
-use Rattle.xml_tokens.specs.Shape.{form, shape_len}
+use Rattle.xml_tokens.specs.Shape.{shape_len}
 use Rattle.xml_tokens.specs.Reader.{Reader, bad, is_undecided_at, mark, mark_len, mark_len_of, seen, is_cut, is_last, is_open, coming, place, size, due, after, at_shape, at_rest, at_shape_or_rest, step_or_need, step_of, IsAnswer}
 use Rattle.xml_tokens.specs.Look.{reader, rest_ending, is_mark_open, GoesOn, begun_scan, IsDue, IsShapeDue}
 use Rattle.xml_tokens.specs.Resume.{Resumes, AlwaysResumes}
 use Rattle.xml_tokens.specs.declared.lexeme.Ending.{Ending}
 use Rattle.xml_tokens.specs.declared.lexeme.Ending.TheVariants as ending
 use Rattle.xml_tokens.specs.declared.lexeme.Lexeme.{Lexeme}
-use Rattle.xml_tokens.specs.declared.lexeme.Step.{Step}
 use Rattle.xml_tokens.specs.declared.lexeme.Step.TheVariants as step
 use Rattle.xml_tokens.specs.declared.lexer.Due.{Due}
 use Rattle.xml_tokens.specs.declared.lexer.Due.TheVariants as look
 use Rattle.xml_tokens.specs.declared.scan.Scan.{Scan}
-use Rattle.xml_tokens.proofs.PlaceLemmas.{begins-length, begins-more, is_part-more, is_part-length, is_part-short}
+use Rattle.xml_tokens.proofs.PlaceLemmas.{begins-length, begins-more, is_part-more, is_part-short}
 use Rattle.xml_tokens.proofs.ScanLemmas.{no_pass}
 use Rattle.std.proofs.Math.Seq.{take-append-add}
 

@@ -1,10 +1,9 @@
 -- Laws of searches that go on where they stopped.
-use Rattle.std.proofs.Common.{◌≡◌, ◌≢◌, ℕ, zero, suc, ◌+◌, ◌-◌, ◌<◌, ◌≤◌, Bool, true, false, ◌&&◌, ◌||◌, ◌==◌, List, [], ◌∷◌, ◌++◌, Option, Some, None, length, get_or, take, drop, refl, sym, ap, ◌∙◌, arith, ⊎_elim, cond, add-one, drop-cons, length-append, length-drop, max, subst, get_or-drop}
-use Rattle.std.proofs.lemmas.Bool.{cases_Bool, eqb-true, eq-eqb, ne_eqb, eqb-false}
+use Rattle.std.proofs.Common.{◌≡◌, ◌≢◌, ℕ, ◌+◌, ◌-◌, ◌<◌, ◌≤◌, Bool, true, false, ◌&&◌, ◌==◌, List, [], ◌++◌, Option, Some, None, length, get_or, take, drop, refl, sym, ap, ◌∙◌, arith, cond, drop-cons, length-append, length-drop, max, subst, get_or-drop}
+use Rattle.std.proofs.lemmas.Bool.{eq-eqb}
 use Rattle.std.proofs.lemmas.List.{drop-append-le, get_or_append_left, append-nil, drop_all, drop-drop, take_all}
-use Rattle.std.specs.Option.{option_map}
-use Rattle.memchr.specs.Find.{IsFirstByte, Passes, NoneBefore, is_byte}
-use Rattle.xml_tokens.specs.Places.{begins, is_part, first_byte, first_word, is_outside, quote_after, first_outside}
+use Rattle.memchr.specs.Find.{IsFirstByte}
+use Rattle.xml_tokens.specs.Places.{begins, first_byte, first_word, is_outside, quote_after, first_outside}
 use Rattle.xml_tokens.specs.Shape.{form, text_end, is_less, behind, shape_len, end_by}
 use Rattle.xml_tokens.specs.Resume.{Resumes, AlwaysResumes, IsFound, IsTextFound, IsWordFound, IsOutsideFound, end_from, ending_test}
 use Rattle.std.proofs.Math.Seq.{drop-append_seam}
@@ -14,7 +13,7 @@ use Rattle.xml_tokens.specs.declared.scan.Scan.{Scan}
 use Rattle.xml_tokens.specs.declared.scan.Found.{Found}
 use Rattle.xml_tokens.specs.declared.scan.Found.TheVariants.{Whole, Unended}
 use Rattle.xml_tokens.proofs.FormLemmas.{form-more}
-use Rattle.xml_tokens.proofs.PlaceLemmas.{first_byte-skip, first_byte-here, first_word-skip, first_word-here, first_word-short, begins-other, begins-longer, begins-more, is_part-more, begins-length, first_outside-step}
+use Rattle.xml_tokens.proofs.PlaceLemmas.{first_byte-skip, first_byte-here, first_word-skip, first_word-here, first_word-short, begins-other, begins-longer, first_outside-step}
 
 pub no_pass : (t : Bool) → (t ≡ true → ⊥) → t ≡ false
 no_pass true h = absurd (h refl)

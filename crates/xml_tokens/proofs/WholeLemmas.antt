@@ -1,7 +1,6 @@
 -- A whole shape is as long as its bytes at most.
-use Rattle.std.proofs.Common.{◌≡◌, ◌≢◌, ℕ, zero, suc, ◌+◌, ◌-◌, ◌<◌, ◌≤◌, Bool, true, false, ◌&&◌, List, [], ◌∷◌, ◌++◌, Option, Some, None, length, drop, refl, sym, ap, ◌∙◌, arith, cond, subst, length-drop, max}
+use Rattle.std.proofs.Common.{◌≡◌, ℕ, suc, ◌+◌, ◌<◌, ◌≤◌, Bool, true, false, ◌&&◌, List, [], ◌∷◌, Option, Some, None, length, drop, refl, sym, ap, ◌∙◌, arith, cond, subst, length-drop}
 use Rattle.std.specs.Prelude.{codes}
-use Rattle.std.specs.Option.{option_map}
 use Rattle.xml_tokens.specs.Places.{begins, first_byte, first_word, is_outside, quote_after, first_outside}
 use Rattle.xml_tokens.specs.Shape.{form, text_end, is_less, behind, shape_len, end_by, ends_tag, ends_declaration}
 use Rattle.xml_tokens.specs.declared.form.Form.{Form}

@@ -1,5 +1,5 @@
 -- What the lexer's fields mean.
-use Rattle.std.specs.Prelude.{◌≡◌, ℕ, ◌+◌, ◌≤◌, Bool, List, ◌++◌, length, drop}
+use Rattle.std.specs.Prelude.{◌≤◌, length, drop}
 use Rattle.xml_tokens.specs.Reader.{Reader}
 use Rattle.xml_tokens.specs.Look.{GoesOn}
 use Rattle.xml_tokens.specs.declared.lexer.Lexer.TheInside.{Inside}

@@ -1,8 +1,8 @@
 -- What a look at the unread bytes gives.
-use Rattle.std.specs.Prelude.{◌≡◌, ◌⊎◌, ℕ, ◌+◌, ◌-◌, ◌≤◌, Bool, false, not, ◌&&◌, ◌==◌, nat_lt, List, ◌++◌, Option, Some, None, length, take, if◌then◌else◌}
+use Rattle.std.specs.Prelude.{◌≡◌, ◌⊎◌, ℕ, ◌+◌, ◌≤◌, Bool, false, not, ◌&&◌, ◌==◌, nat_lt, List, Option, Some, None, length, if◌then◌else◌}
 use Rattle.stx_base.specs.declared.limits.Limits.{Limits}
 use Rattle.stx_base.specs.declared.fault.XmlKind.TheVariants.{LexemeTooLong, Truncated, InputTooLong}
-use Rattle.xml_tokens.specs.Reader.{Reader, mark, seen, coming, place, size, bad, due, at_shape, step_of}
+use Rattle.xml_tokens.specs.Reader.{Reader, mark, seen, coming, size, bad, due, at_shape, step_of}
 use Rattle.xml_tokens.specs.Resume.{AlwaysResumes}
 use Rattle.xml_tokens.specs.Places.{is_part}
 use Rattle.xml_tokens.specs.declared.lexeme.Ending.{Ending}

@@ -96,6 +96,7 @@ impl Lexer {
     pub fn next(&mut self) -> Step
         ensures answer { IsAnswer self.old result }
         ensures after { self.new ≡ after self.old result }
+        ensures ended { self.new.ended ≡ self.old.ended }
     {
         if let Some(ending) = self.over {
             return ending.step();

@@ -1,3 +1,5 @@
+ghost use Rattle.std.specs.Prelude.{◌≡◌};
+
 use crate::{Body, Lexer, Step};
 use std::alloc::Global;
 use std::fmt::Write;
@@ -21,7 +23,9 @@ fn told(alloc: Global, limits: Limits, pieces: &[&str]) -> Result<String, Fail> 
 }
 
 /// Whether the lexer is over.
-fn drain(lexer: &mut Lexer, out: &mut String) -> Result<bool, Fail> {
+fn drain(lexer: &mut Lexer, out: &mut String) -> Result<bool, Fail>
+    ensures { lexer.new.ended ≡ lexer.old.ended }
+{
     for _ in 0..100u32 {
         match lexer.next() {
             Step::Lexeme(lexeme) => {

@@ -1,11 +1,9 @@
-use Rattle.std.proofs.Common.{◌≡◌, sym, ◌∙◌, true, false, not, length, take, drop, ◌-◌, List, ℕ, subst, refl, Option}
-use Rattle.std.specs.Prelude.{IfOk, codes}
-use Rattle.std.specs.List.{list_all}
+use Rattle.std.proofs.Common.{◌≡◌, sym, ◌∙◌, length, drop, ◌-◌, subst, Option}
+use Rattle.std.specs.Prelude.{IfOk}
 use Rattle.std.specs.Str.{IsAscii}
 use Rattle.std.proofs.lemmas.Str.{IsAscii-take, IsAscii-drop}
 use Rattle.xml_tokens.specs.declared.lexeme.Body.{Body}
-use Rattle.xml_tokens.specs.Places.{begins}
-use Rattle.xml_tokens.specs.Plain.{judged, is_plain, tag, chars}
+use Rattle.xml_tokens.specs.Plain.{judged, tag, chars}
 use Rattle.xml_tokens.proofs.PlainLemmas.{plain-ascii, judged-tag, judged-chars}
 use Rattle.xml_tokens.proofs.judge.judge.Goals as goal
 

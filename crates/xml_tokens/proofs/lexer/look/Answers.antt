@@ -1,5 +1,5 @@
-use Rattle.std.proofs.Common.{◌≡◌, ℕ, sym, ap, ◌∙◌, arith, ◌≤◌, List, length, subst, drop, take, Option, Bool, cond, refl}
-use Rattle.xml_tokens.specs.Reader.{coming, place, seen, mark_len, mark_len_of, is_last, is_open, is_cut}
+use Rattle.std.proofs.Common.{◌≡◌, ap, ◌∙◌, drop}
+use Rattle.xml_tokens.specs.Reader.{coming, seen, mark_len, mark_len_of}
 use Rattle.xml_tokens.specs.Look.{reader}
 use Rattle.xml_tokens.proofs.WholeLemmas.{whole-within}
 use Rattle.xml_tokens.proofs.ReaderLemmas.{look-whole, look-over, look-need}

@@ -1,12 +1,10 @@
-use Rattle.std.proofs.Common.{◌≡◌, refl, length, sym, ℕ, ◌∙◌, arith, ◌≤◌, ◌≢◌, max, true, false, subst, List}
+use Rattle.std.proofs.Common.{refl, sym, arith, ◌≢◌, true, false, subst}
 use Rattle.std.specs.Prelude.{codes}
 use Rattle.xml_tokens.specs.Shape.{form}
 use Rattle.xml_tokens.specs.Resume.{IsWordFound}
-use Rattle.xml_tokens.specs.declared.form.Form.{Form}
 use Rattle.xml_tokens.specs.declared.form.Form.TheVariants.{Text, Comment, CData, Instruction, Declaration, Tag, Undecided}
-use Rattle.xml_tokens.specs.declared.scan.Scan.{Scan}
 use Rattle.xml_tokens.proofs.FormLemmas.{comment-length, cdata-length, instruction-length}
-use Rattle.xml_tokens.proofs.ScanLemmas.{within-now, found-text, found-word, found-outside, starts}
+use Rattle.xml_tokens.proofs.ScanLemmas.{within-now, found-text, found-word, found-outside}
 use Rattle.xml_tokens.proofs.scan.search.Goals as goal
 
 comment_decided : Comment ≢ Undecided

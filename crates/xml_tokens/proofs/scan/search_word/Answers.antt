@@ -1,5 +1,5 @@
-use Rattle.std.proofs.Common.{◌≡◌, refl, length, Some, None, subst, sym, List, ℕ, ◌+◌, ◌-◌, ◌∙◌, arith, get_or, drop, take, length-drop, ap, ◌<◌, ◌≤◌, ◌++◌}
-use Rattle.memchr.specs.Find.{is_byte, IsFirstByte}
+use Rattle.std.proofs.Common.{◌≡◌, length, Some, None, subst, sym, List, ℕ, ◌+◌, ◌∙◌, arith, get_or, drop, length-drop, ap, ◌<◌, ◌≤◌, ◌++◌}
+use Rattle.memchr.specs.Find.{is_byte}
 use Rattle.xml_tokens.specs.Places.{begins, first_word}
 use Rattle.xml_tokens.proofs.ScanLemmas.{tail-first, tail_is, word-pass, word-one, word-unended, word-found}
 use Rattle.xml_tokens.proofs.scan.search_word.Goals as goal

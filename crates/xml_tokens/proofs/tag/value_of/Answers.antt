@@ -1,4 +1,4 @@
-use Rattle.std.proofs.Common.{◌∙◌, ◌<◌, ℕ, arith, subst, sym, List}
+use Rattle.std.proofs.Common.{◌∙◌, ◌<◌, ℕ, arith, subst, sym}
 use Rattle.std.specs.Str.{IsAscii}
 use Rattle.std.proofs.lemmas.Str.Ascii.{IsAscii-map}
 use Rattle.std.proofs.lemmas.Bool.Decides.{nat_tests}

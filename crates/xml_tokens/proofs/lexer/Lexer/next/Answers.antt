@@ -1,6 +1,6 @@
-use Rattle.std.proofs.Common.{◌≡◌, ℕ, sym, ap, ◌∙◌, arith, ◌≤◌, length, drop, refl, subst, List, ◌++◌, ◌+◌, Option, Some}
+use Rattle.std.proofs.Common.{◌≡◌, sym, ap, ◌∙◌, drop, subst, ◌+◌, Some}
 use Rattle.std.proofs.lemmas.List.{drop-drop}
-use Rattle.xml_tokens.specs.Reader.{Reader, IsAnswer, after, step_of}
+use Rattle.xml_tokens.specs.Reader.{Reader, IsAnswer, after}
 use Rattle.xml_tokens.specs.Lexer.{reader_of}
 use Rattle.xml_tokens.specs.declared.lexeme.Lexeme.{Lexeme}
 use Rattle.xml_tokens.specs.declared.lexeme.Step.{Step}
