@@ -1,6 +1,7 @@
 //! Applies a sheet to the document on standard input: `stx SHEET < document`.
 #![tactic(auto)]
 
+use std::env::Env;
 use std::io::ErrorKind;
 use std::process::ExitCode;
 use std::{env, io};
@@ -15,7 +16,12 @@ const OUT_OF_MEMORY: u8 = 7;
 
 fn main(rt: HostRuntime) -> ExitCode {
     let status = match words(&rt) {
-        Ok(words) => transform(rt.alloc(), words.as_slice(), &mut RealHost::new(rt)),
+        Ok(words) => {
+            let alloc = rt.alloc();
+            let (input, out, note) = (rt.stdin(), rt.stdout(), rt.stderr());
+            let mut host = RealHost::new(alloc, rt, input, out, note);
+            transform(alloc, words.as_slice(), &mut host)
+        }
         Err(error) if error.kind() == ErrorKind::OutOfMemory => OUT_OF_MEMORY,
         Err(_) => NO_WORDS,
     };

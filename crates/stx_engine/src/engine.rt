@@ -1,6 +1,6 @@
 use crate::outcome::Outcome;
 use crate::pass::Pass;
-use crate::walk::{Stop, Walk};
+use crate::walk::Walk;
 use std::alloc::Global;
 use stx_base::{Limits, Memory, Text, XmlFault, XmlKind};
 use xml_tokens::{Lexer, Step};
@@ -30,6 +30,16 @@ pub enum Pumped {
     Stopped,
 }
 
+/// How far the document goes on.
+#[derive(Clone, Copy, Debug)]
+enum Reading {
+    /// More of it is wanted.
+    Wants,
+    /// It was read to its end.
+    Complete,
+    Faulty(XmlFault),
+}
+
 /// A run as a pure step over pieces of the main document.
 #[derive(Debug, Drop)]
 pub struct Engine {
@@ -52,67 +62,81 @@ impl Engine {
         }
     }
 
-    /// How the run ended; `Memory` where it didn't.
-    pub fn into_outcome(self) -> Outcome {
+    /// How the run ended.
+    pub fn into_outcome(self) -> Option<Outcome> {
         let Engine { outcome, .. } = self;
-        outcome.unwrap_or(Outcome::Memory)
+        outcome
     }
 
-    /// Takes a piece and appends to `out` all bytes that are settled.
+    /// Takes a piece and appends to `out` all bytes that are settled. Where memory is wanting nothing is appended.
     pub fn pump(&mut self, piece: Piece<'_>, out: &mut Vec<u8>) -> Pumped {
-        match self.advance(piece, out) {
-            Ok(Pumped::Done) => {
-                self.outcome = Some(Outcome::Done);
-                Pumped::Done
-            }
+        match self.step(piece, out) {
             Ok(pumped) => pumped,
-            Err(stop) => {
-                self.outcome = Some(stopped(self.alloc, stop));
+            Err(Memory) => {
+                self.outcome = Some(Outcome::Memory);
                 Pumped::Stopped
             }
         }
     }
 
-    fn advance(&mut self, piece: Piece<'_>, out: &mut Vec<u8>) -> Result<Pumped, Stop> {
+    fn step(&mut self, piece: Piece<'_>, out: &mut Vec<u8>) -> Result<Pumped, Memory> {
         match piece {
             Piece::Start => {
-                append(HEAD, out)?;
+                out.extend_from_slice(HEAD)?;
                 return Ok(Pumped::Main);
             }
-            Piece::Bytes(bytes) => self.lexer.feed(bytes)?,
+            Piece::Bytes(bytes) => {
+                self.lexer.feed(bytes)?;
+                self.handed = self.handed.saturating_add(bytes.len() as u64);
+            }
             Piece::End => self.lexer.finish(),
         }
-        self.drain(out)
+        match self.read_on()? {
+            Reading::Wants => {
+                self.walk.hand_out(out)?;
+                Ok(Pumped::Main)
+            }
+            Reading::Complete => {
+                self.walk.hand_out(out)?;
+                self.outcome = Some(Outcome::Done);
+                Ok(Pumped::Done)
+            }
+            Reading::Faulty(fault) => {
+                let file = Text::of(self.alloc, "-")?;
+                self.walk.hand_out(out)?;
+                self.outcome = Some(Outcome::Xml { file, fault });
+                Ok(Pumped::Stopped)
+            }
+        }
     }
 
     // Takes all lexemes that are complete.
-    fn drain(&mut self, out: &mut Vec<u8>) -> Result<Pumped, Stop> {
+    fn read_on(&mut self) -> Result<Reading, Memory> {
         loop {
             match self.lexer.next() {
-                Step::Lexeme(lexeme) => self.walk.take(lexeme, out)?,
-                Step::Need => return Ok(Pumped::Main),
-                Step::End => return self.at_end(),
-                Step::Bad(fault) => return Err(Stop::Fault(as_reported(fault))),
-                Step::Memory => return Err(Stop::Memory),
+                Step::Lexeme(lexeme) => {
+                    if let Some(fault) = self.walk.take(lexeme)? {
+                        return Ok(Reading::Faulty(fault));
+                    }
+                }
+                Step::Need => return Ok(Reading::Wants),
+                Step::End => return Ok(self.at_end()),
+                Step::Bad(fault) => return Ok(Reading::Faulty(as_reported(fault))),
+                Step::Memory => return Err(Memory),
             }
         }
     }
 
-    fn at_end(&self) -> Result<Pumped, Stop> {
+    fn at_end(&self) -> Reading {
         if self.walk.is_complete() {
-            Ok(Pumped::Done)
+            Reading::Complete
         } else {
-            Err(Stop::Fault(XmlFault {
+            Reading::Faulty(XmlFault {
                 kind: XmlKind::Truncated,
                 offset: self.handed,
-            }))
+            })
         }
     }
-}
-
-fn append(bytes: &[u8], out: &mut Vec<u8>) -> Result<(), Memory> {
-    out.extend_from_slice(bytes)?;
-    Ok(())
 }
 
 // A lexeme that is too long is reported as a form that isn't read yet.
@@ -123,15 +147,5 @@ fn as_reported(fault: XmlFault) -> XmlFault {
             offset: fault.offset,
         },
         _ => fault,
-    }
-}
-
-fn stopped(alloc: Global, stop: Stop) -> Outcome {
-    match stop {
-        Stop::Memory => Outcome::Memory,
-        Stop::Fault(fault) => match Text::of(alloc, "-") {
-            Ok(file) => Outcome::Xml { file, fault },
-            Err(Memory) => Outcome::Memory,
-        },
     }
 }

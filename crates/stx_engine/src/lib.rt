@@ -4,15 +4,16 @@
 
 mod attributes;
 mod copier;
+mod driver;
 mod engine;
 mod escape;
+pub mod law;
 mod line;
 mod outcome;
 mod pass;
 mod sheet;
-mod transform;
 mod walk;
 mod words;
 mod writer;
 
-pub use transform::transform;
+pub use driver::transform;

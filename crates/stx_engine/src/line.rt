@@ -1,20 +1,31 @@
+ghost use Rattle.std.specs.Prelude.{◌≡◌, IfOk, string_bytes};
+ghost use Rattle.stx_engine.specs.Line.{fault_line as fault_line_of, host_fault_name, line_of, sheet_code_name, xml_kind_name};
+
 use crate::outcome::{HostFault, Outcome};
 use std::alloc::Global;
 use stx_base::{Memory, SheetCode, XmlKind};
 
 /// What the program says of words that it refuses.
-const USAGE: &str = "stx: usage: stx SHEET [NAME=VALUE]... [--fuel N] [--lexeme N] [--instances N] [--check] [--sample N]\n";
+const USAGE: &str =
+    "stx: usage: stx SHEET [NAME=VALUE]... [--fuel N] [--lexeme N] [--instances N] [--check] [--sample N]\n";
 
 /// What the program says where memory was wanting.
 pub const OUT_OF_MEMORY: &str = "stx: out of memory\n";
 
 /// The fault line of an outcome, with its line feed; empty for a run that is done.
-pub fn line(alloc: Global, outcome: &Outcome) -> Result<String, Memory> {
+pub fn line(alloc: Global, outcome: &Outcome) -> Result<String, Memory>
+    ensures { IfOk result (λ line. string_bytes line ≡ line_of outcome.now) }
+{
     match outcome {
         Outcome::Done => Ok(String::new(alloc)),
         Outcome::Usage => copied(alloc, USAGE),
         Outcome::Sheet(fault) => {
-            fault_line(alloc, fault.file.as_str(), sheet_code(fault.code), fault.offset)
+            fault_line(
+                alloc,
+                fault.file.as_str(),
+                sheet_code(fault.code),
+                fault.offset,
+            )
         }
         Outcome::Xml { file, fault } => {
             fault_line(alloc, file.as_str(), xml_kind(fault.kind), fault.offset)
@@ -28,18 +39,24 @@ pub fn line(alloc: Global, outcome: &Outcome) -> Result<String, Memory> {
     }
 }
 
-fn copied(alloc: Global, text: &str) -> Result<String, Memory> {
+fn copied(alloc: Global, text: &str) -> Result<String, Memory>
+    ensures { IfOk result (λ line. string_bytes line ≡ text.now) }
+{
     let line = String::from_str(alloc, text)?;
     Ok(line)
 }
 
 // `stx: FILE: CODE at OFFSET` and a line feed.
-fn fault_line(alloc: Global, file: &str, code: &str, offset: u64) -> Result<String, Memory> {
+fn fault_line(alloc: Global, file: &str, code: &str, offset: u64) -> Result<String, Memory>
+    ensures { IfOk result (λ line. string_bytes line ≡ fault_line_of file.now code.now offset) }
+{
     let line = format!(in alloc; "stx: {file}: {code} at {offset}\n")?;
     Ok(line)
 }
 
-fn host_fault(fault: HostFault) -> &'static str {
+fn host_fault(fault: HostFault) -> &'static str
+    ensures { result.now ≡ host_fault_name fault }
+{
     match fault {
         HostFault::Doc => "Doc",
         HostFault::Read => "Read",
@@ -47,7 +64,9 @@ fn host_fault(fault: HostFault) -> &'static str {
     }
 }
 
-fn sheet_code(code: SheetCode) -> &'static str {
+fn sheet_code(code: SheetCode) -> &'static str
+    ensures { result.now ≡ sheet_code_name code }
+{
     match code {
         SheetCode::SheetTooLarge => "SheetTooLarge",
         SheetCode::BadXml => "BadXml",
@@ -71,7 +90,9 @@ fn sheet_code(code: SheetCode) -> &'static str {
     }
 }
 
-fn xml_kind(kind: XmlKind) -> &'static str {
+fn xml_kind(kind: XmlKind) -> &'static str
+    ensures { result.now ≡ xml_kind_name kind }
+{
     match kind {
         XmlKind::LexemeTooLong => "LexemeTooLong",
         XmlKind::BadUtf8 => "BadUtf8",

@@ -21,7 +21,10 @@ pub enum Outcome {
     /// The sheet is refused.
     Sheet(SheetFault),
     /// A document has a fault.
-    Xml { file: Text, fault: XmlFault },
+    Xml {
+        file: Text,
+        fault: XmlFault,
+    },
     /// The host failed after `offset` bytes.
     Host {
         file: Text,
@@ -33,8 +36,13 @@ pub enum Outcome {
 }
 
 impl Outcome {
+    ghost use Rattle.std.specs.Prelude.{◌≡◌};
+    ghost use Rattle.stx_engine.specs.Line.{status_of};
+
     /// The status that a program ends with.
-    pub fn status(&self) -> u8 {
+    pub fn status(&self) -> u8
+        ensures { result ≡ status_of self.now }
+    {
         match self {
             Outcome::Done => 0,
             Outcome::Usage => 2,

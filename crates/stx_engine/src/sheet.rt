@@ -1,3 +1,6 @@
+ghost use Rattle.std.specs.Prelude.{◌≡◌, ◌<◌, length, IsTrue};
+ghost use Rattle.stx_host.specs.Outside.{IsOpen};
+
 use crate::outcome::{HostFault, Outcome};
 use crate::pass::Pass;
 use std::alloc::Global;
@@ -7,10 +10,17 @@ use stx_host::{Got, Host, Opened};
 /// How many bytes a read asks for at most.
 pub const PIECE: usize = 4096;
 
-const NO_PASS: &[u8] = b"<stx:transform version=\"1.0\" xmlns:stx=\"http://stx.sourceforge.net/2002/ns\"></stx:transform>\n";
-const PASS_NONE: &[u8] = b"<stx:transform version=\"1.0\" xmlns:stx=\"http://stx.sourceforge.net/2002/ns\" pass-through=\"none\"></stx:transform>\n";
-const PASS_TEXT: &[u8] = b"<stx:transform version=\"1.0\" xmlns:stx=\"http://stx.sourceforge.net/2002/ns\" pass-through=\"text\"></stx:transform>\n";
-const PASS_ALL: &[u8] = b"<stx:transform version=\"1.0\" xmlns:stx=\"http://stx.sourceforge.net/2002/ns\" pass-through=\"all\"></stx:transform>\n";
+const NO_PASS: &[u8] =
+    b"<stx:transform version=\"1.0\" xmlns:stx=\"http://stx.sourceforge.net/2002/ns\"></stx:transform>\n";
+
+const PASS_NONE: &[u8] =
+    b"<stx:transform version=\"1.0\" xmlns:stx=\"http://stx.sourceforge.net/2002/ns\" pass-through=\"none\"></stx:transform>\n";
+
+const PASS_TEXT: &[u8] =
+    b"<stx:transform version=\"1.0\" xmlns:stx=\"http://stx.sourceforge.net/2002/ns\" pass-through=\"text\"></stx:transform>\n";
+
+const PASS_ALL: &[u8] =
+    b"<stx:transform version=\"1.0\" xmlns:stx=\"http://stx.sourceforge.net/2002/ns\" pass-through=\"all\"></stx:transform>\n";
 
 // `bytes` are `form`, which ends in a line feed, with or without that line feed.
 fn is_form(form: &[u8], bytes: &[u8]) -> bool {
@@ -31,7 +41,9 @@ fn pass_of(bytes: &[u8]) -> Option<Pass> {
 }
 
 /// Whether a sheet that this version runs begins with `bytes`.
-fn begins_sheet(bytes: &[u8]) -> bool {
+fn begins_sheet(bytes: &[u8]) -> bool
+    ensures short { IsTrue result → length bytes.now < 128 }
+{
     NO_PASS.starts_with(bytes)
         || PASS_NONE.starts_with(bytes)
         || PASS_TEXT.starts_with(bytes)
@@ -52,8 +64,11 @@ pub fn load_sheet<H: Host>(alloc: Global, host: &mut H, name: &Text) -> Result<P
     }
 }
 
-// Reads no further than it takes to decide.
-fn read_sheet<H: Host>(alloc: Global, host: &mut H, name: &Text, id: u32) -> Result<Pass, Outcome> {
+// Reads no further than it takes to decide. The id stays open.
+fn read_sheet<H: Host>(alloc: Global, host: &mut H, name: &Text, id: u32) -> Result<Pass, Outcome>
+    requires { IsOpen (H.outside host.old).open_ids id }
+    ensures { (H.outside host.new).open_ids ≡ (H.outside host.old).open_ids }
+{
     let mut bytes = Vec::new(alloc);
     let mut room = [0; PIECE];
     while begins_sheet(bytes.as_slice()) {

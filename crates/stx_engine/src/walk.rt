@@ -1,22 +1,9 @@
 use crate::attributes::has_duplicate;
 use crate::copier::Copier;
 use crate::pass::Pass;
-use std::alloc::{AllocError, Global};
+use std::alloc::Global;
 use stx_base::{Limits, List, Memory, Text, XmlFault, XmlKind};
 use xml_tokens::{Body, Lexeme, RawAttr};
-
-/// Why a document is read no further.
-#[derive(Clone, Copy, Debug)]
-pub enum Stop {
-    Fault(XmlFault),
-    Memory,
-}
-
-impl From<Memory> for Stop {
-    fn from(_error: Memory) -> Stop {
-        Stop::Memory
-    }
-}
 
 /// A start tag.
 #[derive(Debug, Drop)]
@@ -38,8 +25,8 @@ pub struct Walk {
     begun: List<Text>,
     // The innermost open element, where it isn't begun.
     held: Option<Tag>,
-    // A text that nothing followed yet.
-    run: Option<Text>,
+    // The text that nothing followed yet; empty where there is none.
+    run: Text,
 }
 
 impl Walk {
@@ -51,7 +38,7 @@ impl Walk {
             rooted: false,
             begun: List::new(alloc),
             held: None,
-            run: None,
+            run: Text::new(alloc),
         }
     }
 
@@ -60,16 +47,23 @@ impl Walk {
         self.rooted && !self.is_inside()
     }
 
-    /// Takes the next lexeme, and appends to `out` what it settles.
-    pub fn take(&mut self, lexeme: Lexeme, out: &mut Vec<u8>) -> Result<(), Stop> {
+    /// Takes the next lexeme, unless it has a fault: that is the answer, and nothing changes.
+    pub fn take(&mut self, lexeme: Lexeme) -> Result<Option<XmlFault>, Memory> {
         let Lexeme { offset, body } = lexeme;
-        match body {
-            Body::Chars { text, blank } => self.take_chars(offset, text, blank),
-            Body::Start { name, attrs, empty } => {
-                self.take_start(offset, Tag { name, attrs }, empty, out)
-            }
-            Body::End { name } => self.take_end(offset, &name, out),
+        if let Some(kind) = self.fault_of(&body)? {
+            return Ok(Some(XmlFault { kind, offset }));
         }
+        match body {
+            Body::Chars { text, .. } => self.take_chars(text)?,
+            Body::Start { name, attrs, empty } => self.take_start(Tag { name, attrs }, empty)?,
+            Body::End { name } => self.take_end(&name)?,
+        }
+        Ok(None)
+    }
+
+    /// Appends the bytes that are settled to `out`, which is unchanged after a refusal.
+    pub fn hand_out(&mut self, out: &mut Vec<u8>) -> Result<(), Memory> {
+        self.copier.hand_out(out)
     }
 
     // An element is open.
@@ -79,7 +73,8 @@ impl Walk {
 
     // As many elements are open as may be.
     fn is_full(&self) -> bool {
-        self.begun.len() + usize::from(self.held.is_some()) >= self.limits.depth as usize
+        let held = usize::from(self.held.is_some());
+        self.begun.len() >= (self.limits.depth as usize).saturating_sub(held)
     }
 
     // The innermost open element has this name.
@@ -93,66 +88,76 @@ impl Walk {
         }
     }
 
-    fn take_chars(&mut self, offset: u64, text: Text, blank: bool) -> Result<(), Stop> {
-        if !self.is_inside() {
-            return if blank { Ok(()) } else { not_built(offset) };
+    // The text, after the one that it follows directly, has more characters than a text may have. They are counted
+    // only where there are more bytes.
+    fn is_too_long(&self, text: &Text) -> bool {
+        let limit = self.limits.text;
+        let before = self.run.as_str();
+        let text = text.as_str();
+        (before.len() as u64).saturating_add(text.len() as u64) > limit
+            && (before.chars().count() as u64).saturating_add(text.chars().count() as u64) > limit
+    }
+
+    fn fault_of(&self, body: &Body) -> Result<Option<XmlKind>, Memory> {
+        let fault = match body {
+            Body::Chars { text, blank } => {
+                let is_refused = if self.is_inside() {
+                    self.is_too_long(text)
+                } else {
+                    !*blank
+                };
+                is_refused.then_some(XmlKind::NotBuilt)
+            }
+            Body::Start { attrs, .. } => {
+                let is_refused = self.is_complete()
+                    || self.is_full()
+                    || has_duplicate(self.alloc, attrs)?;
+                is_refused.then_some(XmlKind::NotBuilt)
+            }
+            Body::End { name } => (!self.is_innermost(name)).then_some(XmlKind::Mismatch),
+        };
+        Ok(fault)
+    }
+
+    fn take_chars(&mut self, text: Text) -> Result<(), Memory> {
+        if self.is_inside() {
+            if self.run.is_empty() {
+                self.run = text;
+            } else {
+                self.run.push_str(text.as_str())?;
+            }
         }
-        if is_longer(&text, self.limits.text) {
-            return not_built(offset);
-        }
-        self.run = Some(text);
         Ok(())
     }
 
-    fn take_start(&mut self, offset: u64, tag: Tag, empty: bool, out: &mut Vec<u8>) -> Result<(), Stop> {
-        let is_second_root = self.is_complete();
-        if is_second_root || self.is_full() || has_duplicate(self.alloc, &tag.attrs)? {
-            return not_built(offset);
-        }
-        self.settle(out)?;
+    fn take_start(&mut self, tag: Tag, empty: bool) -> Result<(), Memory> {
+        self.settle()?;
         self.rooted = true;
         if empty {
-            self.copier.start(tag.name.as_str(), &tag.attrs, out)?;
-            self.copier.end(tag.name.as_str(), out)?;
+            self.copier.start(&tag.name, &tag.attrs)?;
+            self.copier.end(&tag.name)?;
         } else {
             self.held = Some(tag);
         }
         Ok(())
     }
 
-    fn take_end(&mut self, offset: u64, name: &Text, out: &mut Vec<u8>) -> Result<(), Stop> {
-        if !self.is_innermost(name) {
-            return fault(XmlKind::Mismatch, offset);
-        }
-        self.settle(out)?;
+    fn take_end(&mut self, name: &Text) -> Result<(), Memory> {
+        self.settle()?;
         let _ = self.begun.pop();
-        self.copier.end(name.as_str(), out)?;
-        Ok(())
+        self.copier.end(name)
     }
 
     // Something follows in the innermost open list: its element is ready, and a text before it is a node.
-    fn settle(&mut self, out: &mut Vec<u8>) -> Result<(), Memory> {
+    fn settle(&mut self) -> Result<(), Memory> {
         if let Some(Tag { name, attrs }) = self.held.take() {
-            self.copier.start(name.as_str(), &attrs, out)?;
+            self.copier.start(&name, &attrs)?;
             self.begun.push(name)?;
         }
-        if let Some(text) = self.run.take() {
-            self.copier.chars(text.as_str(), out)?;
+        if !self.run.is_empty() {
+            self.copier.chars(&self.run)?;
+            self.run = Text::new(self.alloc);
         }
         Ok(())
     }
-}
-
-// More than `limit` characters. They are counted only where there are more bytes.
-fn is_longer(text: &Text, limit: u64) -> bool {
-    let text = text.as_str();
-    text.len() as u64 > limit && text.chars().count() as u64 > limit
-}
-
-fn fault(kind: XmlKind, offset: u64) -> Result<(), Stop> {
-    Err(Stop::Fault(XmlFault { kind, offset }))
-}
-
-fn not_built(offset: u64) -> Result<(), Stop> {
-    fault(XmlKind::NotBuilt, offset)
 }

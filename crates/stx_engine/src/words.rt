@@ -1,5 +1,5 @@
-use stx_base::{Memory, Text};
 use std::alloc::Global;
+use stx_base::{Memory, Text};
 
 /// Why words are refused.
 pub enum WordsFault {

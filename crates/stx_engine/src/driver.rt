@@ -57,7 +57,7 @@ fn drive<H: Host>(alloc: Global, engine: Engine, host: &mut H) -> Outcome {
         }
         settled.clear();
         if pumped != Pumped::Main {
-            return engine.into_outcome();
+            return engine.into_outcome().unwrap_or(Outcome::Memory);
         }
         pumped = match host.read(0, &mut room) {
             Got::Bytes(got) => {
@@ -83,6 +83,7 @@ fn failure(alloc: Global, fault: HostFault, offset: u64) -> Outcome {
 }
 
 // A write failed.
+#[derive(Clone, Copy, Debug)]
 struct Refused;
 
 // Writes on until all bytes are taken, and counts them.

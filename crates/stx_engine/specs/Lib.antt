@@ -1,0 +1,9 @@
+pub mod Document
+pub mod Escape
+pub mod Line
+pub mod Meaning
+pub mod Result
+pub mod Sheets
+pub mod Tag
+pub mod Tree
+pub mod More

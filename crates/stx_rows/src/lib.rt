@@ -1,0 +1,7 @@
+//! The worked rows of the language, over `transform` and a host in memory: tests alone.
+#![tactic(auto)]
+
+#[cfg(test)]
+mod first_path;
+#[cfg(test)]
+mod row;

@@ -1,0 +1,6 @@
+pub mod FormLemmas
+pub mod PlaceLemmas
+pub mod ScanLemmas
+pub mod PlainLemmas
+pub mod ReaderLemmas
+pub mod WholeLemmas

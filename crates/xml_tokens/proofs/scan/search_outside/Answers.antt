@@ -1,0 +1,17 @@
+use Rattle.std.proofs.Common.{◌≡◌, refl, length, sym, ◌∙◌, arith}
+use Rattle.xml_tokens.specs.Resume.{ending_test}
+use Rattle.xml_tokens.proofs.ScanLemmas.{outside-found, outside-none, outside-more}
+use Rattle.xml_tokens.proofs.scan.search_outside.Goals as goal
+
+pub returns-then-ends : goal.returns-then-ends
+returns-then-ends c =
+    outside-found (ending_test c.args.bracket) c.args.scan.quote c.loop-i.quote c.args.scan.searched c.loop-i.i c.args.bytes.now c.loop-i.invariant.same
+    c.loop-i-test.true (sym c.is_outside.ensures ∙ c.if-is_outside.true) (sym c.ends.ensures ∙ c.if-ends.true)
+
+pub returns : goal.returns
+returns c =
+    let e : c.loop-i.i ≡ length c.args.bytes.now = omega arith in (
+      outside-none (ending_test c.args.bracket) c.args.scan.quote c.loop-i.quote c.args.scan.searched c.loop-i.i c.args.bytes.now c.loop-i.invariant.same (omega arith),
+      refl,
+      outside-more (ending_test c.args.bracket) c.args.scan.quote c.loop-i.quote c.args.scan.searched c.loop-i.i c.args.bytes.now c.loop-i.invariant.same e,
+    )

@@ -1,0 +1,7 @@
+pub mod Places
+pub mod Shape
+pub mod Plain
+pub mod Reader
+pub mod Resume
+pub mod Look
+pub mod Lexer

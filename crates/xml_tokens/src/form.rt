@@ -1,0 +1,51 @@
+ghost use Rattle.std.specs.Prelude.{◌≡◌};
+ghost use Rattle.xml_tokens.specs.Places as places;
+ghost use Rattle.xml_tokens.specs.Shape.{form};
+
+/// What kind of shape the bytes begin, by their first bytes alone.
+#[derive(Clone, Copy, Debug, PartialEq, Eq)]
+pub enum Form {
+    Text,
+    Comment,
+    CData,
+    Instruction,
+    /// Other markup that begins with `<!`.
+    Declaration,
+    Tag,
+    /// More bytes decide between a comment or a CDATA section and other markup.
+    Undecided,
+}
+
+pub fn form_of(bytes: &[u8]) -> Form
+    ensures { result ≡ form bytes.now }
+{
+    if is_part(bytes, b"<!--") || is_part(bytes, b"<![CDATA[") {
+        Form::Undecided
+    } else if begins(bytes, b"<!--") {
+        Form::Comment
+    } else if begins(bytes, b"<![CDATA[") {
+        Form::CData
+    } else if begins(bytes, b"<?") {
+        Form::Instruction
+    } else if begins(bytes, b"<!") {
+        Form::Declaration
+    } else if begins(bytes, b"<") {
+        Form::Tag
+    } else {
+        Form::Text
+    }
+}
+
+/// Whether the bytes begin with the word.
+pub fn begins(bytes: &[u8], word: &[u8]) -> bool
+    ensures { result ≡ places.begins bytes.now word.now }
+{
+    bytes.starts_with(word)
+}
+
+/// Whether the word goes on after the bytes.
+pub fn is_part(bytes: &[u8], word: &[u8]) -> bool
+    ensures { result ≡ places.is_part bytes.now word.now }
+{
+    bytes.len() < word.len() && word.starts_with(bytes)
+}

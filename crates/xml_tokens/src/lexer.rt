@@ -1,0 +1,273 @@
+ghost use Rattle.std.specs.Prelude.{◌≡◌, ◌+◌, ◌++◌, ◌≤◌, ◌<◌, ◌^◌, false, true, not, ◌&&◌, if◌then◌else◌, length, take, drop, vec_len, OnOk, OnErr};
+ghost use Rattle.xml_tokens.specs.Reader as spec;
+ghost use Rattle.xml_tokens.specs.Reader.{after, begun, mark_len_of, is_undecided_at, IsAnswer};
+ghost use Rattle.xml_tokens.specs.Look.{begun_scan, reader, rest_ending, GoesOn, IsDue, IsShapeDue};
+
+use crate::form::{Form, begins, form_of, is_part};
+use crate::judge::judge;
+use crate::lexeme::{Body, Ending, Lexeme, Step};
+use crate::scan::{Found, Scan, search};
+use std::alloc::Global;
+use std::marker::Model;
+use stx_base::{Limits, Memory, XmlFault, XmlKind};
+
+/// Cuts a document that comes in pieces into lexemes.
+#[derive(Debug, Drop)]
+pub struct Lexer {
+    alloc: Global,
+    limits: Limits,
+    buffer: Vec<u8>,
+    /// Where the unread bytes begin in the buffer.
+    start: usize,
+    /// Where they begin in the document.
+    offset: u64,
+    ended: bool,
+    scan: Scan,
+    over: Option<Ending>,
+}
+
+impl Model for Lexer {
+    ghost use Rattle.xml_tokens.specs.Reader.{Reader};
+
+    ghost Value = { Reader };
+
+    ghost use Rattle.xml_tokens.specs.Lexer.{reader_of, IsSound};
+
+    ghost view = { reader_of };
+
+    ghost invariant = { IsSound };
+}
+
+/// What the unread bytes give.
+enum Due {
+    /// A lexeme, its place, and how many bytes it takes.
+    Lexeme(Body, u64, usize),
+    Wait(Scan),
+    Over(Ending),
+}
+
+impl Lexer {
+    /// A lexer of a document that begins. Allocates nothing.
+    pub fn new(alloc: Global, limits: Limits) -> Lexer
+        ensures { result ≡ begun limits }
+    {
+        Lexer {
+            alloc,
+            limits,
+            buffer: Vec::new(alloc),
+            start: 0,
+            offset: 0,
+            ended: false,
+            scan: Scan::START,
+            over: None,
+        }
+    }
+
+    /// Takes the document's next bytes. After a refusal nothing has changed.
+    pub fn feed(&mut self, piece: &[u8]) -> Result<(), Memory>
+        requires { self.old.ended ≡ false }
+        ensures ok { OnOk result (self.new ≡ record self.old { unread = self.old.unread ++ piece.now }) }
+        ensures err { OnErr result (self.new ≡ self.old) }
+    {
+        self.drop_read();
+        self.buffer.extend_from_slice(piece)?;
+        Ok(())
+    }
+
+    /// Lets the bytes that were read go, if they are at least half of the buffer: so that each byte is moved once on
+    /// the average.
+    fn drop_read(&mut self)
+        ensures { self.new ≡ self.old }
+    {
+        if self.start >= self.buffer.len() - self.start {
+            drop_front(&mut self.buffer, self.start);
+            self.start = 0;
+        }
+    }
+
+    /// Says that the document ends here.
+    pub fn finish(&mut self)
+        ensures { self.new ≡ record self.old { ended = true } }
+    {
+        self.ended = true;
+    }
+
+    /// The next lexeme, or why there is none. An answer other than a lexeme and `Need` is repeated from then on.
+    pub fn next(&mut self) -> Step
+        ensures answer { IsAnswer self.old result }
+        ensures after { self.new ≡ after self.old result }
+        ensures ended { self.new.ended ≡ self.old.ended }
+    {
+        if let Some(ending) = self.over {
+            return ending.step();
+        }
+        let due = look(
+            self.alloc,
+            &self.limits,
+            tail(&self.buffer, self.start),
+            self.offset,
+            self.ended,
+            self.scan,
+        );
+        match due {
+            Due::Lexeme(body, offset, size) => {
+                self.start += size;
+                self.offset += size as u64;
+                self.scan = Scan::START;
+                Step::Lexeme(Lexeme { offset, body })
+            }
+            Due::Wait(scan) => {
+                self.scan = scan;
+                Step::Need
+            }
+            Due::Over(ending) => {
+                self.over = Some(ending);
+                ending.step()
+            }
+        }
+    }
+}
+
+fn drop_front(buffer: &mut Vec<u8>, len: usize)
+    requires { len ≤ vec_len buffer.old }
+    ensures { buffer.new.items ≡ drop len buffer.old.items }
+{
+    let rest = buffer.len() - len;
+    buffer.copy_within(len.., 0);
+    buffer.truncate(rest);
+}
+
+/// What the unread bytes give, where the search for the first lexeme's end has come as far as `scan` says.
+fn look(alloc: Global, limits: &Limits, unread: &[u8], offset: u64, ended: bool, scan: Scan) -> Due
+    requires offset { offset ≤ limits.now.input }
+    requires scan { GoesOn scan (reader limits.now unread.now offset ended) }
+    ensures { IsDue (reader limits.now unread.now offset ended) result }
+{
+    let room = limits.input - offset;
+    let cut = room < unread.len() as u64;
+    let seen = front(unread, room);
+    let mark = mark_len(offset, seen);
+    let bytes = tail(seen, mark);
+    let at = offset + mark as u64;
+    let last = is_last(ended, cut);
+    match search(bytes, last, scan) {
+        Found::Whole(len) => at_shape(alloc, limits, head(bytes, len), at, mark),
+        Found::Unended(scan) => {
+            let undecided = is_open(last, at, bytes);
+            match at_rest(limits, bytes.len(), at, undecided, cut, ended) {
+                Some(ending) => Due::Over(ending),
+                None => Due::Wait(next_scan(undecided, scan)),
+            }
+        }
+    }
+}
+
+/// What a whole shape behind a byte order mark of `mark` bytes gives.
+fn at_shape(alloc: Global, limits: &Limits, bytes: &[u8], at: u64, mark: usize) -> Due
+    requires { mark + length bytes.now < 2 ^ 64 }
+    ensures { IsShapeDue limits.now bytes.now at mark result }
+{
+    if bytes.len() as u64 > limits.lexeme {
+        return Due::Over(bad(XmlKind::LexemeTooLong, at));
+    }
+    match judge(alloc, bytes) {
+        Ok(Some(body)) => Due::Lexeme(body, at, mark + bytes.len()),
+        Ok(None) => Due::Over(bad(XmlKind::NotBuilt, at)),
+        Err(Memory) => Due::Over(Ending::Memory),
+    }
+}
+
+/// What `len` bytes of a lexeme that isn't whole give; `None` where more bytes must come.
+fn at_rest(
+    limits: &Limits,
+    len: usize,
+    at: u64,
+    undecided: bool,
+    cut: bool,
+    ended: bool,
+) -> Option<Ending>
+    requires { at + len < 2 ^ 64 }
+    ensures { result ≡ rest_ending limits.now len at undecided cut ended }
+{
+    if !undecided && len as u64 > limits.lexeme {
+        Some(bad(XmlKind::LexemeTooLong, at))
+    } else if cut {
+        Some(bad(XmlKind::InputTooLong, limits.input))
+    } else if !ended {
+        None
+    } else if len == 0 {
+        Some(Ending::End)
+    } else {
+        Some(bad(XmlKind::Truncated, at + len as u64))
+    }
+}
+
+fn bad(kind: XmlKind, offset: u64) -> Ending
+    ensures { result ≡ Ending.Bad (record { kind = kind; offset = offset }) }
+{
+    Ending::Bad(XmlFault { kind, offset })
+}
+
+/// The bytes that are within the limit on the input.
+fn front(bytes: &[u8], room: u64) -> &[u8]
+    ensures { result.now ≡ take room bytes.now }
+{
+    if bytes.len() as u64 <= room {
+        bytes
+    } else {
+        head(bytes, room as usize)
+    }
+}
+
+fn head(bytes: &[u8], len: usize) -> &[u8]
+    requires { len ≤ length bytes.now }
+    ensures { result.now ≡ take len bytes.now }
+{
+    &bytes[..len]
+}
+
+fn tail(bytes: &[u8], from: usize) -> &[u8]
+    requires { from ≤ length bytes.now }
+    ensures { result.now ≡ drop from bytes.now }
+{
+    &bytes[from..]
+}
+
+/// How many bytes a byte order mark takes.
+fn mark_len(offset: u64, bytes: &[u8]) -> usize
+    ensures value { result ≡ mark_len_of offset bytes.now }
+    ensures within { result ≤ length bytes.now }
+{
+    if offset == 0 && begins(bytes, b"\xEF\xBB\xBF") {
+        3
+    } else {
+        0
+    }
+}
+
+/// Whether more bytes decide what these begin.
+fn is_open(last: bool, at: u64, bytes: &[u8]) -> bool
+    ensures { result ≡ (not last && is_undecided_at at bytes.now) }
+{
+    !last && (is_undecided(form_of(bytes)) || at == 0 && is_part(bytes, b"\xEF\xBB\xBF"))
+}
+
+/// Whether no bytes follow those that are seen.
+fn is_last(ended: bool, cut: bool) -> bool
+    ensures { result ≡ (ended && not cut) }
+{
+    ended && !cut
+}
+
+/// What is undecided is looked at anew.
+fn next_scan(undecided: bool, scan: Scan) -> Scan
+    ensures { result ≡ (if undecided then begun_scan else scan) }
+{
+    if undecided { Scan::START } else { scan }
+}
+
+fn is_undecided(form: Form) -> bool
+    ensures { result ≡ spec.is_undecided form }
+{
+    matches!(form, Form::Undecided)
+}

@@ -1,0 +1,14 @@
+//! Bytes to lexemes (XML 1.0, 2 and 3.1), in whatever pieces the bytes come.
+#![tactic(auto)]
+
+mod form;
+mod judge;
+mod lexeme;
+mod lexer;
+mod scan;
+mod tag;
+#[cfg(test)]
+mod tests;
+
+pub use lexeme::{Body, Ending, Lexeme, RawAttr, Step};
+pub use lexer::Lexer;
