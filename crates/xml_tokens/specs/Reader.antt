@@ -1,5 +1,5 @@
 -- What the lexer has before it, and what it answers.
-use Rattle.std.specs.Prelude.{◌≡◌, ℕ, ◌+◌, ◌-◌, Bool, true, false, not, ◌&&◌, ◌||◌, ◌==◌, nat_lt, List, [], ◌∷◌, Option, Some, None, length, take, drop, unwrap_or, IfSome, if◌then◌else◌}
+use Rattle.std.specs.Prelude.{◌≡◌, ◌<◌, ℕ, ◌+◌, ◌-◌, Bool, true, false, not, ◌&&◌, ◌||◌, ◌==◌, nat_lt, List, [], ◌∷◌, Option, Some, None, length, take, drop, unwrap_or, IfSome, if◌then◌else◌}
 use Rattle.xml_tokens.specs.Places.{begins, is_part}
 use Rattle.xml_tokens.specs.Shape.{form, shape_len}
 use Rattle.xml_tokens.specs.Plain.{judged}
@@ -136,3 +136,13 @@ after r step.Memory = record r { over = Some ending.Memory }
 abbrev pub IsAnswer : Reader → Step → Type 0
 IsAnswer r step.Memory = IfSome r.over (λ over. over ≡ ending.Memory)
 IsAnswer r answer = answer ≡ due r
+
+-- a lexeme takes bytes
+abbrev pub Shrinks : Reader → Step → Reader → Type 0
+Shrinks old (step.Lexeme lexeme) new = length new.unread < length old.unread
+Shrinks old answer new = Unit {0}
+
+-- more bytes are wanted only of a document that may go on within the limit
+abbrev pub MayWant : Reader → Step → Type 0
+MayWant r step.Need = (r.ended ≡ false) × (is_cut r ≡ false)
+MayWant r answer = Unit {0}
