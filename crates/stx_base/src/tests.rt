@@ -131,6 +131,7 @@ fn names_without_colon(rt: HostRuntime) {
     ] {
         assert_eq!(rt; is_ncname(text), wanted, "{text}");
     }
+    assert!(rt; is_name("a:b") && is_name(":") && !is_name("-a") && !is_name(""));
 }
 
 fn expanded(alloc: Global) -> Result<Name, Memory> {
