@@ -27,6 +27,10 @@ is_name_start = is_among (
 abbrev pub is_name_char : ℕ → Bool
 is_name_char c = is_name_start c || is_among ((0x2D, 0x2E) ∷ (0x30, 0x39) ∷ (0xB7, 0xB7) ∷ (0x300, 0x36F) ∷ (0x203F, 0x2040) ∷ []) c
 
+-- Name: a NameStartChar and then NameChars (XML 1.0, 2.3)
+abbrev pub is_name : List ℕ → Bool
+is_name cs = option_map_or is_name_start (slice_get cs 0) false && list_all is_name_char cs
+
 -- a NameChar other than a colon
 abbrev pub is_ncname_char : ℕ → Bool
 is_ncname_char c = is_name_char c && not (c == 0x3A)

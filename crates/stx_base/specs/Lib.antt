@@ -1,5 +1,6 @@
 pub mod Character
 pub mod Course
+pub mod CourseLaws
 pub mod Refinement
 pub mod StandardLimits
 pub mod Termination

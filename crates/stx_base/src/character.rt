@@ -56,6 +56,13 @@ pub fn is_name_char(c: char) -> bool
         )
 }
 
+/// Whether `text` is a Name (XML 1.0, 2.3).
+pub fn is_name(text: &str) -> bool
+    ensures { result ≡ class.is_name (chars text.now) }
+{
+    begins_as_name(text) && holds_name_chars(text)
+}
+
 /// Whether `text` is an NCName: a Name without colon (Namespaces in XML 1.0, 3).
 pub fn is_ncname(text: &str) -> bool
     ensures { result ≡ class.is_ncname (chars text.now) }
@@ -70,6 +77,12 @@ fn begins_as_name(text: &str) -> bool
         None => false,
         Some(first) => is_name_start(first),
     }
+}
+
+fn holds_name_chars(text: &str) -> bool
+    ensures { result ≡ list_all class.is_name_char (chars text.now) }
+{
+    text.chars().all(|c| is_name_char(c))
 }
 
 fn holds_ncname_chars(text: &str) -> bool

@@ -131,6 +131,7 @@ fn names_without_colon(rt: HostRuntime) {
     ] {
         assert_eq!(rt; is_ncname(text), wanted, "{text}");
     }
+    assert!(rt; is_name("a:b") && is_name(":") && !is_name("-a") && !is_name(""));
 }
 
 fn expanded(alloc: Global) -> Result<Name, Memory> {
@@ -232,7 +233,12 @@ fn copies_of_node_tests(rt: HostRuntime) -> Result<(), Fail> {
     copies(&rt, alloc, NodeTest::AnyElement)?;
     copies(&rt, alloc, NodeTest::AnyNode)?;
     copies(&rt, alloc, NodeTest::Chars)?;
-    copies(&rt, alloc, NodeTest::Comment)?;
+    copies(&rt, alloc, NodeTest::Comment)
+}
+
+#[test]
+fn copies_of_other_node_tests(rt: HostRuntime) -> Result<(), Fail> {
+    let alloc = rt.alloc();
     copies(&rt, alloc, NodeTest::AnyPi)?;
     copies(&rt, alloc, NodeTest::Pi(Text::of(alloc, "t")?))?;
     copies(&rt, alloc, NodeTest::AttrName(expanded(alloc)?))?;
@@ -249,7 +255,7 @@ enum Tree {
 }
 
 #[test]
-fn texts_lists_and_trees(rt: HostRuntime) -> Result<(), Fail> {
+fn texts(rt: HostRuntime) -> Result<(), Fail> {
     let alloc = rt.alloc();
     let mut text = Text::new(alloc);
     assert!(rt; text.is_empty());
@@ -258,16 +264,26 @@ fn texts_lists_and_trees(rt: HostRuntime) -> Result<(), Fail> {
     assert_eq!(rt; text.as_str(), "étage");
     assert!(rt; text.same(&Text::from_string(String::from_str(alloc, "étage")?)));
     assert_eq!(rt; text.copy(alloc)?.into_string().as_str(), "étage");
+    Ok(())
+}
 
+#[test]
+fn trees(rt: HostRuntime) -> Result<(), Fail> {
+    let alloc = rt.alloc();
     let mut list = List::new(alloc);
-    list.push(Tree::Leaf(text))?;
+    list.push(Tree::Leaf(Text::of(alloc, "étage")?))?;
     list.push(Tree::Branch(List::new(alloc)))?;
     assert_eq!(rt; list.len(), 2);
     assert!(rt; matches!(list.get(1), Some(Tree::Branch(_))));
     let twin = Tree::Twin(Boxed::new(alloc, Tree::Branch(list))?);
     let shown = format!(in alloc; "{twin:?}")?;
     assert!(rt; shown.as_str().contains("étage"), "{shown:?}");
+    Ok(())
+}
 
+#[test]
+fn lists(rt: HostRuntime) -> Result<(), Fail> {
+    let alloc = rt.alloc();
     let mut numbers = List::from_vec(vec![in alloc; 1, 2, 3]?);
     assert_eq!(rt; numbers.len(), 3);
     numbers.set(1, 7);
