@@ -1,7 +1,10 @@
+pub mod Answer
 pub mod Document
 pub mod Escape
+pub mod Lexed
 pub mod Line
 pub mod Meaning
+pub mod Passed
 pub mod Result
 pub mod Sheets
 pub mod Tag

@@ -1,11 +1,12 @@
 //! Laws of the definitions, as contracts.
 
-ghost use Rattle.std.specs.Prelude.{◌≡◌, ◌↔◌, ◌++◌, List, ℕ};
+ghost use Rattle.std.specs.Prelude.{◌≡◌, ◌↔◌, ◌++◌, List, ℕ, map};
 ghost use Rattle.stx_base.specs.Course.{Ends, Over};
 ghost use Rattle.stx_base.specs.declared.part.Part.{Part};
 ghost use Rattle.stx_engine.specs.declared.pass.Pass.{Pass};
 ghost use Rattle.stx_engine.specs.Tree.{Forest};
-ghost use Rattle.stx_engine.specs.Meaning.{Said, Ending, code, meaning, outcome};
+ghost use Rattle.stx_engine.specs.Meaning.{Said, Put, Ending, code, meaning, outcome};
+ghost use Rattle.stx_engine.specs.Passed.{passed, ending_of};
 ghost use Rattle.stx_engine.specs.Result.{text};
 ghost use Rattle.stx_engine.specs.Document.{Reading, tree_of};
 
@@ -19,4 +20,9 @@ pub fn one_meaning()
 /// The text of parts begins the text of these parts and more.
 pub fn text_grows()
     ensures { (ps qs : List Part) → (more : List ℕ) × (text ps ++ more ≡ text (ps ++ qs)) }
+{}
+
+/// A run puts, node after node, what each puts, up to the first that isn't ready.
+pub fn run_by_nodes()
+    ensures { (pass : Pass) (tree : Forest) → outcome pass tree ≡ Over (map Put (passed pass tree).parts) (ending_of (passed pass tree).stop) }
 {}
