@@ -5,3 +5,4 @@ pub mod Starting
 pub mod Results
 pub mod Passing
 pub mod Prefixes
+pub mod Settling

@@ -1,6 +1,7 @@
 -- What the program answers: words, documents and a main document in, and what it writes, its status and the names that it
 -- opens out. Nothing here knows in which pieces the bytes come.
 use Rattle.std.specs.Prelude.{ℕ, Bool, true, false, ◌==◌, if◌then◌else◌, List, [], ◌∷◌, ◌++◌, length, Option, Some, None, codes}
+use Rattle.std.specs.Option.{option_and_then}
 use Rattle.stx_base.specs.Course.{Answer as Came, Given, Over, Unknown}
 use Rattle.stx_base.specs.StandardLimits.{standard_limits}
 use Rattle.stx_base.specs.declared.fault.SheetCode.{SheetCode}
@@ -85,6 +86,10 @@ abbrev pub sheet_named : (words : List (List ℕ)) → Option (List ℕ)
 sheet_named [] = None
 sheet_named (word ∷ []) = if is_option word then None else Some word
 sheet_named (word ∷ other ∷ others) = None
+
+-- the pass-through that is asked for, where the words and the sheet are accepted
+abbrev pub asked : (words : List (List ℕ)) → List Doc → Option Pass
+asked words docs = option_and_then pass_of (option_and_then (document docs) (sheet_named words))
 
 -- a sheet is refused at its beginning
 abbrev pub refused : (name : List ℕ) → SheetCode → Answer

@@ -1,5 +1,4 @@
 use Rattle.stx_engine.proofs.Passing.{outcome-passed}
-use Rattle.stx_engine.proofs.Prefixes.{passed-within}
 use Rattle.stx_engine.proofs.law.run_by_nodes.Goals as goal
 
 pub returns : goal.returns
