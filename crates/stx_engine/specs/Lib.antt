@@ -1,4 +1,5 @@
 pub mod Document
+pub mod Engine
 pub mod Escape
 pub mod Line
 pub mod Meaning
