@@ -50,6 +50,7 @@ text_after-start held name attrs ps = by_held held where
       ∙ append_assoc (once_settled ps (codes "<" ++ encode_utf8_all name)) (once_settled ps (flat_map attribute attrs)) (text_from true ps)
       ∙ ap (λ l. once_settled ps (codes "<" ++ encode_utf8_all name) ++ l) (sym (text_from-attributes attrs ps))
       ∙ ap (λ l. l ++ text_from true (parts_of attrs ++ ps)) (sym (once_settled-attributes attrs ps (codes "<" ++ encode_utf8_all name)))
+
   by_held : (h : List ℕ) → settled h ++ text_after (open_tag (encode_utf8_all name) attrs) ps ≡ text_after h (start_parts pass.All (element_of name attrs) ++ ps)
   by_held [] = after_name
   by_held (b ∷ bs) =

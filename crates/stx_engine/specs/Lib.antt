@@ -1,5 +1,6 @@
 pub mod Answer
 pub mod Document
+pub mod Engine
 pub mod Escape
 pub mod Lexed
 pub mod Line

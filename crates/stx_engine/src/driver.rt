@@ -1,3 +1,6 @@
+ghost use Rattle.std.specs.Prelude.{◌≤◌, ◌^◌};
+ghost use Rattle.stx_engine.specs.Engine.{GoesOn};
+
 use crate::engine::{Engine, Piece, Pumped};
 use crate::line::{OUT_OF_MEMORY, line};
 use crate::outcome::{HostFault, Outcome};
@@ -44,7 +47,10 @@ fn run<H: Host>(alloc: Global, words: &[String], host: &mut H) -> Outcome {
 }
 
 // Reads the main document, hands it to the engine, and writes what is settled before each read.
-fn drive<H: Host>(alloc: Global, engine: Engine, host: &mut H) -> Outcome {
+fn drive<H: Host>(alloc: Global, engine: Engine, host: &mut H) -> Outcome
+    requires goes_on { GoesOn engine.lexer }
+    requires input { engine.lexer.limits.input ≤ 2 ^ 50 }
+{
     let mut engine = engine;
     let mut settled = Vec::new(alloc);
     let mut room = [0; PIECE];

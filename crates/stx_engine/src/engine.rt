@@ -1,3 +1,9 @@
+ghost use Rattle.std.specs.Prelude.{◌≡◌, Ok};
+ghost use Rattle.xml_tokens.specs.Reader.{begun, fed};
+ghost use Rattle.stx_engine.specs.Engine.{Expects, GoesOn, Wants};
+ghost use Rattle.stx_engine.specs.declared.engine.Pumped.TheVariants as pumped;
+ghost use Rattle.stx_engine.specs.declared.engine.Reading.TheVariants as reading;
+
 use crate::outcome::Outcome;
 use crate::pass::Pass;
 use crate::walk::Walk;
@@ -46,18 +52,17 @@ pub struct Engine {
     alloc: Global,
     lexer: Lexer,
     walk: Walk,
-    // Bytes of the main document that were handed in.
-    handed: u64,
     outcome: Option<Outcome>,
 }
 
 impl Engine {
-    pub fn new(alloc: Global, pass: Pass, limits: Limits) -> Engine {
+    pub fn new(alloc: Global, pass: Pass, limits: Limits) -> Engine
+        ensures { result.lexer ≡ begun limits }
+    {
         Engine {
             alloc,
             lexer: Lexer::new(alloc, limits),
             walk: Walk::new(alloc, limits, pass),
-            handed: 0,
             outcome: None,
         }
     }
@@ -69,7 +74,10 @@ impl Engine {
     }
 
     /// Takes a piece and appends to `out` all bytes that are settled. Where memory is wanting nothing is appended.
-    pub fn pump(&mut self, piece: Piece<'_>, out: &mut Vec<u8>) -> Pumped {
+    pub fn pump(&mut self, piece: Piece<'_>, out: &mut Vec<u8>) -> Pumped
+        requires { Expects self.old.lexer piece }
+        ensures wants { result ≡ pumped.Main → Wants piece.entry self.old.lexer self.new.lexer }
+    {
         match self.step(piece, out) {
             Ok(pumped) => pumped,
             Err(Memory) => {
@@ -79,18 +87,33 @@ impl Engine {
         }
     }
 
-    fn step(&mut self, piece: Piece<'_>, out: &mut Vec<u8>) -> Result<Pumped, Memory> {
+    fn step(&mut self, piece: Piece<'_>, out: &mut Vec<u8>) -> Result<Pumped, Memory>
+        requires { Expects self.old.lexer piece }
+        ensures wants { result ≡ Ok pumped.Main → Wants piece.entry self.old.lexer self.new.lexer }
+    {
         match piece {
             Piece::Start => {
                 out.extend_from_slice(HEAD)?;
-                return Ok(Pumped::Main);
+                Ok(Pumped::Main)
             }
             Piece::Bytes(bytes) => {
                 self.lexer.feed(bytes)?;
-                self.handed = self.handed.saturating_add(bytes.len() as u64);
+                self.go_on(out)
             }
-            Piece::End => self.lexer.finish(),
+            Piece::End => {
+                self.lexer.finish();
+                self.go_on(out)
+            }
         }
+    }
+
+    // Takes what was handed in, and appends all bytes that are settled.
+    fn go_on(&mut self, out: &mut Vec<u8>) -> Result<Pumped, Memory>
+        ensures wants { result ≡ Ok pumped.Main → GoesOn self.new.lexer }
+        ensures ended { self.new.lexer.ended ≡ self.old.lexer.ended }
+        ensures fed { fed self.new.lexer ≡ fed self.old.lexer }
+        ensures limits { self.new.lexer.limits ≡ self.old.lexer.limits }
+    {
         match self.read_on()? {
             Reading::Wants => {
                 self.walk.hand_out(out)?;
@@ -111,7 +134,12 @@ impl Engine {
     }
 
     // Takes all lexemes that are complete.
-    fn read_on(&mut self) -> Result<Reading, Memory> {
+    fn read_on(&mut self) -> Result<Reading, Memory>
+        ensures wants { result ≡ Ok reading.Wants → GoesOn self.new.lexer }
+        ensures ended { self.new.lexer.ended ≡ self.old.lexer.ended }
+        ensures fed { fed self.new.lexer ≡ fed self.old.lexer }
+        ensures limits { self.new.lexer.limits ≡ self.old.lexer.limits }
+    {
         loop {
             match self.lexer.next() {
                 Step::Lexeme(lexeme) => {
@@ -127,13 +155,15 @@ impl Engine {
         }
     }
 
-    fn at_end(&self) -> Reading {
+    fn at_end(&self) -> Reading
+        ensures { result ≡ reading.Wants → ⊥ }
+    {
         if self.walk.is_complete() {
             Reading::Complete
         } else {
             Reading::Faulty(XmlFault {
                 kind: XmlKind::Truncated,
-                offset: self.handed,
+                offset: self.lexer.offset(),
             })
         }
     }

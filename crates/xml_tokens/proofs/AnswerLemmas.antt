@@ -1,10 +1,10 @@
 -- What an answer tells of the bytes before it.
-use Rattle.std.proofs.Common.{◌≡◌, ℕ, ◌+◌, ◌-◌, ◌<◌, ◌≤◌, Bool, true, false, not, ◌&&◌, ◌==◌, nat_lt, List, Option, Some, None, length, take, drop, refl, sym, ap, ◌∙◌, arith, length-drop, if◌then◌else◌}
+use Rattle.std.proofs.Common.{◌≡◌, ℕ, ◌+◌, ◌-◌, ◌<◌, ◌≤◌, Bool, true, false, not, ◌&&◌, ◌==◌, nat_lt, List, Option, Some, None, length, take, drop, refl, sym, ap, ◌∙◌, arith, length-drop, if◌then◌else◌, ltb-false}
 use Rattle.std.specs.Prelude.{unwrap_or}
 use Rattle.std.proofs.lemmas.Bool.Decides.{nat_tests}
 use Rattle.xml_tokens.specs.Shape.{shape_len}
 use Rattle.xml_tokens.specs.Plain.{judged}
-use Rattle.xml_tokens.specs.Reader.{Reader, mark_len, seen, is_cut, is_last, is_open, coming, place, size, due, after, at_shape, at_rest, at_shape_or_rest, lexeme_or_fault, step_or_need, repeated_or, step_of, bad, IsAnswer, Shrinks, MayWant}
+use Rattle.xml_tokens.specs.Reader.{Reader, mark_len, seen, is_cut, is_last, is_open, coming, place, size, due, after, at_shape, at_rest, at_shape_or_rest, lexeme_or_fault, step_or_need, repeated_or, step_of, bad, IsAnswer, Shrinks, MayWant, fed}
 use Rattle.stx_base.specs.declared.limits.Limits.{Limits}
 use Rattle.stx_base.specs.declared.fault.XmlKind.TheVariants.{LexemeTooLong, Truncated, InputTooLong}
 use Rattle.xml_tokens.specs.declared.lexeme.Body.{Body}
@@ -41,14 +41,20 @@ shape_of r l e = by_over r.over refl where
   by_over (Some over) h = absurd (no_lexeme over l (e ∙ ap (λ o. repeated_or o (at_shape_or_rest r (shape_len (is_last r) (coming r)))) h))
   by_over None h = by_shape (shape_len (is_last r) (coming r)) refl (e ∙ ap (λ o. repeated_or o (at_shape_or_rest r (shape_len (is_last r) (coming r)))) h)
 
+-- a lexeme's bytes lie among the unread ones
+size-within : (r : Reader) (l : Lexeme) → step.Lexeme l ≡ due r → (1 ≤ size r) × (size r ≤ length r.unread)
+size-within r l e =
+    let s = shape_of r l e in
+    let w = whole-within (is_last r) (coming r) s.0 s.1 in
+    let n : unwrap_or (shape_len (is_last r) (coming r)) 0 ≡ s.0 = ap (λ o. unwrap_or o 0) s.1 in
+    (omega (arith, w.0, n), omega (arith, w.1, n, length-coming r, (seen-within r).0))
+
 -- a lexeme takes bytes
 pub lexeme-shrinks : (r : Reader) (l : Lexeme) → step.Lexeme l ≡ due r → length (after r (step.Lexeme l)).unread < length r.unread
 unfolding after
 lexeme-shrinks r l e =
-    let s = shape_of r l e in
-    let w = whole-within (is_last r) (coming r) s.0 s.1 in
-    let n : unwrap_or (shape_len (is_last r) (coming r)) 0 ≡ s.0 = ap (λ o. unwrap_or o 0) s.1 in
-    omega (arith, w.0, w.1, n, length-coming r, (seen-within r).0, length-drop (size r) r.unread)
+    let s = size-within r l e in
+    omega (arith, s.0, s.1, length-drop (size r) r.unread)
 
 module _ (r : Reader) where
   -- why nothing comes any more, by the tests that decide it
@@ -101,9 +107,31 @@ answer-shrinks r step.End h = tt
 answer-shrinks r (step.Bad fault) h = tt
 answer-shrinks r step.Memory h = tt
 
-pub answer-MayWant : (r : Reader) (s : Step) → IsAnswer r s → MayWant r s
-answer-MayWant r step.Need h = due-need r h
-answer-MayWant r (step.Lexeme l) h = tt
-answer-MayWant r step.End h = tt
-answer-MayWant r (step.Bad fault) h = tt
-answer-MayWant r step.Memory h = tt
+pub answer-MayWant : (r : Reader) (s : Step) → r.offset ≤ r.limits.input → IsAnswer r s → MayWant r s
+answer-MayWant r step.Need w h =
+    let e = due-need r h in
+    (e.0, omega (arith, w, ltb-false (r.limits.input - r.offset) (length r.unread) e.1))
+answer-MayWant r (step.Lexeme l) w h = tt
+answer-MayWant r step.End w h = tt
+answer-MayWant r (step.Bad fault) w h = tt
+answer-MayWant r step.Memory w h = tt
+
+-- no answer changes how many bytes were fed
+pub answer-fed : (r : Reader) (s : Step) → IsAnswer r s → fed (after r s) ≡ fed r
+unfolding after
+answer-fed r (step.Lexeme l) h =
+    let s = size-within r l h in
+    omega (arith, s.1, length-drop (size r) r.unread)
+answer-fed r step.Need h = refl
+answer-fed r step.End h = refl
+answer-fed r (step.Bad fault) h = refl
+answer-fed r step.Memory h = refl
+
+-- nor the limits
+pub after-limits : (r : Reader) (s : Step) → (after r s).limits ≡ r.limits
+unfolding after
+after-limits r (step.Lexeme l) = refl
+after-limits r step.Need = refl
+after-limits r step.End = refl
+after-limits r (step.Bad fault) = refl
+after-limits r step.Memory = refl

@@ -1,5 +1,5 @@
 -- What the lexer has before it, and what it answers.
-use Rattle.std.specs.Prelude.{◌≡◌, ◌<◌, ℕ, ◌+◌, ◌-◌, Bool, true, false, not, ◌&&◌, ◌||◌, ◌==◌, nat_lt, List, [], ◌∷◌, Option, Some, None, length, take, drop, unwrap_or, IfSome, if◌then◌else◌}
+use Rattle.std.specs.Prelude.{◌≡◌, ◌<◌, ◌≤◌, ℕ, ◌+◌, ◌-◌, Bool, true, false, not, ◌&&◌, ◌||◌, ◌==◌, nat_lt, List, [], ◌∷◌, Option, Some, None, length, take, drop, unwrap_or, IfSome, if◌then◌else◌}
 use Rattle.xml_tokens.specs.Places.{begins, is_part}
 use Rattle.xml_tokens.specs.Shape.{form, shape_len}
 use Rattle.xml_tokens.specs.Plain.{judged}
@@ -26,6 +26,10 @@ pub record Reader : Type 0 where
 -- a document that begins
 abbrev pub begun : Limits → Reader
 begun limits = record { limits = limits; unread = []; offset = 0; ended = false; over = None }
+
+-- how many bytes of the document were fed
+abbrev pub fed : Reader → ℕ
+fed r = r.offset + length r.unread
 
 -- EF BB BF (XML 1.0, 4.3.3 and appendix F)
 abbrev pub mark : List ℕ
@@ -144,5 +148,5 @@ Shrinks old answer new = Unit {0}
 
 -- more bytes are wanted only of a document that may go on within the limit
 abbrev pub MayWant : Reader → Step → Type 0
-MayWant r step.Need = (r.ended ≡ false) × (is_cut r ≡ false)
+MayWant r step.Need = (r.ended ≡ false) × (fed r ≤ r.limits.input)
 MayWant r answer = Unit {0}

@@ -1,6 +1,6 @@
 ghost use Rattle.std.specs.Prelude.{◌≡◌, ◌+◌, ◌++◌, ◌≤◌, ◌<◌, ◌^◌, false, true, not, ◌&&◌, if◌then◌else◌, length, take, drop, vec_len, OnOk, OnErr};
 ghost use Rattle.xml_tokens.specs.Reader as spec;
-ghost use Rattle.xml_tokens.specs.Reader.{after, begun, mark_len_of, is_undecided_at, IsAnswer, MayWant, Shrinks};
+ghost use Rattle.xml_tokens.specs.Reader.{after, begun, fed, mark_len_of, is_undecided_at, IsAnswer, MayWant, Shrinks};
 ghost use Rattle.xml_tokens.specs.Look.{begun_scan, reader, rest_ending, GoesOn, IsDue, IsShapeDue};
 
 use crate::form::{Form, begins, form_of, is_part};
@@ -92,6 +92,13 @@ impl Lexer {
         self.ended = true;
     }
 
+    /// Where the unread bytes begin in the document, and once the document is used up, its length.
+    pub fn offset(&self) -> u64
+        ensures { result ≡ self.now.offset }
+    {
+        self.offset
+    }
+
     /// The next lexeme, or why there is none. An answer other than a lexeme and `Need` is repeated from then on.
     pub fn next(&mut self) -> Step
         ensures answer { IsAnswer self.old result }
@@ -99,11 +106,14 @@ impl Lexer {
         ensures ended { self.new.ended ≡ self.old.ended }
         ensures shrinks { Shrinks self.old result self.new }
         ensures wants { MayWant self.old result }
+        ensures fed { fed self.new ≡ fed self.old }
+        ensures limits { self.new.limits ≡ self.old.limits }
     {
         self.advance()
     }
 
     fn advance(&mut self) -> Step
+        ensures within { self.old.offset ≤ self.old.limits.input }
         ensures answer { IsAnswer self.old result }
         ensures after { self.new ≡ after self.old result }
         ensures ended { self.new.ended ≡ self.old.ended }
