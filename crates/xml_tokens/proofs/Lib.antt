@@ -4,3 +4,4 @@ pub mod ScanLemmas
 pub mod PlainLemmas
 pub mod ReaderLemmas
 pub mod WholeLemmas
+pub mod RunLemmas
