@@ -6,3 +6,4 @@ pub mod Results
 pub mod Passing
 pub mod Prefixes
 pub mod Settling
+pub mod Planting
