@@ -7,3 +7,4 @@ pub mod Passing
 pub mod Prefixes
 pub mod Settling
 pub mod Planting
+pub mod Rereading
