@@ -8,3 +8,4 @@ pub mod Prefixes
 pub mod Settling
 pub mod Planting
 pub mod Rereading
+pub mod Ending
