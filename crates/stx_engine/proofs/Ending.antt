@@ -79,7 +79,7 @@ lexed-over limits bytes =
 
 -- A whole document needs no more.
 
-why_first : (b : Before) (x : Body) (r : Reading) → (with_first b x r).why ≡ r.why
+pub why_first : (b : Before) (x : Body) (r : Reading) → (with_first b x r).why ≡ r.why
 why_first b (body.Chars text blank) r = by_place (is_inside b.names) where
   by_place : (t : Bool) → (cond t (record r { bodies = body.Chars text blank ∷ r.bodies }) r).why ≡ r.why
   by_place true = refl

@@ -9,3 +9,4 @@ pub mod Settling
 pub mod Planting
 pub mod Rereading
 pub mod Ending
+pub mod Faults

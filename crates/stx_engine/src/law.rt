@@ -11,6 +11,7 @@ ghost use Rattle.stx_engine.specs.Tree.{Need, Forest};
 ghost use Rattle.stx_engine.specs.Answer.{run_on, result_of, settled, answer, asked};
 ghost use Rattle.stx_engine.specs.Meaning.{Said, Put, Ending, Complete, Unready, code, meaning, outcome};
 ghost use Rattle.stx_engine.specs.Passed.{passed, ending_of};
+ghost use Rattle.stx_engine.specs.Laws.{FirstFault, NoFault};
 ghost use Rattle.stx_engine.specs.Result.{text};
 ghost use Rattle.stx_engine.specs.Document.{Reading, tree_of};
 
@@ -47,4 +48,10 @@ pub fn documents_end()
     ensures whole { (limits : Limits) (pass : Pass) (bytes : List ℕ) → (run_on limits pass bytes true).ending ≢ Unready Need }
     // A run on a document's first bytes is not done.
     ensures beginning { (limits : Limits) (pass : Pass) (bytes : List ℕ) → (run_on limits pass bytes false).ending ≢ Complete }
+{}
+
+/// Why a document goes no further.
+pub fn first_fault()
+    ensures fault { FirstFault }
+    ensures none { NoFault }
 {}

@@ -4,9 +4,10 @@ use crate::row::{HEAD, SHEET, list};
 use crate::table::{PASS_ALL, REFUSALS, ROWS};
 use std::alloc::Global;
 use std::test::Fail;
-use stx_base::{Limits, Memory, Text};
+use stx_base::{Limits, Memory, Text, XmlFault, XmlKind};
 use stx_engine::Pass;
-use stx_engine::plain::answer::{Answer, answer_to, settled};
+use stx_engine::plain::answer::{Answer, answer_to, run_on, settled};
+use stx_engine::plain::tree::Why;
 use stx_host::Doc;
 
 fn answer_of(
@@ -76,6 +77,31 @@ fn settled_bytes(rt: HostRuntime) -> Result<(), Fail> {
         let found = settled(rt.alloc(), Limits::standard(), Pass::All, bytes.as_bytes())?;
         let out = format!(in rt.alloc(); "{HEAD}{content}")?;
         assert_eq!(rt; found.as_slice(), out.as_bytes(), "settled by {bytes}");
+    }
+    Ok(())
+}
+
+// A limit is reached where the count would become the limit plus one: of open elements, and of a text's characters.
+#[test]
+fn limits(rt: HostRuntime) -> Result<(), Fail> {
+    let limits = Limits {
+        depth: 2,
+        text: 3,
+        ..Limits::standard()
+    };
+    let rows: [(&str, Option<u64>); 6] = [
+        ("<a><b></b></a>", None),
+        ("<a><b><c/></b></a>", Some(6)),
+        ("<a><b/><b/></a>", None),
+        ("<a>abc</a>", None),
+        ("<a>abcd</a>", Some(3)),
+        ("<a>abc<b/>abc</a>", None),
+    ];
+    for (main, at) in rows {
+        let run = run_on(rt.alloc(), limits, Pass::All, main.as_bytes(), true)?;
+        let kind = XmlKind::NotBuilt;
+        let wanted = at.map(|offset| Why::Bad(XmlFault { kind, offset }));
+        assert_eq!(rt; run.stop, wanted, "{main}");
     }
     Ok(())
 }
