@@ -3,3 +3,6 @@ pub mod Total
 pub mod Growing
 pub mod Starting
 pub mod Results
+pub mod Passing
+pub mod Prefixes
+pub mod Settling

@@ -1,8 +1,11 @@
+pub mod Answer
 pub mod Document
 pub mod Engine
 pub mod Escape
+pub mod Lexed
 pub mod Line
 pub mod Meaning
+pub mod Passed
 pub mod Result
 pub mod Sheets
 pub mod Tag

@@ -1,11 +1,16 @@
 //! Laws of the definitions, as contracts.
 
-ghost use Rattle.std.specs.Prelude.{◌≡◌, ◌↔◌, ◌++◌, List, ℕ};
-ghost use Rattle.stx_base.specs.Course.{Ends, Over};
+ghost use Rattle.std.specs.Prelude.{◌≡◌, ◌≢◌, ◌↔◌, ◌++◌, Bool, false, List, ℕ, Some, map};
+ghost use Rattle.stx_base.specs.Course.{Begins, Ends, Over};
+ghost use Rattle.stx_base.specs.StandardLimits.{standard_limits};
+ghost use Rattle.stx_base.specs.declared.limits.Limits.{Limits};
 ghost use Rattle.stx_base.specs.declared.part.Part.{Part};
 ghost use Rattle.stx_engine.specs.declared.pass.Pass.{Pass};
-ghost use Rattle.stx_engine.specs.Tree.{Forest};
-ghost use Rattle.stx_engine.specs.Meaning.{Said, Ending, code, meaning, outcome};
+ghost use Rattle.stx_host.specs.declared.act.Doc.{Doc};
+ghost use Rattle.stx_engine.specs.Tree.{Need, Forest};
+ghost use Rattle.stx_engine.specs.Answer.{run_on, result_of, settled, answer, asked};
+ghost use Rattle.stx_engine.specs.Meaning.{Said, Put, Ending, Unready, code, meaning, outcome};
+ghost use Rattle.stx_engine.specs.Passed.{passed, ending_of};
 ghost use Rattle.stx_engine.specs.Result.{text};
 ghost use Rattle.stx_engine.specs.Document.{Reading, tree_of};
 
@@ -19,4 +24,19 @@ pub fn one_meaning()
 /// The text of parts begins the text of these parts and more.
 pub fn text_grows()
     ensures { (ps qs : List Part) → (more : List ℕ) × (text ps ++ more ≡ text (ps ++ qs)) }
+{}
+
+/// A run puts, node after node, what each puts, up to the first that isn't ready.
+pub fn run_by_nodes()
+    ensures { (pass : Pass) (tree : Forest) → outcome pass tree ≡ Over (map Put (passed pass tree).parts) (ending_of (passed pass tree).stop) }
+{}
+
+/// What a document's first bytes settle stays so, whatever bytes follow.
+pub fn settled_stays()
+    // The output begins with what is settled.
+    ensures output { (limits : Limits) (pass : Pass) (bytes more : List ℕ) (ended : Bool) → Begins (settled limits pass bytes) (result_of (run_on limits pass (bytes ++ more) ended)) }
+    // A run that needs no more of the document is over.
+    ensures over { (limits : Limits) (pass : Pass) (bytes more : List ℕ) (ended : Bool) → (run_on limits pass bytes false).ending ≢ Unready Need → run_on limits pass (bytes ++ more) ended ≡ run_on limits pass bytes false }
+    // So it is with the program's whole answer.
+    ensures answer { (words : List (List ℕ)) (docs : List Doc) (pass : Pass) (bytes more : List ℕ) → asked words docs ≡ Some pass → Begins (settled standard_limits pass bytes) (answer words docs (bytes ++ more)).out }
 {}

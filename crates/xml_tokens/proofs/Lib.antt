@@ -5,3 +5,4 @@ pub mod PlainLemmas
 pub mod ReaderLemmas
 pub mod WholeLemmas
 pub mod AnswerLemmas
+pub mod RunLemmas

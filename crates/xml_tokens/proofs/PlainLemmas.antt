@@ -1,7 +1,7 @@
 -- Laws of what plain shapes say.
-use Rattle.std.proofs.Common.{◌≡◌, ℕ, zero, suc, ◌+◌, ◌-◌, ◌<◌, ◌≤◌, Bool, true, false, ◌&&◌, ◌==◌, List, [], ◌∷◌, ◌++◌, Option, Some, None, length, take, drop, refl, sym, ap, ◌∙◌, arith, cond, subst, length-drop, append_assoc}
+use Rattle.std.proofs.Common.{◌≡◌, ℕ, zero, suc, ◌+◌, ◌-◌, ◌<◌, ◌≤◌, Bool, true, false, ◌&&◌, ◌||◌, ◌==◌, List, [], ◌∷◌, ◌++◌, Option, Some, None, length, take, drop, refl, sym, ap, ◌∙◌, arith, cond, subst, length-drop, append_assoc, map}
 use Rattle.std.specs.Str.{IsAscii}
-use Rattle.std.specs.List.{list_all, prefix_len, position_or_len}
+use Rattle.std.specs.List.{list_any, list_all, prefix_len, position_or_len}
 use Rattle.std.specs.Prelude.{if◌then◌else◌, codes}
 use Rattle.std.specs.Option.{option_map, option_or, option_and_then}
 use Rattle.std.proofs.lemmas.Bool.{eq-eqb, ne_eqb}
@@ -11,7 +11,7 @@ use Rattle.xml_tokens.specs.Places.{begins, is_quote}
 use Rattle.std.proofs.lemmas.Str.{IsAscii-take, IsAscii-drop}
 use Rattle.std.proofs.lemmas.Str.Ascii.{IsAscii-cons, IsAscii-nil}
 use Rattle.stx_base.specs.Character.{is_space, is_name_char}
-use Rattle.xml_tokens.specs.Plain.{judged, tag, chars, is_plain, named, quoted, until_quote, attribute, attributes, after_space, after_byte, is_plain_name, as_read, tag_end, with_first}
+use Rattle.xml_tokens.specs.Plain.{as_space, is_break, judged, tag, chars, is_plain, named, quoted, until_quote, attribute, attributes, after_space, after_byte, is_plain_name, as_read, tag_end, with_first}
 
 some_if : {A : Type 0} (b : Bool) (x y : A) → cond b (Some x) None ≡ Some y → x ≡ y
 some_if true x y h = cc
@@ -142,6 +142,15 @@ attributes-enough (suc n) (suc m) bytes h k =
 -- attributes before others
 abbrev pub before : List RawAttr → List RawAttr × Bool → List RawAttr × Bool
 before attrs more = (attrs ++ more.0, more.1)
+
+-- a value without tab and line feed is read as it stands
+pub as_space-none : (bytes : List ℕ) → list_any is_break bytes ≡ false → map as_space bytes ≡ bytes
+as_space-none [] h = refl
+as_space-none (b ∷ bs) h =
+    elim (is_break b) as (λ t. is_break b ≡ t → (t || list_any is_break bs) ≡ false → map as_space (b ∷ bs) ≡ b ∷ bs) [
+      | true ↦ (λ e k. absurd cc)
+      | false ↦ (λ e k. let same : as_space b ≡ b = ap (λ t. cond t 32 b) e in ap (λ x. x ∷ map as_space bs) same ∙ ap (λ l. b ∷ l) (as_space-none bs k))
+    ] refl h
 
 plain_byte : (b : ℕ) → is_plain b ≡ true → b < 128
 plain_byte b h = grind (arith, nat_tests)

@@ -62,7 +62,7 @@ is-shape-due limits unread offset ended len h within (look.Over (ending.Bad faul
 is-shape-due limits unread offset ended len h within (look.Over ending.Memory) d = tt
 
 -- what stands at the end of what is seen
-abbrev ending_at : Bool → Bool → Bool → Bool → Option Ending → Option Ending → ℕ → Option Ending
+abbrev pub ending_at : Bool → Bool → Bool → Bool → Option Ending → Option Ending → ℕ → Option Ending
 ending_at long cut ended none too_long over at = cond long too_long (cond cut over (cond (not ended) None (cond none (Some ending.End) (Some (bad Truncated at)))))
 
 ending_same : (long cut ended none : Bool) (too_long over : Option Ending) (at at' : ℕ) → (cut ≡ false → at ≡ at') → ending_at long cut ended none too_long over at ≡ ending_at long cut ended none too_long over at'
@@ -98,26 +98,30 @@ rest-need limits unread offset ended h e =
     due-rest limits unread offset ended h ∙ ap step_or_need (sym (rest-is r) ∙ e)
 
 -- more bytes come only where none are known to be the last
-need-open : (long cut ended none : Bool) (too_long over : Ending) (at : ℕ) → ending_at long cut ended none (Some too_long) (Some over) at ≡ None → (long ≡ false) × (cut ≡ false) × (ended ≡ false)
+pub need-open : (long cut ended none : Bool) (too_long over : Ending) (at : ℕ) → ending_at long cut ended none (Some too_long) (Some over) at ≡ None → (long ≡ false) × (cut ≡ false) × (ended ≡ false)
 need-open true cut ended none too_long over at h = absurd cc
 need-open false true ended none too_long over at h = absurd cc
 need-open false false false none too_long over at h = (refl, refl, refl)
 need-open false false true true too_long over at h = absurd cc
 need-open false false true false too_long over at h = absurd cc
 
-decided_mark : (r : Reader) → is_mark_open r ≡ true → is_undecided_at (place r) (coming r) ≡ true
-decided_mark r h =
+-- no mark is skipped where one is undecided
+pub undecided-mark_len : (r : Reader) → is_mark_open r ≡ true → (mark_len r ≡ 0) × (r.offset ≡ 0) × (is_part (seen r) mark ≡ true)
+undecided-mark_len r h =
     let parts = both (r.offset == 0) (is_part (seen r) mark) h in
     let short : length (seen r) < 3 = is_part-short (seen r) mark parts.1 in
     let other : begins (seen r) mark ≡ false = no_pass _ (λ b. absurd (omega (arith, begins-length (seen r) mark b))) in
     let absent : (r.offset == 0 && begins (seen r) mark) ≡ false = rw (parts.0, other) refl in
-    let e : mark_len r ≡ 0 = ap (λ t. cond t 3 0) absent in
-    let zero_place : r.offset + 0 ≡ 0 = omega (arith, eqb-true r.offset 0 parts.0) in
-    subst (λ n. is_undecided_at (r.offset + n) (drop n (seen r)) ≡ true) (sym e) (or_true _ _ (and_true _ _ (eq-eqb (r.offset + 0) 0 zero_place) parts.1)) where
+    (ap (λ t. cond t 3 0) absent, eqb-true r.offset 0 parts.0, parts.1) where
       both : (s t : Bool) → (s && t) ≡ true → (s ≡ true) × (t ≡ true)
       both true t h = (refl, h)
       both false t h = absurd cc
 
+pub decided_mark : (r : Reader) → is_mark_open r ≡ true → is_undecided_at (place r) (coming r) ≡ true
+decided_mark r h =
+    let parts = undecided-mark_len r h in
+    let zero_place : r.offset + 0 ≡ 0 = omega (arith, parts.1) in
+    subst (λ n. is_undecided_at (r.offset + n) (drop n (seen r)) ≡ true) (sym parts.0) (or_true _ _ (and_true _ _ (eq-eqb (r.offset + 0) 0 zero_place) parts.2)) where
       and_true : (s t : Bool) → s ≡ true → t ≡ true → (s && t) ≡ true
       and_true s t a b = rw (a, b) refl
 
@@ -155,15 +159,23 @@ seen-more r more =
 abbrev three_if : Bool → ℕ
 three_if t = cond t 3 0
 
+mark_same : (offset : ℕ) (bytes more : List ℕ) → (offset == 0 && is_part bytes mark) ≡ false → mark_len_of offset (bytes ++ more) ≡ mark_len_of offset bytes
+mark_same offset bytes more h =
+    elim (offset == 0) as (λ t. (t && is_part bytes mark) ≡ false → three_if (t && begins (bytes ++ more) mark) ≡ three_if (t && begins bytes mark))
+    [ true ↦ (λ k. ap three_if (begins-more bytes more mark k)) | false ↦ (λ k. refl) ] h
+
+pub mark_len-more : (r : Reader) (more : List ℕ) → is_mark_open r ≡ false → mark_len (record r { unread = r.unread ++ more }) ≡ mark_len r
+mark_len-more r more h = let s = seen-more r more in ap (mark_len_of r.offset) s.1 ∙ mark_same r.offset (seen r) s.0 h
+
 pub coming-more : (r : Reader) (more : List ℕ) → is_mark_open r ≡ false → (x : List ℕ) × (coming (record r { unread = r.unread ++ more }) ≡ coming r ++ x)
 coming-more r more h =
     let s = seen-more r more in
     let m : mark_len_of r.offset (seen r ++ s.0) ≡ mark_len r = mark_same r.offset (seen r) s.0 h in
-    (s.0, ap (λ l. drop (mark_len_of r.offset l) l) s.1 ∙ (ap (λ n. drop n (seen r ++ s.0)) m ∙ drop-append-le (mark_len r) (seen r) s.0 (mark_within r.offset (seen r)))) where
-      mark_same : (offset : ℕ) (bytes more : List ℕ) → (offset == 0 && is_part bytes mark) ≡ false → mark_len_of offset (bytes ++ more) ≡ mark_len_of offset bytes
-      mark_same offset bytes more h =
-          elim (offset == 0) as (λ t. (t && is_part bytes mark) ≡ false → three_if (t && begins (bytes ++ more) mark) ≡ three_if (t && begins bytes mark))
-          [ true ↦ (λ k. ap three_if (begins-more bytes more mark k)) | false ↦ (λ k. refl) ] h
+    (s.0, ap (λ l. drop (mark_len_of r.offset l) l) s.1 ∙ (ap (λ n. drop n (seen r ++ s.0)) m ∙ drop-append-le (mark_len r) (seen r) s.0 (mark_within r.offset (seen r))))
+
+pub mark-closed : (offset : ℕ) (bytes more : List ℕ) → (offset == 0 && is_part bytes mark) ≡ false → (offset == 0 && is_part (bytes ++ more) mark) ≡ false
+mark-closed offset bytes more h =
+    elim (offset == 0) as (λ t. (t && is_part bytes mark) ≡ false → (t && is_part (bytes ++ more) mark) ≡ false) [ true ↦ (λ k. is_part-more bytes more mark k) | false ↦ (λ k. refl) ] h
 
 pub goes-on-more : (scan : Scan) (r : Reader) (more : List ℕ) → GoesOn scan r → GoesOn scan (record r { unread = r.unread ++ more })
 goes-on-more scan r more (inl e) = inl e
@@ -171,13 +183,9 @@ goes-on-more scan r more (inr h) =
     let c = coming-more r more h.0 in
     let s = seen-more r more in
     inr (
-      mark-closed r.offset (seen r) s.0 (seen (record r { unread = r.unread ++ more })) s.1 h.0,
+      ap (λ l. r.offset == 0 && is_part l mark) s.1 ∙ mark-closed r.offset (seen r) s.0 h.0,
       λ later. subst (Resumes scan) (sym (append_assoc (coming r) c.0 later) ∙ ap (λ l. l ++ later) (sym c.1)) (h.1 (c.0 ++ later)),
-    ) where
-      mark-closed : (offset : ℕ) (bytes more all : List ℕ) → all ≡ bytes ++ more → (offset == 0 && is_part bytes mark) ≡ false → (offset == 0 && is_part all mark) ≡ false
-      mark-closed offset bytes more all e h =
-          ap (λ l. offset == 0 && is_part l mark) e
-          ∙ elim (offset == 0) as (λ t. (t && is_part bytes mark) ≡ false → (t && is_part (bytes ++ more) mark) ≡ false) [ true ↦ (λ k. is_part-more bytes more mark k) | false ↦ (λ k. refl) ] h
+    )
 
 -- what stands after an answer that is repeated
 pub answer-over : (r : Reader) (over : Ending) → r.over ≡ Some over → IsAnswer r (step_of over)

@@ -44,9 +44,13 @@ unfoldable pub quoted : List ℕ → Option (List ℕ × List ℕ)
 quoted [] = None
 quoted (quote ∷ bytes) = if is_quote quote then until_quote quote bytes else None
 
+-- tab and line feed
+abbrev pub is_break : ℕ → Bool
+is_break b = b == 9 || b == 10
+
 -- tab and line feed are read as a space (XML 1.0, 3.3.3)
 abbrev pub as_space : ℕ → ℕ
-as_space b = if b == 9 || b == 10 then 32 else b
+as_space b = if is_break b then 32 else b
 
 -- a name, `=`, a quoted value (Attribute; XML 1.0, 3.1), and what follows
 unfoldable pub attribute : List ℕ → Option (List ℕ × List ℕ × List ℕ)

@@ -9,7 +9,7 @@ use crate::lexeme::Body;
 use crate::scan::has_word;
 use crate::tag::{tag, text_of};
 use std::alloc::Global;
-use stx_base::{Memory, is_char, is_space};
+use stx_base::{Memory, is_space};
 
 /// What the bytes of a whole shape say; `None` for a form that is not read yet.
 #[tactic(auto, unfolding(crate::specs::Plain::judged))]
@@ -47,7 +47,7 @@ fn are_plain(bytes: &[u8]) -> bool
 fn is_plain(byte: u8) -> bool
     ensures { result ≡ plain.is_plain byte }
 {
-    byte.is_ascii() && is_char(char::from(byte)) && byte != b'&' && byte != b'\r'
+    byte >= b' ' && byte < 0x80 && byte != b'&' || byte == b'\t' || byte == b'\n'
 }
 
 fn chars(alloc: Global, bytes: &[u8]) -> Result<Option<Body>, Memory>

@@ -5,6 +5,7 @@ mod form;
 mod judge;
 mod lexeme;
 mod lexer;
+mod run;
 mod scan;
 mod tag;
 #[cfg(test)]
@@ -12,3 +13,4 @@ mod tests;
 
 pub use lexeme::{Body, Ending, Lexeme, RawAttr, Step};
 pub use lexer::Lexer;
+pub use run::{Run, lex};

@@ -27,8 +27,17 @@ fn value_of(alloc: Global, bytes: &[u8]) -> Result<Text, Memory>
     requires { IsAscii bytes.now }
     ensures { IfOk result (λ text. text ≡ map plain.as_space bytes.now) }
 {
+    if !has_breaks(bytes) {
+        return text_of(alloc, bytes);
+    }
     let normal = normal_of(alloc, bytes)?;
     text_of(alloc, &normal)
+}
+
+fn has_breaks(bytes: &[u8]) -> bool
+    ensures { result ≡ list_any plain.is_break bytes.now }
+{
+    bytes.iter().any(|b| *b == b'\t' || *b == b'\n')
 }
 
 fn normal_of(alloc: Global, bytes: &[u8]) -> Result<Vec<u8>, AllocError>

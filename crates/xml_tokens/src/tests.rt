@@ -1,6 +1,6 @@
 ghost use Rattle.std.specs.Prelude.{◌≡◌};
 
-use crate::{Body, Lexer, Step};
+use crate::{Body, Ending, Lexer, Step, lex};
 use std::alloc::Global;
 use std::fmt::Write;
 use std::process::Abort;
@@ -137,4 +137,22 @@ fn limits(rt: HostRuntime) -> Result<(), Fail> {
     expect(&rt, alloc, limits, &["<ab>"], "0<ab> ? end")?;
     expect(&rt, alloc, limits, &["<ab>x"], "0<ab> InputTooLong at 4")?;
     expect(&rt, alloc, limits, &["<a>x</a>"], "0<a> InputTooLong at 4")
+}
+
+/// How many lexemes a document has, cut into pieces of one byte, and whether it is used up then.
+fn counted(alloc: Global, document: &str) -> Result<(usize, bool), Fail> {
+    let mut pieces = Vec::new(alloc);
+    for byte in document.as_bytes() {
+        pieces.push(Vec::from_slice(alloc, &[*byte])?)?;
+    }
+    let run = lex(alloc, Limits::standard(), &pieces)?;
+    Ok((run.lexemes.len(), run.ending == Ending::End))
+}
+
+#[test]
+fn runs(rt: HostRuntime) -> Result<(), Fail> {
+    let alloc = rt.alloc();
+    assert_eq!(rt; counted(alloc, "\u{FEFF}<a b='1'>x<c/>\ny</a>")?, (5, true));
+    assert_eq!(rt; counted(alloc, "<a><b")?, (1, false));
+    Ok(())
 }
