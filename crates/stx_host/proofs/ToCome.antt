@@ -224,3 +224,9 @@ to_come-end main at docs old new id n none e =
 -- the first bytes of a document are all of it
 pub rest_of-first : (docs : List Doc) (at : ℕ) → rest_of docs (record { doc = at; at = 0 }) ≡ option_map (λ doc. doc.bytes) (slice_get docs at)
 rest_of-first docs at = refl
+
+-- after a read of the main document
+pub to_come-main : (main : List ℕ) (at n : ℕ) (docs : List Doc) (slots : List (Slot Reading)) → all_to_come main (at + n) docs slots ≡ with_bytes (all_to_come main at docs slots) 0 (Some (drop n (drop at main)))
+to_come-main main at n docs slots = by_id (all_to_come main (at + n) docs slots) (all_to_come main at docs slots) 0 (Some (drop n (drop at main)))
+    (ap (λ bytes. Some bytes) (sym (drop-drop n at main)))
+    (λ k other. ap (λ b. if b then Some (drop (at + n) main) else rest_of_id docs slots k) (eq_other k 0 other) ∙ sym (ap (λ b. if b then Some (drop at main) else rest_of_id docs slots k) (eq_other k 0 other)))

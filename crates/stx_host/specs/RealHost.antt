@@ -1,5 +1,5 @@
 -- What the real host tells: which ids are open, and no bytes.
-use Rattle.std.specs.Prelude.{ℕ, ◌<◌, ◌≤◌, List, length, Some, None}
+use Rattle.std.specs.Prelude.{ℕ, ◌<◌, ◌≤◌, List, [], length, Some, None}
 use Rattle.stx_host.specs.declared.act.Got.{Got}
 use Rattle.stx_host.specs.declared.act.Got.TheVariants.{Bytes, End, Failed}
 use Rattle.stx_host.specs.declared.faults.Faults.{Faults}
@@ -19,6 +19,21 @@ outside_of slots faults = record {
   main_faults = faults.main;
   out_faults = faults.out;
   note_faults = faults.note;
+}
+
+-- what a new one tells: that no id is open, and that nothing failed
+abbrev pub nothing_told : Outside
+nothing_told = record {
+  documents = None;
+  to_come = λ id. None;
+  open_ids = Some [];
+  log = None;
+  out = None;
+  note = None;
+  doc_faults = 0;
+  main_faults = 0;
+  out_faults = 0;
+  note_faults = 0;
 }
 
 -- what one read gives: bytes that fit, the end, or a failure

@@ -1,6 +1,6 @@
-ghost use Rattle.std.specs.Prelude.{◌≡◌, ◌<◌, ◌≤◌, length};
+ghost use Rattle.std.specs.Prelude.{◌≡◌, ◌↔◌, ◌⊎◌, ◌<◌, ◌≤◌, length};
 ghost use Rattle.stx_host.specs.Outside.{MayRead, MayWrite, GivesBytes};
-ghost use Rattle.stx_host.specs.RealHost.{outside_of, IsGot};
+ghost use Rattle.stx_host.specs.RealHost.{outside_of, nothing_told, IsGot};
 ghost use Rattle.stx_host.specs.Table.{ids_of};
 
 use crate::act::{Got, Lane, Opened, Put};
@@ -28,7 +28,9 @@ pub struct RealHost<R: Files, I, O, N> {
 impl<R: Files, I: Read, O: Write, N: Write> RealHost<R, I, O, N> {
     /// Reads documents from `files` and the main document from `input`, and writes `Lane::Out` to
     /// `out` and `Lane::Note` to `note`, each without a buffer.
-    pub fn new(alloc: Global, files: R, input: I, out: O, note: N) -> RealHost<R, I, O, N> {
+    pub fn new(alloc: Global, files: R, input: I, out: O, note: N) -> RealHost<R, I, O, N>
+        ensures { ⟦<RealHost<R, I, O, N> as Host>⟧.outside result ≡ nothing_told }
+    {
         RealHost {
             files,
             input,
@@ -37,6 +39,19 @@ impl<R: Files, I: Read, O: Write, N: Write> RealHost<R, I, O, N> {
             table: Table::new(alloc),
             faults: Faults::NONE,
         }
+    }
+}
+
+/// The answer to a file that can't be opened: absent exactly where it isn't found.
+fn unopened(kind: ErrorKind) -> Opened
+    ensures absent { (result ≡ Opened.Absent) ↔ (kind ≡ ErrorKind.NotFound) }
+    ensures memory { (result ≡ Opened.Memory) ↔ (kind ≡ ErrorKind.OutOfMemory) }
+    ensures other { (result ≡ Opened.Absent) ⊎ (result ≡ Opened.Memory) ⊎ (result ≡ Opened.Failed) }
+{
+    match kind {
+        ErrorKind::NotFound => Opened::Absent,
+        ErrorKind::OutOfMemory => Opened::Memory,
+        _ => Opened::Failed,
     }
 }
 
@@ -99,14 +114,13 @@ impl<R: Files, I: Read, O: Write, N: Write> Host for RealHost<R, I, O, N> {
                     Opened::Failed
                 }
             },
-            Err(error) => match error.kind() {
-                ErrorKind::NotFound => Opened::Absent,
-                ErrorKind::OutOfMemory => Opened::Memory,
-                _ => {
+            Err(error) => {
+                let answer = unopened(error.kind());
+                if answer == Opened::Failed {
                     self.faults.doc = raised(self.faults.doc);
-                    Opened::Failed
                 }
-            },
+                answer
+            }
         }
     }
 
