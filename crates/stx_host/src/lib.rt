@@ -16,3 +16,6 @@ pub use host::Host;
 pub use laws::{acts_add_up, counts_go_on};
 pub use mem_host::MemHost;
 pub use real_host::RealHost;
+
+#[cfg(test)]
+mod tests;

@@ -19,10 +19,10 @@ use stx_base::Text;
 pub struct RealHost<R: Files, I, O, N> {
     files: R,
     input: I,
-    out: O,
+    pub(crate) out: O,
     note: N,
     table: Table<R::File>,
-    faults: Faults,
+    pub(crate) faults: Faults,
 }
 
 impl<R: Files, I: Read, O: Write, N: Write> RealHost<R, I, O, N> {
