@@ -1,6 +1,6 @@
 ghost use Rattle.std.specs.Prelude.{◌≡◌, ◌↔◌, ◌⊎◌, ◌<◌, ◌≤◌, length};
 ghost use Rattle.stx_host.specs.Outside.{MayRead, MayWrite, GivesBytes};
-ghost use Rattle.stx_host.specs.RealHost.{outside_of, nothing_told, IsGot};
+ghost use Rattle.stx_host.specs.RealHost.{outside_of, nothing_told, ReadsSome, WritesSome, IsGot};
 ghost use Rattle.stx_host.specs.Table.{ids_of};
 
 use crate::act::{Got, Lane, Opened, Put};
@@ -58,7 +58,7 @@ fn unopened(kind: ErrorKind) -> Opened
 /// One read, tried again where a signal interrupts it.
 fn read_some<S: Read>(source: &mut S, room: &mut [u8]) -> Got
     requires { 0 < length room.old }
-    ensures { IsGot result room.new }
+    ensures { ReadsSome (S.remaining source.old) (S.remaining source.new) result room.new }
 {
     for _ in 0..u64::MAX {
         match source.read(room) {
@@ -86,7 +86,7 @@ fn read_open<F: Read + Drop>(table: &mut Table<F>, id: u32, room: &mut [u8]) -> 
 
 /// One write, tried again where a signal interrupts it.
 fn write_some<S: Write>(sink: &mut S, bytes: &[u8]) -> Put
-    ensures { MayWrite bytes.now result }
+    ensures { WritesSome (S.contents sink.old) (S.contents sink.new) bytes.now result }
 {
     for _ in 0..u64::MAX {
         match sink.write(bytes) {
