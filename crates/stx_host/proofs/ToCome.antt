@@ -70,7 +70,7 @@ pub ids_of-filter : {T : Type 0} (id : ℕ) (slots : List (Slot T)) → ids_of (
 ids_of-filter id [] = refl
 ids_of-filter id (slot ∷ slots) = ids_step (not (slot.id == id)) slot (filter (λ s. not (s.id == id)) slots) (filter (λ k. not (k == id)) (ids_of slots)) (ids_of-filter id slots)
 
-other_id : (k id j : ℕ) → k ≢ id → (j == k) ≡ true → not (j == id) ≡ true
+pub other_id : (k id j : ℕ) → k ≢ id → (j == k) ≡ true → not (j == id) ≡ true
 other_id k id j h e = grind (arith, nat_tests)
 
 same_id : (k id j : ℕ) → k ≡ id → not (j == id) ≡ true → (j == k) ≡ false
@@ -79,7 +79,7 @@ same_id k id j h e = grind (arith, nat_tests)
 differs : (k id j : ℕ) → k ≢ id → (j == id) ≡ true → (j == k) ≡ false
 differs k id j h e = grind (arith, nat_tests)
 
-eq_self : (id : ℕ) → (id == id) ≡ true
+pub eq_self : (id : ℕ) → (id == id) ≡ true
 eq_self id = grind (arith, nat_tests)
 
 eq_other : (k id : ℕ) → k ≢ id → (k == id) ≡ false

@@ -4,12 +4,11 @@ use crate::host::Host;
 use crate::mem_host::MemHost;
 use crate::real_host::RealHost;
 use std::alloc::Global;
-use std::fs;
 use std::fs::OpenOptions;
-use std::io;
 use std::io::{ErrorKind, Read, Write};
 use std::process::Abort;
 use std::test::Fail as Failure;
+use std::{fs, io};
 use stx_base::{List, Memory, Text};
 
 const MAIN: &[u8] = b"<main/>";
@@ -103,23 +102,41 @@ fn memory_gives_its_documents(rt: HostRuntime) -> Result<(), Failure> {
     assert_eq!(rt; host.out.as_slice(), MAIN);
     assert_eq!(rt; host.note.as_slice(), b"note".as_slice());
     let want = [
-        Act::Open { doc: Some(0), id: 1 },
+        Act::Open {
+            doc: Some(0),
+            id: 1,
+        },
         Act::Read { id: 1, got: 4 },
         Act::Read { id: 1, got: 1 },
         Act::Read { id: 1, got: 0 },
         Act::Close(1),
-        Act::Open { doc: Some(1), id: 1 },
+        Act::Open {
+            doc: Some(1),
+            id: 1,
+        },
         Act::Read { id: 1, got: 0 },
         Act::Close(1),
         Act::Open { doc: None, id: 0 },
         Act::Read { id: 0, got: 2 },
-        Act::Write { lane: Lane::Out, len: 2 },
+        Act::Write {
+            lane: Lane::Out,
+            len: 2,
+        },
         Act::Read { id: 0, got: 1 },
-        Act::Write { lane: Lane::Out, len: 1 },
+        Act::Write {
+            lane: Lane::Out,
+            len: 1,
+        },
         Act::Read { id: 0, got: 4 },
-        Act::Write { lane: Lane::Out, len: 4 },
+        Act::Write {
+            lane: Lane::Out,
+            len: 4,
+        },
         Act::Read { id: 0, got: 0 },
-        Act::Write { lane: Lane::Note, len: 4 },
+        Act::Write {
+            lane: Lane::Note,
+            len: 4,
+        },
     ];
     assert_eq!(rt; host.log.as_slice(), want.as_slice());
     Ok(())
@@ -133,7 +150,11 @@ fn memory_fails_where_listed(rt: HostRuntime) -> Result<(), Failure> {
         for nth in 1..4u64 {
             let mut host = memory(alloc, &[], &[Fail { call, nth }], 20, 9)?;
             for turn in 1..4u64 {
-                assert_eq!(rt; fails(&mut host, call, &name), turn == nth, "{call:?} {nth} {turn}");
+                assert_eq!(rt;
+                    fails(&mut host, call, &name),
+                    turn == nth,
+                    "{call:?} {nth} {turn}"
+                );
             }
         }
     }
