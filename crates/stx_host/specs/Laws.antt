@@ -1,5 +1,5 @@
 -- What follows of the calls of a host, for loops that make many of them.
-use Rattle.std.specs.Prelude.{◌≡◌, ℕ, ◌+◌, ◌<◌, ◌≤◌, ◌^◌, ◌⊎◌, List, [], ◌∷◌, ◌++◌, length, sum, None}
+use Rattle.std.specs.Prelude.{◌≡◌, ◌≢◌, ℕ, ◌+◌, ◌<◌, ◌≤◌, ◌^◌, ◌⊎◌, List, [], ◌∷◌, ◌++◌, length, sum, None}
 use Rattle.std.specs.Option.{option_and_then}
 use Rattle.stx_host.specs.declared.act.Act.{Act}
 use Rattle.stx_host.specs.declared.act.Act.TheVariants.{Open, Read, Close}
@@ -10,7 +10,7 @@ use Rattle.stx_host.specs.declared.act.Lane.TheVariants.{Out, Note}
 use Rattle.stx_host.specs.declared.act.Put.{Put}
 use Rattle.stx_host.specs.declared.act.Opened.{Opened}
 use Rattle.stx_host.specs.declared.act.Opened.TheVariants.{Id, Absent, Failed, Memory}
-use Rattle.stx_host.specs.Outside.{Outside, Rose, LaneFault, MayOpen, Opens, Reads, Closes, Writes, place, writes, wrote}
+use Rattle.stx_host.specs.Outside.{Outside, and_more, IsOpen, Rose, LaneFault, MayOpen, Opens, Reads, Closes, Writes, place, writes, wrote}
 use Rattle.stx_host.specs.Before.{Between, Taken}
 
 -- between a moment and itself there is nothing
@@ -61,6 +61,19 @@ BetweenFault = (old new : Outside) (lane : Lane) → LaneFault lane old new → 
 -- what two stretches of time took
 abbrev pub and_then : Taken → Taken → Taken
 and_then a b = record { out = a.out ++ b.out; note = a.note ++ b.note; main_read = a.main_read + b.main_read }
+
+-- an id that was given is open
+abbrev pub GivenIsOpen : Type 0
+GivenIsOpen = (old new : Outside) (name : List ℕ) (id : ℕ) → MayOpen old name (Id id) → Opens old name (Id id) new → IsOpen new.open_ids id
+
+-- what is open stays so when another id is given, or another given back
+abbrev pub StaysOpen : Type 0
+StaysOpen = (old new : Outside) (id other : ℕ) → IsOpen old.open_ids id
+    → ((name : List ℕ) → Opens old name (Id other) new → IsOpen new.open_ids id) × (id ≢ other → Closes old other new → IsOpen new.open_ids id)
+
+-- an id that was given, and then given back, leaves the ids that were open before
+abbrev pub GivenBack : Type 0
+GivenBack = (old mid new : Outside) (name : List ℕ) (id : ℕ) → MayOpen old name (Id id) → mid.open_ids ≡ and_more old.open_ids (id ∷ []) → Closes mid id new → new.open_ids ≡ old.open_ids
 
 -- a count, from one moment to a later one
 abbrev pub Later : ℕ → ℕ → Type 0
