@@ -6,3 +6,6 @@ pub mod Results
 pub mod Passing
 pub mod Prefixes
 pub mod Settling
+pub mod Rest
+pub mod Walking
+pub mod Names
