@@ -29,6 +29,7 @@ open_acts old name Absent = Open None 0 ∷ []
 open_acts old name Failed = []
 open_acts old name Memory = []
 
+-- a call of `open` does its acts, and gives the lanes nothing
 abbrev pub BetweenOpen : Type 0
 BetweenOpen = (old new : Outside) (name : List ℕ) (answer : Opened)
     → MayOpen old name answer → Opens old name answer new → Between old new (open_acts old name answer) [] []
@@ -39,9 +40,11 @@ read_acts id (Bytes n) = Read id n ∷ []
 read_acts id End = Read id 0 ∷ []
 read_acts id Unread = []
 
+-- a call of `read` does its acts, and takes what it read of the main document
 abbrev pub BetweenRead : Type 0
 BetweenRead = (old new : Outside) (id : ℕ) (answer : Got) → Reads old id answer new → Between old new (read_acts id answer) [] []
 
+-- a call of `close` does one act or none
 abbrev pub BetweenClose : Type 0
 BetweenClose = (old new : Outside) (id : ℕ) → 0 < id → Closes old id new → Between old new (Close id ∷ []) [] [] ⊎ Between old new [] [] []
 
@@ -51,10 +54,12 @@ for_lane Out Out bytes = bytes
 for_lane Note Note bytes = bytes
 for_lane lane other bytes = []
 
+-- writes give the lane their bytes
 abbrev pub BetweenWrites : Type 0
 BetweenWrites = (old new : Outside) (lane : Lane) (lens bytes : List ℕ) → sum lens ≡ length bytes → new ≡ wrote old lane lens bytes
     → Between old new (writes lane lens) (for_lane Out lane bytes) (for_lane Note lane bytes)
 
+-- a write that fails does nothing
 abbrev pub BetweenFault : Type 0
 BetweenFault = (old new : Outside) (lane : Lane) → LaneFault lane old new → Between old new [] [] []
 
@@ -86,18 +91,23 @@ pub record CountsLater (old new : Outside) : Type 0 where
   pub out : Later old.out_faults new.out_faults
   pub note : Later old.note_faults new.note_faults
 
+-- counts go on over two stretches of time
 abbrev pub CountsJoin : Type 0
 CountsJoin = (a b c : Outside) → CountsLater a b → CountsLater b c → CountsLater a c
 
+-- no call lowers a count: `open`
 abbrev pub CountsAtOpen : Type 0
 CountsAtOpen = (old new : Outside) (name : List ℕ) (answer : Opened) → Opens old name answer new → CountsLater old new
 
+-- `read`
 abbrev pub CountsAtRead : Type 0
 CountsAtRead = (old new : Outside) (id : ℕ) (answer : Got) → Reads old id answer new → CountsLater old new
 
+-- `close`
 abbrev pub CountsAtClose : Type 0
 CountsAtClose = (old new : Outside) (id : ℕ) → Closes old id new → CountsLater old new
 
+-- `write`
 abbrev pub CountsAtWrite : Type 0
 CountsAtWrite = (old new : Outside) (lane : Lane) (bytes : List ℕ) (answer : Put) → Writes old lane bytes answer new → CountsLater old new
 

@@ -37,6 +37,7 @@ pub record Gives (rest : Option (List ℕ)) (n : ℕ) (room : List ℕ) : Type 0
 abbrev pub all_to_come : List ℕ → ℕ → List Doc → List (Slot Reading) → ℕ → Option (List ℕ)
 all_to_come main at docs slots id = if id == 0 then Some (drop at main) else rest_of_id docs slots id
 
+-- what a host in memory tells: everything
 abbrev pub outside_of : MemHost → Outside
 outside_of host = record {
   documents = Some host.docs;
@@ -109,13 +110,15 @@ read_call id = if id == 0 then ReadMain else ReadDoc
 abbrev pub CallFails : MemHost → Call → Type 0
 CallFails host call = IsListed host call ⊎ IsFull host.log
 
--- where the calls fail
+-- where `open` fails: also where it needs an id and none can be given
 abbrev pub OpenFails : MemHost → List ℕ → Type 0
 OpenFails host name = CallFails host Open ⊎ (IsSome (place host.docs name) × LacksId host)
 
+-- where `read` fails
 abbrev pub ReadFails : MemHost → ℕ → Type 0
 ReadFails host id = CallFails host (read_call id)
 
+-- where `write` fails: also where the lane has too little room
 abbrev pub WriteFails : MemHost → Lane → List ℕ → Type 0
 WriteFails host lane bytes = CallFails host WriteCall ⊎ (lane_room host lane < length bytes)
 

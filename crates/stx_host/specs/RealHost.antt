@@ -10,6 +10,7 @@ use Rattle.stx_host.specs.declared.table.Slot.{Slot}
 use Rattle.stx_host.specs.Outside.{Outside}
 use Rattle.stx_host.specs.Table.{ids_of}
 
+-- which ids are open, how often it failed, and nothing else
 abbrev pub outside_of : {T : Type 0} → List (Slot T) → Faults → Outside
 outside_of slots faults = record {
   documents = None;

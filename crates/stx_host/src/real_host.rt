@@ -1,5 +1,5 @@
 ghost use Rattle.std.specs.Prelude.{◌≡◌, ◌↔◌, ◌⊎◌, ◌<◌, ◌≤◌, length};
-ghost use Rattle.stx_host.specs.Outside.{MayRead, MayWrite, GivesBytes};
+ghost use Rattle.stx_host.specs.Outside.{IsReadable, MayRead, Reads, MayWrite, Writes};
 ghost use Rattle.stx_host.specs.RealHost.{outside_of, nothing_told, ReadsSome, WritesSome, IsGot};
 ghost use Rattle.stx_host.specs.Table.{ids_of};
 
@@ -18,9 +18,12 @@ use stx_base::Text;
 #[derive(Drop)]
 pub struct RealHost<R: Files, I, O, N> {
     files: R,
-    input: I,
-    pub(crate) out: O,
-    note: N,
+    /// Where the main document comes from.
+    pub input: I,
+    /// Where `Lane::Out` goes.
+    pub out: O,
+    /// Where `Lane::Note` goes.
+    pub note: N,
     table: Table<R::File>,
     pub(crate) faults: Faults,
 }
@@ -124,7 +127,14 @@ impl<R: Files, I: Read, O: Write, N: Write> Host for RealHost<R, I, O, N> {
         }
     }
 
-    fn read(&mut self, id: u32, room: &mut [u8]) -> Got {
+    fn read(&mut self, id: u32, room: &mut [u8]) -> Got
+        requires open { IsReadable (⟦<RealHost<R, I, O, N> as Host>⟧.outside self.old).open_ids id }
+        requires room { 0 < length room.old }
+        ensures answer { MayRead (⟦<RealHost<R, I, O, N> as Host>⟧.outside self.old) id result room.new }
+        ensures change { Reads (⟦<RealHost<R, I, O, N> as Host>⟧.outside self.old) id result (⟦<RealHost<R, I, O, N> as Host>⟧.outside self.new) }
+        ensures main { id ≡ 0 → ReadsSome (I.remaining self.old.input) (I.remaining self.new.input) result room.new }
+        ensures lanes { (self.new.out ≡ self.old.out) × (self.new.note ≡ self.old.note) }
+    {
         if id == 0 {
             let got = read_some(&mut self.input, room);
             if got == Got::Failed {
@@ -143,7 +153,14 @@ impl<R: Files, I: Read, O: Write, N: Write> Host for RealHost<R, I, O, N> {
         self.table.remove(id);
     }
 
-    fn write(&mut self, lane: Lane, bytes: &[u8]) -> Put {
+    fn write(&mut self, lane: Lane, bytes: &[u8]) -> Put
+        requires { 0 < length bytes.now }
+        ensures answer { MayWrite bytes.now result }
+        ensures change { Writes (⟦<RealHost<R, I, O, N> as Host>⟧.outside self.old) lane bytes.now result (⟦<RealHost<R, I, O, N> as Host>⟧.outside self.new) }
+        ensures out { lane ≡ Lane.Out → WritesSome (O.contents self.old.out) (O.contents self.new.out) bytes.now result × (self.new.note ≡ self.old.note) }
+        ensures note { lane ≡ Lane.Note → WritesSome (N.contents self.old.note) (N.contents self.new.note) bytes.now result × (self.new.out ≡ self.old.out) }
+        ensures main { self.new.input ≡ self.old.input }
+    {
         match lane {
             Lane::Out => {
                 let put = write_some(&mut self.out, bytes);
