@@ -5,3 +5,5 @@ pub mod PlainLemmas
 pub mod ReaderLemmas
 pub mod WholeLemmas
 pub mod RunLemmas
+pub mod CutLemmas
+pub mod SpellingLemmas

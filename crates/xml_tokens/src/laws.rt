@@ -1,0 +1,17 @@
+//! Laws about the definitions that the lexer's contract cites. They do nothing.
+ghost use Rattle.xml_tokens.specs.Cuts.{JoinedAgain, OneCut, RestUnended, SomeCut};
+ghost use Rattle.xml_tokens.specs.Spelling.{ReadIsSpelled, SpelledIsRead};
+
+/// Each list of bytes is cut into shapes and a rest, and in one way.
+pub fn cuts()
+    ensures joined { JoinedAgain }
+    ensures rest { RestUnended }
+    ensures some { SomeCut }
+    ensures one { OneCut }
+{}
+
+/// A tag is read exactly where it is spelled as XML has it, so far as tags are read.
+pub fn tags()
+    ensures spelled { ReadIsSpelled }
+    ensures read { SpelledIsRead }
+{}
