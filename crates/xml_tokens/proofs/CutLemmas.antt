@@ -1,6 +1,6 @@
 -- Cuts of a document into shapes.
-use Rattle.std.proofs.Common.{◌≡◌, ℕ, zero, suc, ◌+◌, ◌-◌, ◌<◌, ◌≤◌, Bool, true, false, List, [], ◌∷◌, ◌++◌, Option, Some, None, length, take, drop, refl, sym, ap, ◌∙◌, arith, subst, length-drop, append_assoc}
-use Rattle.std.proofs.lemmas.List.{take-append-drop, length-take, append-nil}
+use Rattle.std.proofs.Common.{◌≡◌, ℕ, zero, suc, ◌<◌, Bool, false, List, [], ◌∷◌, ◌++◌, Option, Some, None, length, take, drop, refl, sym, ap, ◌∙◌, arith, subst, length-drop, append_assoc}
+use Rattle.std.proofs.lemmas.List.{take-append-drop, length-take}
 use Rattle.std.proofs.Math.Seq.{take-append_seam, drop-append_seam}
 use Rattle.xml_tokens.specs.Shape.{shape_len}
 use Rattle.xml_tokens.specs.Cuts.{IsWhole, Cuts, joined, JoinedAgain, RestUnended, SomeCut, OneCut}

@@ -7,3 +7,4 @@ pub mod WholeLemmas
 pub mod RunLemmas
 pub mod CutLemmas
 pub mod SpellingLemmas
+pub mod SaysLemmas

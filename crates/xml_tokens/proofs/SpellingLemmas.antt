@@ -1,6 +1,6 @@
 -- Tags are read exactly where they are spelled so.
-use Rattle.std.proofs.Common.{◌≡◌, ◌≢◌, ℕ, zero, suc, ◌+◌, ◌-◌, ◌<◌, ◌≤◌, Bool, true, false, not, ◌&&◌, ◌||◌, ◌==◌, nat_lt, List, [], ◌∷◌, ◌++◌, Option, Some, None, length, take, drop, get_or, refl, sym, ap, ◌∙◌, arith, subst, cond, ⊎_elim, length-drop, length-append, append_assoc, map, ◌⊎◌, inl, inr}
-use Rattle.std.proofs.lemmas.List.{take-append-drop, length-take, append-nil}
+use Rattle.std.proofs.Common.{◌≡◌, ◌≢◌, ℕ, zero, suc, ◌+◌, ◌<◌, Bool, true, false, not, ◌&&◌, ◌||◌, ◌==◌, nat_lt, List, [], ◌∷◌, ◌++◌, Option, Some, None, length, take, drop, get_or, refl, sym, ap, ◌∙◌, arith, subst, cond, ⊎_elim, length-append, ◌⊎◌, inl, inr}
+use Rattle.std.proofs.lemmas.List.{take-append-drop, append-nil}
 use Rattle.std.proofs.Math.Seq.{take-append_seam, drop-append_seam, drop-append-add}
 use Rattle.std.proofs.lemmas.Bool.{cases_Bool, cases_eq, eqb-true, eq-eqb, ne_eqb}
 use Rattle.std.proofs.lemmas.Bool.Decides.{nat_tests}
@@ -8,13 +8,13 @@ use Rattle.std.proofs.lemmas.List.Sums.{split_at_first, passes_at_first}
 use Rattle.xml_tokens.specs.declared.lexeme.RawAttr.{RawAttr}
 use Rattle.xml_tokens.proofs.PlainLemmas.{no_attributes, no_name, attribute-shorter, some_if, attribute-is, attributes-end, attributes-joined, attributes-other, map_some, bind_some}
 use Rattle.std.specs.List.{list_all, list_any, prefix_len, position_or_len}
-use Rattle.stx_base.specs.Character.{is_space, is_name_char, is_name_start}
+use Rattle.stx_base.specs.Character.{is_space, is_name_char}
 use Rattle.xml_tokens.specs.Places.{is_quote}
 use Rattle.xml_tokens.specs.declared.lexeme.Body.{Body}
 use Rattle.xml_tokens.specs.declared.lexeme.Body.TheVariants.{Chars, Start, End}
 use Rattle.std.specs.Option.{option_map, option_map_or, option_and_then}
 use Rattle.std.specs.Prelude.{if◌then◌else◌, is_none, slice_get}
-use Rattle.xml_tokens.specs.Plain.{is_plain_name, as_space, named, quoted, until_quote, after_byte, after_space, attribute, attributes, tag, end_tag, start_tag, tag_end, as_read, with_first}
+use Rattle.xml_tokens.specs.Plain.{is_plain_name, named, quoted, until_quote, after_byte, after_space, attribute, attributes, tag, end_tag, start_tag, tag_end, as_read, with_first}
 use Rattle.xml_tokens.specs.Spelling.{IsSpace, IsName, Attribute, spelled, IsAttribute, as_attr, slash, SpellsAttributes, SpellsTag, ReadIsSpelled, SpelledIsRead}
 
 abbrev step_len : Bool → ℕ → ℕ

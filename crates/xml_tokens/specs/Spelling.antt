@@ -1,5 +1,5 @@
 -- What bytes spell a tag, so far as tags are read (XML 1.0, 2.3 and 3.1).
-use Rattle.std.specs.Prelude.{◌≡◌, ℕ, Bool, true, false, ◌==◌, List, [], ◌∷◌, ◌++◌, Option, Some, map, if◌then◌else◌}
+use Rattle.std.specs.Prelude.{◌≡◌, ℕ, Bool, true, false, ◌==◌, List, [], ◌∷◌, ◌++◌, Some, map, if◌then◌else◌}
 use Rattle.std.specs.List.{list_all, list_any}
 use Rattle.stx_base.specs.Character.{is_space, is_name_char}
 use Rattle.xml_tokens.specs.Places.{is_quote}

@@ -1,5 +1,6 @@
 //! Laws about the definitions that the lexer's contract cites. They do nothing.
 ghost use Rattle.xml_tokens.specs.Cuts.{JoinedAgain, OneCut, RestUnended, SomeCut};
+ghost use Rattle.xml_tokens.specs.Run.{ShapesSayLexemes};
 ghost use Rattle.xml_tokens.specs.Spelling.{ReadIsSpelled, SpelledIsRead};
 
 /// Each list of bytes is cut into shapes and a rest, and in one way.
@@ -8,6 +9,11 @@ pub fn cuts()
     ensures rest { RestUnended }
     ensures some { SomeCut }
     ensures one { OneCut }
+{}
+
+/// A document that is read to its end is the shapes that say its lexemes.
+pub fn lexemes()
+    ensures { ShapesSayLexemes }
 {}
 
 /// A tag is read exactly where it is spelled as XML has it, so far as tags are read.
