@@ -1,6 +1,6 @@
 //! Laws about the definitions that the lexer's contract cites. They do nothing.
 ghost use Rattle.xml_tokens.specs.Cuts.{JoinedAgain, OneCut, RestUnended, SomeCut};
-ghost use Rattle.xml_tokens.specs.Run.{ShapesSayLexemes};
+ghost use Rattle.xml_tokens.specs.Run.{AnswersStay, LexemesStay, OneRun, ShapesSayLexemes};
 ghost use Rattle.xml_tokens.specs.Spelling.{ReadIsSpelled, SpelledIsRead};
 
 /// Each list of bytes is cut into shapes and a rest, and in one way.
@@ -14,6 +14,13 @@ pub fn cuts()
 /// A document that is read to its end is the shapes that say its lexemes.
 pub fn lexemes()
     ensures { ShapesSayLexemes }
+{}
+
+/// An answer other than `Need` stays, whatever bytes follow, and a document has one run.
+pub fn answers()
+    ensures stay { AnswersStay }
+    ensures after { LexemesStay }
+    ensures one { OneRun }
 {}
 
 /// A tag is read exactly where it is spelled as XML has it, so far as tags are read.
