@@ -9,3 +9,4 @@ pub mod Settling
 pub mod Rest
 pub mod Walking
 pub mod Names
+pub mod Planting

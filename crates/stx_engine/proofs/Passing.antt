@@ -103,8 +103,11 @@ module _ (pass : Pass) where
   ends_so tree parts None h = subst (λ l. Ends code (meaning pass tree) l Complete) (append-nil (map Put parts)) (h [] Complete (stopped_so code [] Complete))
   ends_so tree parts (Some why) h = h
 
+  pub ends-passed : (tree : Forest) → Ends code (meaning pass tree) (map Put (passed pass tree).parts) (ending_of (passed pass tree).stop)
+  ends-passed tree = ends_so tree _ _ (ends-by tree (λ a. Halt Complete))
+
   pub outcome-passed : (tree : Forest) → outcome pass tree ≡ Over (map Put (passed pass tree).parts) (ending_of (passed pass tree).stop)
-  outcome-passed tree = outcome_is pass tree _ _ (ends_so tree _ _ (ends-by tree (λ a. Halt Complete)))
+  outcome-passed tree = outcome_is pass tree _ _ (ends-passed tree)
 
   parts-back : (ps : List Part) → parts_put (map Put ps) ≡ ps
   parts-back [] = refl

@@ -1,5 +1,5 @@
 -- The lexemes of a document's first bytes, and what they settle.
-use Rattle.std.proofs.Common.{◌≡◌, ◌≢◌, ◌⊎◌, inl, inr, ℕ, zero, suc, ◌+◌, ◌<◌, Bool, true, false, List, [], ◌∷◌, ◌++◌, Option, Some, None, length, refl, sym, ap, ◌∙◌, subst, arith, append-nil}
+use Rattle.std.proofs.Common.{◌≡◌, ◌≢◌, ◌⊎◌, inl, inr, ℕ, zero, suc, ◌+◌, ◌<◌, Bool, true, false, List, [], ◌∷◌, ◌++◌, Option, Some, None, length, refl, sym, ap, ◌∙◌, subst, arith, append-nil, append_assoc}
 use Rattle.std.specs.Prelude.{cond, not, ◌&&◌, ◌==◌, nat_lt, take}
 use Rattle.std.specs.Option.{option_and_then}
 use Rattle.stx_base.specs.Course.{Begins}
@@ -103,6 +103,17 @@ pub from-taken : (r : Reader) (ls : List Lexeme) (rest : Reader) → r.over ≡ 
 from-taken r [] rest fresh h = ap lexed_from h
 from-taken r (l ∷ ls) rest fresh h =
     from-lexeme r l fresh h.0 ∙ ap (before (l ∷ [])) (from-taken (after r (step.Lexeme l)) ls rest (after-fresh r l fresh) h.1)
+
+-- a lexeme more was taken
+pub drained : (all : Lexed) (r new : Reader) (ls more : List Lexeme) (l : Lexeme) → r.over ≡ None → step.Lexeme l ≡ due r → new ≡ after r (step.Lexeme l) → more ≡ ls ++ l ∷ [] →
+    before ls (lexed_from r) ≡ all → (new.over ≡ None) × (before more (lexed_from new) ≡ all)
+drained all r new ls more l fresh due_ is taken h = (
+    ap (λ (q : Reader). q.over) is ∙ after-fresh r l fresh,
+    ap (λ q. before more (lexed_from q)) is
+    ∙ (ap (λ xs. before xs (lexed_from (after r (step.Lexeme l)))) taken
+    ∙ (ap (λ xs. record { lexemes = xs; last = (lexed_from (after r (step.Lexeme l))).last }) (append_assoc ls (l ∷ []) (lexed_from (after r (step.Lexeme l))).lexemes)
+    ∙ (ap (before ls) (sym (from-lexeme r l fresh (sym due_))) ∙ h))),
+)
 
 -- y is x, or goes on where x needs more
 abbrev pub LexedWithin : Lexed → Lexed → Type 0

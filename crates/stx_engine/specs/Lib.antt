@@ -6,6 +6,7 @@ pub mod Lexed
 pub mod Line
 pub mod Meaning
 pub mod Passed
+pub mod Plain
 pub mod Result
 pub mod Sheets
 pub mod Tag

@@ -11,6 +11,7 @@ pub mod law;
 mod line;
 mod outcome;
 mod pass;
+pub mod plain;
 mod sheet;
 mod walk;
 mod words;
