@@ -6,6 +6,9 @@ pub mod Results
 pub mod Passing
 pub mod Prefixes
 pub mod Settling
+pub mod Rest
+pub mod Walking
+pub mod Names
 pub mod Planting
 pub mod Rereading
 pub mod Ending

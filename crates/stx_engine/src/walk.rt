@@ -1,3 +1,6 @@
+ghost use Rattle.std.specs.Prelude.{◌≡◌, ◌++◌, true, None, OnOk, length, nat_le, nat_lt, ◌≤◌, ◌<◌, ◌^◌};
+ghost use Rattle.xml_tokens.specs.declared.lexeme.Body.TheVariants as body;
+
 use crate::attributes::has_duplicate;
 use crate::copier::Copier;
 use crate::pass::Pass;
@@ -30,6 +33,9 @@ pub struct Walk {
 }
 
 impl Walk {
+    ghost use Rattle.stx_engine.specs.Document.{is_complete, is_innermost, is_inside};
+    ghost use Rattle.stx_engine.specs.More.{IsBegun, IsSettled, IsWritten, MatchingEnds, Takes, before_of, names_of};
+
     pub fn new(alloc: Global, limits: Limits, pass: Pass) -> Walk {
         Walk {
             alloc,
@@ -43,7 +49,9 @@ impl Walk {
     }
 
     /// Whether the root was read to its end.
-    pub fn is_complete(&self) -> bool {
+    pub fn is_complete(&self) -> bool
+        ensures { result ≡ is_complete (before_of self.now) }
+    {
         self.rooted && !self.is_inside()
     }
 
@@ -54,7 +62,7 @@ impl Walk {
             return Ok(Some(XmlFault { kind, offset }));
         }
         match body {
-            Body::Chars { text, .. } => self.take_chars(text)?,
+            Body::Chars { text, blank } => self.take_chars(text, blank)?,
             Body::Start { name, attrs, empty } => self.take_start(Tag { name, attrs }, empty)?,
             Body::End { name } => self.take_end(&name)?,
         }
@@ -67,18 +75,24 @@ impl Walk {
     }
 
     // An element is open.
-    fn is_inside(&self) -> bool {
+    fn is_inside(&self) -> bool
+        ensures { result ≡ is_inside (names_of self.now) }
+    {
         self.held.is_some() || !self.begun.is_empty()
     }
 
     // As many elements are open as may be.
-    fn is_full(&self) -> bool {
+    fn is_full(&self) -> bool
+        ensures { result ≡ nat_le self.now.limits.depth (length (names_of self.now)) }
+    {
         let held = usize::from(self.held.is_some());
         self.begun.len() >= (self.limits.depth as usize).saturating_sub(held)
     }
 
     // The innermost open element has this name.
-    fn is_innermost(&self, name: &Text) -> bool {
+    fn is_innermost(&self, name: &Text) -> bool
+        ensures { result ≡ is_innermost name.now (names_of self.now) }
+    {
         match &self.held {
             Some(tag) => tag.name.same(name),
             None => match self.begun.last() {
@@ -90,15 +104,17 @@ impl Walk {
 
     // The text, after the one that it follows directly, has more characters than a text may have. They are counted
     // only where there are more bytes.
-    fn is_too_long(&self, text: &Text) -> bool {
+    fn is_too_long(&self, text: &Text) -> bool
+        ensures { result ≡ nat_lt self.now.limits.text (length (self.now.run ++ text.now)) }
+    {
         let limit = self.limits.text;
-        let before = self.run.as_str();
-        let text = text.as_str();
-        (before.len() as u64).saturating_add(text.len() as u64) > limit
-            && (before.chars().count() as u64).saturating_add(text.chars().count() as u64) > limit
+        (byte_len(&self.run) + byte_len(text)) as u64 > limit
+            && (char_count(&self.run) + char_count(text)) as u64 > limit
     }
 
-    fn fault_of(&self, body: &Body) -> Result<Option<XmlKind>, Memory> {
+    fn fault_of(&self, body: &Body) -> Result<Option<XmlKind>, Memory>
+        ensures { MatchingEnds self.now body.now result }
+    {
         let fault = match body {
             Body::Chars { text, blank } => {
                 let is_refused = if self.is_inside() {
@@ -119,45 +135,87 @@ impl Walk {
         Ok(fault)
     }
 
-    fn take_chars(&mut self, text: Text) -> Result<(), Memory> {
-        if self.is_inside() {
-            if self.run.is_empty() {
-                self.run = text;
-            } else {
-                self.run.push_str(text.as_str())?;
-            }
+    fn take_chars(&mut self, text: Text, blank: bool) -> Result<(), Memory>
+        ensures { OnOk result (Takes (body.Chars text blank) self.old self.new) }
+    {
+        if !self.is_inside() {
+            return Ok(());
         }
-        Ok(())
+        if self.run.is_empty() {
+            self.run = text;
+            return Ok(());
+        }
+        self.run.push_str(text.as_str())
     }
 
-    fn take_start(&mut self, tag: Tag, empty: bool) -> Result<(), Memory> {
+    fn take_start(&mut self, tag: Tag, empty: bool) -> Result<(), Memory>
+        ensures { OnOk result (Takes (body.Start tag.name tag.attrs empty) self.old self.new) }
+    {
         self.settle()?;
         self.rooted = true;
         if empty {
             self.copier.start(&tag.name, &tag.attrs)?;
-            self.copier.end(&tag.name)?;
+            self.copier.end(&tag.name)
         } else {
             self.held = Some(tag);
+            Ok(())
         }
-        Ok(())
     }
 
-    fn take_end(&mut self, name: &Text) -> Result<(), Memory> {
+    fn take_end(&mut self, name: &Text) -> Result<(), Memory>
+        requires { is_innermost name.now (names_of self.old) ≡ true }
+        ensures { OnOk result (Takes (body.End name.now) self.old self.new) }
+    {
         self.settle()?;
         let _ = self.begun.pop();
         self.copier.end(name)
     }
 
     // Something follows in the innermost open list: its element is ready, and a text before it is a node.
-    fn settle(&mut self) -> Result<(), Memory> {
-        if let Some(Tag { name, attrs }) = self.held.take() {
-            self.copier.start(&name, &attrs)?;
-            self.begun.push(name)?;
+    fn settle(&mut self) -> Result<(), Memory>
+        ensures { OnOk result (IsSettled self.old self.new) }
+    {
+        self.begin()?;
+        self.write_run()
+    }
+
+    // The start tag that is held is begun.
+    fn begin(&mut self) -> Result<(), Memory>
+        ensures { OnOk result (IsBegun self.old self.new) }
+    {
+        match self.held.take() {
+            None => Ok(()),
+            Some(Tag { name, attrs }) => {
+                self.copier.start(&name, &attrs)?;
+                self.begun.push(name)
+            }
         }
-        if !self.run.is_empty() {
-            self.copier.chars(&self.run)?;
-            self.run = Text::new(self.alloc);
+    }
+
+    fn write_run(&mut self) -> Result<(), Memory>
+        requires { self.old.held ≡ None }
+        ensures { OnOk result (IsWritten self.old self.new) }
+    {
+        if self.run.is_empty() {
+            return Ok(());
         }
+        self.copier.chars(&self.run)?;
+        self.run = Text::new(self.alloc);
         Ok(())
     }
+}
+
+// At least as many as there are characters.
+fn byte_len(text: &Text) -> usize
+    ensures chars { length text.now ≤ result }
+    ensures small { result < 2 ^ 63 }
+{
+    text.as_str().len()
+}
+
+fn char_count(text: &Text) -> usize
+    ensures count { result ≡ length text.now }
+    ensures small { result < 2 ^ 63 }
+{
+    text.as_str().chars().count()
 }

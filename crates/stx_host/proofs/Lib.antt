@@ -1,5 +1,6 @@
 pub mod CopiedSoFar
 pub mod Counts
+pub mod OpenIds
 pub mod Stretches
 pub mod Tables
 pub mod ToCome

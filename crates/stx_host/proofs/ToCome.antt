@@ -70,7 +70,7 @@ pub ids_of-filter : {T : Type 0} (id : ℕ) (slots : List (Slot T)) → ids_of (
 ids_of-filter id [] = refl
 ids_of-filter id (slot ∷ slots) = ids_step (not (slot.id == id)) slot (filter (λ s. not (s.id == id)) slots) (filter (λ k. not (k == id)) (ids_of slots)) (ids_of-filter id slots)
 
-other_id : (k id j : ℕ) → k ≢ id → (j == k) ≡ true → not (j == id) ≡ true
+pub other_id : (k id j : ℕ) → k ≢ id → (j == k) ≡ true → not (j == id) ≡ true
 other_id k id j h e = grind (arith, nat_tests)
 
 same_id : (k id j : ℕ) → k ≡ id → not (j == id) ≡ true → (j == k) ≡ false
@@ -79,7 +79,7 @@ same_id k id j h e = grind (arith, nat_tests)
 differs : (k id j : ℕ) → k ≢ id → (j == id) ≡ true → (j == k) ≡ false
 differs k id j h e = grind (arith, nat_tests)
 
-eq_self : (id : ℕ) → (id == id) ≡ true
+pub eq_self : (id : ℕ) → (id == id) ≡ true
 eq_self id = grind (arith, nat_tests)
 
 eq_other : (k id : ℕ) → k ≢ id → (k == id) ≡ false
@@ -224,3 +224,9 @@ to_come-end main at docs old new id n none e =
 -- the first bytes of a document are all of it
 pub rest_of-first : (docs : List Doc) (at : ℕ) → rest_of docs (record { doc = at; at = 0 }) ≡ option_map (λ doc. doc.bytes) (slice_get docs at)
 rest_of-first docs at = refl
+
+-- after a read of the main document
+pub to_come-main : (main : List ℕ) (at n : ℕ) (docs : List Doc) (slots : List (Slot Reading)) → all_to_come main (at + n) docs slots ≡ with_bytes (all_to_come main at docs slots) 0 (Some (drop n (drop at main)))
+to_come-main main at n docs slots = by_id (all_to_come main (at + n) docs slots) (all_to_come main at docs slots) 0 (Some (drop n (drop at main)))
+    (ap (λ bytes. Some bytes) (sym (drop-drop n at main)))
+    (λ k other. ap (λ b. if b then Some (drop (at + n) main) else rest_of_id docs slots k) (eq_other k 0 other) ∙ sym (ap (λ b. if b then Some (drop at main) else rest_of_id docs slots k) (eq_other k 0 other)))

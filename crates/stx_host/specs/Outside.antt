@@ -71,19 +71,22 @@ pub record Raises (before now : ℕ) : Type 0 where
   pub rose : Rose before now
   pub is_u64 : now < 2 ^ 64
 
--- nothing changed but this count, and that rose
+-- nothing changed but the count of documents, and that rose
 pub record DocFault (old new : Outside) : Type 0 where
   pub alone : new ≡ record old { doc_faults = new.doc_faults }
   pub count : Raises old.doc_faults new.doc_faults
 
+-- the same of the count of the main document
 pub record MainFault (old new : Outside) : Type 0 where
   pub alone : new ≡ record old { main_faults = new.main_faults }
   pub count : Raises old.main_faults new.main_faults
 
+-- the same of the count of `Out`
 pub record OutFault (old new : Outside) : Type 0 where
   pub alone : new ≡ record old { out_faults = new.out_faults }
   pub count : Raises old.out_faults new.out_faults
 
+-- the same of the count of `Note`
 pub record NoteFault (old new : Outside) : Type 0 where
   pub alone : new ≡ record old { note_faults = new.note_faults }
   pub count : Raises old.note_faults new.note_faults

@@ -1,5 +1,5 @@
 //! What follows of the calls of a host, for code that makes many of them.
-ghost use Rattle.stx_host.specs.Laws.{NothingBetween, BetweenJoins, BetweenOpen, BetweenRead, BetweenClose, BetweenWrites, BetweenFault, CountsJoin, CountsAtOpen, CountsAtRead, CountsAtClose, CountsAtWrite, RoseAndLater, LaterAndRose};
+ghost use Rattle.stx_host.specs.Laws.{NothingBetween, BetweenJoins, BetweenOpen, BetweenRead, BetweenClose, BetweenWrites, BetweenFault, GivenIsOpen, StaysOpen, GivenBack, CountsJoin, CountsAtOpen, CountsAtRead, CountsAtClose, CountsAtWrite, RoseAndLater, LaterAndRose};
 
 /// The acts of calls one after another, what the lanes took by them, and what they read of the
 /// main document, add up.
@@ -11,6 +11,14 @@ pub fn acts_add_up()
     ensures close { BetweenClose }
     ensures writes { BetweenWrites }
     ensures fault { BetweenFault }
+{}
+
+/// An id stays open from the call that gives it to the one that gives it back, and then the ids are
+/// as they were.
+pub fn ids_come_and_go()
+    ensures given { GivenIsOpen }
+    ensures stays { StaysOpen }
+    ensures back { GivenBack }
 {}
 
 /// No call lowers a count, and what rose in one call has risen over any stretch of time around it.

@@ -13,6 +13,9 @@ mod table;
 pub use act::{Act, Call, Doc, Fail, Got, Lane, Opened, Put};
 pub use copy::{Copying, copy_main, write_all};
 pub use host::Host;
-pub use laws::{acts_add_up, counts_go_on};
+pub use laws::{acts_add_up, counts_go_on, ids_come_and_go};
 pub use mem_host::MemHost;
 pub use real_host::RealHost;
+
+#[cfg(test)]
+mod tests;

@@ -1,6 +1,6 @@
-ghost use Rattle.std.specs.Prelude.{◌≡◌, ℕ, ◌+◌, ◌<◌, ◌≤◌, ◌∷◌, [], ◌++◌, length, take, drop, min, ◌==◌, true, false, IfOk, IfSome, IfNone, Some, None, position, bytes_eq, vec_len, vec_capacity, ◌↔◌, IsTrue, option_map};
+ghost use Rattle.std.specs.Prelude.{◌≡◌, ◌≢◌, ◌-◌, ◌⊎◌, ℕ, ◌+◌, ◌<◌, ◌≤◌, ◌∷◌, [], ◌++◌, length, take, drop, min, ◌==◌, true, false, IfOk, IfSome, IfNone, Some, None, position, bytes_eq, vec_len, vec_capacity, ◌↔◌, IsTrue, option_map, Contains};
 ghost use Rattle.stx_host.specs.Outside.{with_bytes, IsOpen, IsReadable, MayOpen, Opens, MayRead, Reads, Closes, MayWrite, Writes, place};
-ghost use Rattle.stx_host.specs.MemHost.{outside_of, rest_of, rest_of_id, Gives, Puts};
+ghost use Rattle.stx_host.specs.MemHost.{start_of, calls_so_far, HasRoom, next_call, read_call, cut_at, outside_of, rest_of, rest_of_id, Gives, Puts, GivesMost, IsFull, CallFails, OpenFails, ReadFails, WriteFails, LeavesAct, KeepsPlan, IsCounted};
 ghost use Rattle.stx_host.specs.Table.{ids_of};
 
 use crate::act::{Act, Call, Doc, Fail, Got, Lane, Opened, Put};
@@ -62,7 +62,12 @@ impl MemHost {
         fails: List<Fail>,
         acts: usize,
         bytes: usize,
-    ) -> Result<MemHost, Memory> {
+    ) -> Result<MemHost, Memory>
+        ensures starts { IfOk result (λ host. outside_of host ≡ start_of main docs) }
+        ensures plan { IfOk result (λ host. (host.main ≡ main) × (host.docs ≡ docs) × (host.cuts ≡ cuts) × (host.fails ≡ fails)) }
+        ensures calls { IfOk result (λ host. (call : Call) → calls_so_far host call ≡ 0) }
+        ensures room { IfOk result (λ host. HasRoom host acts bytes) }
+    {
         Ok(MemHost {
             main,
             docs,
@@ -86,7 +91,7 @@ impl MemHost {
 
 /// Whether nothing more can be pushed without taking memory.
 fn is_full(log: &Vec<Act>) -> bool
-    ensures { IsTrue result ↔ (vec_capacity log.now ≤ vec_len log.now) }
+    ensures { IsTrue result ↔ IsFull log.now }
 {
     log.capacity() <= log.len()
 }
@@ -94,7 +99,8 @@ fn is_full(log: &Vec<Act>) -> bool
 /// Adds an act.
 fn add_act(log: &mut Vec<Act>, act: Act)
     requires { vec_len log.old < vec_capacity log.old }
-    ensures { log.new.items ≡ log.old.items ++ act ∷ [] }
+    ensures added { log.new.items ≡ log.old.items ++ act ∷ [] }
+    ensures room { vec_capacity log.old ≤ vec_capacity log.new }
 {
     let _ = log.push(act);
 }
@@ -118,15 +124,18 @@ fn give(bytes: &[u8], at: usize, most: usize, room: &mut [u8]) -> usize
     count
 }
 
-/// Counts a call, and says whether it is one that is to fail.
-fn counted(calls: &mut u64, fails: &List<Fail>, call: Call) -> bool {
+/// Counts a call, and says whether it is one that is to fail, or for which the log has no room.
+fn must_fail(calls: &mut u64, fails: &List<Fail>, call: Call, log: &Vec<Act>) -> bool
+    ensures number { calls.new ≡ next_call calls.old }
+    ensures fails { IsTrue result ↔ (Contains fails.now (record { call = call; nth = next_call calls.old }) ⊎ IsFull log.now) }
+{
     *calls = calls.saturating_add(1);
-    fails.as_slice().contains(&Fail { call, nth: *calls })
+    fails.as_slice().contains(&Fail { call, nth: *calls }) || is_full(log)
 }
 
 /// The largest length of the nth read of the main document, counted from 1.
 fn cut(cuts: &List<u32>, nth: u64, room: usize) -> usize
-    ensures { 0 < room → 0 < result }
+    ensures { result ≡ cut_at cuts.now nth room }
 {
     match cuts.get(nth.saturating_sub(1) as usize) {
         Some(most) => (*most).max(1) as usize,
@@ -154,6 +163,7 @@ fn give_open(docs: &List<Doc>, table: &mut Table<Reading>, id: u32, room: &mut [
     ensures moved { rest_of_id docs.now table.new.slots.items ≡ with_bytes (rest_of_id docs.now table.old.slots.items) id
         (option_map (λ bytes. drop result bytes) (rest_of_id docs.now table.old.slots.items id)) }
     ensures ids { ids_of table.new.slots.items ≡ ids_of table.old.slots.items }
+    ensures room { vec_capacity table.old.slots ≤ vec_capacity table.new.slots }
     ensures len { length room.new ≡ length room.old }
 {
     let Some(at) = table.position(id) else {
@@ -165,16 +175,19 @@ fn give_open(docs: &List<Doc>, table: &mut Table<Reading>, id: u32, room: &mut [
 
 /// Writes all of the bytes to a lane, or fails.
 fn put(
-    listed: bool,
+    must_fail: bool,
     log: &mut Vec<Act>,
     taken: &mut Vec<u8>,
     faults: &mut u64,
     lane: Lane,
     bytes: &[u8],
 ) -> Put
-    ensures { Puts log.old.items taken.old.items faults.old lane bytes.now result log.new.items taken.new.items faults.new }
+    requires { IsFull log.old → IsTrue must_fail }
+    ensures change { Puts log.old.items taken.old.items faults.old lane bytes.now result log.new.items taken.new.items faults.new }
+    ensures fails { (result ≡ Put.Failed) ↔ (IsTrue must_fail ⊎ (vec_capacity taken.old - vec_len taken.old < length bytes.now)) }
+    ensures room { (vec_capacity log.old ≤ vec_capacity log.new) × (vec_capacity taken.old ≤ vec_capacity taken.new) }
 {
-    if listed || is_full(log) || taken.capacity() - taken.len() < bytes.len() {
+    if must_fail || taken.capacity() - taken.len() < bytes.len() {
         *faults = raised(*faults);
         return Put::Failed;
     }
@@ -189,9 +202,18 @@ impl MemHost {
         requires { 0 < length room.old }
         ensures answer { MayRead (outside_of self.old) 0 result room.new }
         ensures change { Reads (outside_of self.old) 0 result (outside_of self.new) }
+        ensures fails { (result ≡ Got.Failed) ↔ CallFails self.old Call.ReadMain }
+        ensures most { GivesMost self.old 0 result (length room.old) }
+        ensures plan { KeepsPlan self.old self.new }
+        ensures counted { IsCounted Call.ReadMain self.old self.new }
     {
-        let listed = counted(&mut self.calls.read_main, &self.fails, Call::ReadMain);
-        if listed || is_full(&self.log) {
+        let fails = must_fail(
+            &mut self.calls.read_main,
+            &self.fails,
+            Call::ReadMain,
+            &self.log,
+        );
+        if fails {
             self.faults.main = raised(self.faults.main);
             return Got::Failed;
         }
@@ -204,14 +226,51 @@ impl MemHost {
         self.main_at += count;
         Got::Bytes(count)
     }
+
+    fn read_doc(&mut self, id: u32, room: &mut [u8]) -> Got
+        requires id { 0 < id }
+        requires room { 0 < length room.old }
+        ensures answer { MayRead (outside_of self.old) id result room.new }
+        ensures change { Reads (outside_of self.old) id result (outside_of self.new) }
+        ensures fails { (result ≡ Got.Failed) ↔ CallFails self.old Call.ReadDoc }
+        ensures most { GivesMost self.old id result (length room.old) }
+        ensures plan { KeepsPlan self.old self.new }
+        ensures counted { IsCounted Call.ReadDoc self.old self.new }
+    {
+        let fails = must_fail(
+            &mut self.calls.read_doc,
+            &self.fails,
+            Call::ReadDoc,
+            &self.log,
+        );
+        if fails {
+            self.faults.doc = raised(self.faults.doc);
+            return Got::Failed;
+        }
+        let count = give_open(&self.docs, &mut self.table, id, room);
+        add_act(&mut self.log, Act::Read { id, got: count });
+        if count == 0 {
+            return Got::End;
+        }
+        Got::Bytes(count)
+    }
 }
 
 impl Host for MemHost {
     ghost outside = { outside_of };
 
-    fn open(&mut self, name: &Text) -> Opened {
-        let listed = counted(&mut self.calls.open, &self.fails, Call::Open);
-        if listed || is_full(&self.log) {
+    /// Fails exactly where the call is listed in `fails`, the log has no room, or an id is needed
+    /// and there is no room for one more or every number above 0 is open.
+    fn open(&mut self, name: &Text) -> Opened
+        ensures answer { MayOpen (outside_of self.old) name.now result }
+        ensures change { Opens (outside_of self.old) name.now result (outside_of self.new) }
+        ensures fails { (result ≡ Opened.Failed) ↔ OpenFails self.old name.now }
+        ensures no_memory { result ≢ Opened.Memory }
+        ensures plan { KeepsPlan self.old self.new }
+        ensures counted { IsCounted Call.Open self.old self.new }
+    {
+        let fails = must_fail(&mut self.calls.open, &self.fails, Call::Open, &self.log);
+        if fails {
             self.faults.doc = raised(self.faults.doc);
             return Opened::Failed;
         }
@@ -227,35 +286,53 @@ impl Host for MemHost {
         Opened::Id(id)
     }
 
-    fn read(&mut self, id: u32, room: &mut [u8]) -> Got {
+    /// Fails exactly where the call is listed in `fails`, or the log has no room.
+    fn read(&mut self, id: u32, room: &mut [u8]) -> Got
+        requires open { IsReadable (outside_of self.old).open_ids id }
+        requires room { 0 < length room.old }
+        ensures answer { MayRead (outside_of self.old) id result room.new }
+        ensures change { Reads (outside_of self.old) id result (outside_of self.new) }
+        ensures fails { (result ≡ Got.Failed) ↔ ReadFails self.old id }
+        ensures most { GivesMost self.old id result (length room.old) }
+        ensures plan { KeepsPlan self.old self.new }
+        ensures counted { IsCounted (read_call id) self.old self.new }
+    {
         if id == 0 {
-            return self.read_main(room);
+            self.read_main(room)
+        } else {
+            self.read_doc(id, room)
         }
-        let listed = counted(&mut self.calls.read_doc, &self.fails, Call::ReadDoc);
-        if listed || is_full(&self.log) {
-            self.faults.doc = raised(self.faults.doc);
-            return Got::Failed;
-        }
-        let count = give_open(&self.docs, &mut self.table, id, room);
-        add_act(&mut self.log, Act::Read { id, got: count });
-        if count == 0 {
-            return Got::End;
-        }
-        Got::Bytes(count)
     }
 
-    fn close(&mut self, id: u32) {
+    /// Leaves an act exactly where the log has room for it.
+    fn close(&mut self, id: u32)
+        requires { IsOpen (outside_of self.old).open_ids id }
+        ensures change { Closes (outside_of self.old) id (outside_of self.new) }
+        ensures act { LeavesAct self.old id self.new }
+        ensures plan { KeepsPlan self.old self.new }
+        ensures calls { self.new.calls ≡ self.old.calls }
+    {
         self.table.remove(id);
         if !is_full(&self.log) {
             add_act(&mut self.log, Act::Close(id));
         }
     }
 
-    fn write(&mut self, lane: Lane, bytes: &[u8]) -> Put {
-        let listed = counted(&mut self.calls.write, &self.fails, Call::Write);
+    /// Takes all of the bytes, or fails: exactly where the call is listed in `fails`, the log has no
+    /// room, or the lane has too little.
+    fn write(&mut self, lane: Lane, bytes: &[u8]) -> Put
+        requires { 0 < length bytes.now }
+        ensures answer { MayWrite bytes.now result }
+        ensures change { Writes (outside_of self.old) lane bytes.now result (outside_of self.new) }
+        ensures fails { (result ≡ Put.Failed) ↔ WriteFails self.old lane bytes.now }
+        ensures all { (result ≡ Put.Failed) ⊎ (result ≡ Put.Took (length bytes.now)) }
+        ensures plan { KeepsPlan self.old self.new }
+        ensures counted { IsCounted Call.Write self.old self.new }
+    {
+        let fails = must_fail(&mut self.calls.write, &self.fails, Call::Write, &self.log);
         match lane {
             Lane::Out => put(
-                listed,
+                fails,
                 &mut self.log,
                 &mut self.out,
                 &mut self.faults.out,
@@ -263,7 +340,7 @@ impl Host for MemHost {
                 bytes,
             ),
             Lane::Note => put(
-                listed,
+                fails,
                 &mut self.log,
                 &mut self.note,
                 &mut self.faults.note,

@@ -1,4 +1,4 @@
-//! The worked rows of the language, over `transform` and a host in memory: tests alone.
+//! Runs from words and documents to output, note and status, over `transform` and a host in memory: tests alone.
 #![tactic(auto)]
 
 #[cfg(test)]

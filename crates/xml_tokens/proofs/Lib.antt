@@ -6,3 +6,6 @@ pub mod ReaderLemmas
 pub mod WholeLemmas
 pub mod AnswerLemmas
 pub mod RunLemmas
+pub mod CutLemmas
+pub mod SpellingLemmas
+pub mod SaysLemmas

@@ -13,7 +13,7 @@ use Rattle.std.proofs.lemmas.Str.Ascii.{IsAscii-cons, IsAscii-nil}
 use Rattle.stx_base.specs.Character.{is_space, is_name_char}
 use Rattle.xml_tokens.specs.Plain.{as_space, is_break, judged, tag, chars, is_plain, named, quoted, until_quote, attribute, attributes, after_space, after_byte, is_plain_name, as_read, tag_end, with_first}
 
-some_if : {A : Type 0} (b : Bool) (x y : A) → cond b (Some x) None ≡ Some y → x ≡ y
+pub some_if : {A : Type 0} (b : Bool) (x y : A) → cond b (Some x) None ≡ Some y → x ≡ y
 some_if true x y h = cc
 some_if false x y h = absurd cc
 
@@ -46,17 +46,17 @@ named-shorter bytes found h =
     let e = some_if (is_plain_name (take len bytes)) (take len bytes, drop len bytes) found h in
     subst (λ (p : List ℕ × List ℕ). length p.1 ≤ length bytes) e (omega (arith, length-drop len bytes))
 
-after_byte-is : (b : ℕ) (bytes rest : List ℕ) → after_byte b bytes ≡ Some rest → (first : ℕ) × (bytes ≡ first ∷ rest)
+pub after_byte-is : (b : ℕ) (bytes rest : List ℕ) → after_byte b bytes ≡ Some rest → (first : ℕ) × (bytes ≡ first ∷ rest)
 after_byte-is b [] rest h = absurd cc
 after_byte-is b (x ∷ xs) rest h = (x, ap (λ l. x ∷ l) (some_if (x == b) xs rest h))
 
 pub after_byte-ascii : (b : ℕ) (bytes rest : List ℕ) → after_byte b bytes ≡ Some rest → IsAscii bytes → IsAscii rest
 after_byte-ascii b bytes rest h ascii = let is = after_byte-is b bytes rest h in λ i. subst IsAscii is.1 ascii (suc i)
 
-until_quote-is : (quote : ℕ) (bytes : List ℕ) (found : List ℕ × List ℕ) → until_quote quote bytes ≡ Some found → let len = position_or_len (λ b. b == quote) bytes in (take len bytes, drop (len + 1) bytes) ≡ found
+pub until_quote-is : (quote : ℕ) (bytes : List ℕ) (found : List ℕ × List ℕ) → until_quote quote bytes ≡ Some found → let len = position_or_len (λ b. b == quote) bytes in (take len bytes, drop (len + 1) bytes) ≡ found
 until_quote-is quote bytes found h = some_if _ _ _ h
 
-quoted-is : (bytes : List ℕ) (found : List ℕ × List ℕ) → quoted bytes ≡ Some found → (quote : ℕ) × (rest : List ℕ) × (bytes ≡ quote ∷ rest) × (until_quote quote rest ≡ Some found)
+pub quoted-is : (bytes : List ℕ) (found : List ℕ × List ℕ) → quoted bytes ≡ Some found → (quote : ℕ) × (rest : List ℕ) × (bytes ≡ quote ∷ rest) × (until_quote quote rest ≡ Some found)
 unfolding quoted
 quoted-is [] found h = absurd cc
 quoted-is (quote ∷ bytes) found h =
@@ -80,7 +80,7 @@ quoted-ascii bytes found h ascii =
     subst IsAsciiPair (until_quote-is parts.0 parts.1 found parts.3) (IsAscii-take parts.1 len rest, IsAscii-drop parts.1 (len + 1) rest)
 
 -- an attribute's parts
-attribute-is : (bytes : List ℕ) (found : List ℕ × List ℕ × List ℕ) → attribute bytes ≡ Some found →
+pub attribute-is : (bytes : List ℕ) (found : List ℕ × List ℕ × List ℕ) → attribute bytes ≡ Some found →
     (name : List ℕ × List ℕ) × (rest : List ℕ) × (value : List ℕ × List ℕ) × (named bytes ≡ Some name) × (after_byte 61 (after_space name.1) ≡ Some rest) × (quoted (after_space rest) ≡ Some value)
     × ((name.0, value.0, value.1) ≡ found)
 unfolding attribute
@@ -184,3 +184,11 @@ attributes-next rest name value more n ne a =
     attributes-other (length rest) rest n ne
     ∙ (ap (option_and_then (λ found. option_map (with_first (as_read found)) (attributes (length rest) found.2))) a
     ∙ ap (option_map (with_first (as_read (name, value, more)))) (attributes-enough (length rest) (suc (length more)) more (omega (arith, shorter, length-drop (prefix_len is_space rest) rest)) (omega arith)))
+
+pub no_attributes : (bytes : List ℕ) (found : List RawAttr × Bool) → attributes zero bytes ≡ Some found → ⊥
+unfolding attributes
+no_attributes bytes found h = cc
+
+pub no_name : is_plain_name [] ≡ true → ⊥
+unfolding is_plain_name
+no_name h = cc

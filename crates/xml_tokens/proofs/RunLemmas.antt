@@ -257,7 +257,7 @@ after-shorter r l fresh h =
     let e = ap (λ (x : Reader). length x.unread) (after-lexeme r l) in
     omega (arith, w.0, w.1, e, length-drop (size r) r.unread)
 
-after_more : (r : Reader) (rest : List ℕ) (ended : Bool) (l : Lexeme) → r.over ≡ None → r.ended ≡ false → due r ≡ step.Lexeme l →
+pub after_more : (r : Reader) (rest : List ℕ) (ended : Bool) (l : Lexeme) → r.over ≡ None → r.ended ≡ false → due r ≡ step.Lexeme l →
     after (with_rest r rest ended) (step.Lexeme l) ≡ with_rest (after r (step.Lexeme l)) rest ended
 after_more r rest ended l fresh going h =
     let there = with_rest r rest ended in

@@ -1,5 +1,7 @@
 pub mod Places
 pub mod Shape
+pub mod Cuts
+pub mod Spelling
 pub mod Plain
 pub mod Reader
 pub mod Run

@@ -63,6 +63,7 @@ coming r = drop (mark_len r) (seen r)
 abbrev pub place : Reader → ℕ
 place r = r.offset + mark_len r
 
+-- a form that more bytes decide
 abbrev pub is_undecided : Form → Bool
 is_undecided Undecided = true
 is_undecided other = false
@@ -76,6 +77,7 @@ is_undecided_at at bytes = is_undecided (form bytes) || (at == 0 && is_part byte
 abbrev pub is_open : Reader → Bool
 is_open r = not (is_last r) && is_undecided_at (place r) (coming r)
 
+-- a fault at a place
 abbrev pub bad : XmlKind → ℕ → Ending
 bad kind at = ending.Bad (record { kind = kind; offset = at })
 

@@ -1,8 +1,11 @@
 -- The lexemes of a whole document.
-use Rattle.std.specs.Prelude.{◌≡◌, ℕ, true, List, [], ◌∷◌, ◌++◌, Option, Some, None}
+use Rattle.std.specs.Prelude.{◌≡◌, ◌≢◌, ◌≤◌, ◌+◌, ℕ, Bool, true, false, List, [], ◌∷◌, ◌++◌, Option, Some, None, length, drop}
 use Rattle.stx_base.specs.declared.limits.Limits.{Limits}
-use Rattle.xml_tokens.specs.Reader.{Reader, due, after, step_of}
+use Rattle.xml_tokens.specs.Reader.{Reader, mark_len_of, due, after, step_of}
+use Rattle.xml_tokens.specs.Plain.{judged}
+use Rattle.xml_tokens.specs.Cuts.{Cuts}
 use Rattle.xml_tokens.specs.declared.lexeme.Ending.{Ending}
+use Rattle.xml_tokens.specs.declared.lexeme.Ending.TheVariants as ending
 use Rattle.xml_tokens.specs.declared.lexeme.Lexeme.{Lexeme}
 use Rattle.xml_tokens.specs.declared.lexeme.Step.TheVariants as step
 
@@ -25,3 +28,33 @@ IsDrained old lexemes new all None =
     (taken : List Lexeme) × (all ≡ lexemes ++ taken) × Taken old taken new × (due new ≡ step.Need)
 IsDrained old lexemes new all (Some over) =
     (taken : List Lexeme) × (rest : Reader) × (all ≡ lexemes ++ taken) × Taken old taken rest × (due rest ≡ step_of over)
+
+-- the shapes say these lexemes, one behind another from a place on
+abbrev pub Says : ℕ → List (List ℕ) → List Lexeme → Type 0
+Says at [] [] = Unit {0}
+Says at [] (lexeme ∷ lexemes) = ⊥
+Says at (shape ∷ shapes) [] = ⊥
+Says at (shape ∷ shapes) (lexeme ∷ lexemes) =
+    (lexeme.offset ≡ at) × (judged shape ≡ Some lexeme.body) × Says (at + length shape) shapes lexemes
+
+-- a document that is read to its end is, behind a byte order mark, the shapes that say its lexemes
+abbrev pub ShapesSayLexemes : Type 0
+ShapesSayLexemes = (limits : Limits) (bytes : List ℕ) (lexemes : List Lexeme) → length bytes ≤ limits.input → Lexes (document limits bytes) lexemes ending.End →
+    (shapes : List (List ℕ)) × Cuts true (drop (mark_len_of 0 bytes) bytes) shapes [] × Says (mark_len_of 0 bytes) shapes lexemes
+
+-- the document goes on with these bytes, and ends behind them or not
+abbrev pub going_on : Reader → List ℕ → Bool → Reader
+going_on r rest ended = record r { unread = r.unread ++ rest; ended = ended }
+
+-- an answer other than `Need` stays, whatever bytes follow
+abbrev pub AnswersStay : Type 0
+AnswersStay = (r : Reader) (rest : List ℕ) (ended : Bool) → r.over ≡ None → r.ended ≡ false → due r ≢ step.Need → due (going_on r rest ended) ≡ due r
+
+-- so does what stands behind a lexeme
+abbrev pub LexemesStay : Type 0
+LexemesStay = (r : Reader) (rest : List ℕ) (ended : Bool) (lexeme : Lexeme) → r.over ≡ None → r.ended ≡ false → due r ≡ step.Lexeme lexeme →
+    after (going_on r rest ended) (step.Lexeme lexeme) ≡ going_on (after r (step.Lexeme lexeme)) rest ended
+
+-- one document has one run
+abbrev pub OneRun : Type 0
+OneRun = (r : Reader) (lexemes others : List Lexeme) (over other : Ending) → Lexes r lexemes over → Lexes r others other → (lexemes ≡ others) × (over ≡ other)

@@ -3,6 +3,7 @@
 
 mod form;
 mod judge;
+pub mod laws;
 mod lexeme;
 mod lexer;
 mod run;

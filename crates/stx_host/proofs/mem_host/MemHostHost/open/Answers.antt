@@ -19,5 +19,5 @@ returns-clause-change c =
     ∙ to_come-added host.main host.main_at host.docs slots id (record { doc = c.in-Some.doc; at = 0 }) added.above_zero added.not_open
     ∙ ap (λ o. with_bytes (all_to_come host.main host.main_at host.docs slots) id (option_and_then (λ at. option_map (λ doc. doc.bytes) (slice_get host.docs at)) o)) place in
     let ids = ap ids_of added.added ∙ map-append (λ slot. slot.id) slots (record { id = id; held = record { doc = c.in-Some.doc; at = 0 } } ∷ []) in
-    let log = c.add_act-2.ensures ∙ ap (λ doc. host.log.items ++ Open doc id ∷ []) place in
+    let log = c.add_act-2.ensures.added ∙ ap (λ doc. host.log.items ++ Open doc id ∷ []) place in
     λ i. record (outside_of host) { log = Some (log i); to_come = rest i; open_ids = Some (ids i) }

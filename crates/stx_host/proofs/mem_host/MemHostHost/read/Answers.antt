@@ -1,19 +1,14 @@
-use Rattle.std.proofs.Common.{◌<◌, [], ◌∷◌, ◌++◌, Some, ap, ◌∙◌, arith}
-use Rattle.stx_host.specs.declared.act.Act.TheVariants.{Read}
-use Rattle.stx_host.specs.MemHost.{outside_of}
-use Rattle.stx_host.proofs.ToCome.{to_come-read, to_come-end}
+use Rattle.std.proofs.Common.{◌≡◌, ◌==◌, ◌↔◌, false, sym, subst, if◌then◌else◌, arith}
+use Rattle.std.proofs.lemmas.Bool.Decides.{nat_tests}
+use Rattle.stx_host.specs.declared.act.Call.TheVariants.{ReadMain, ReadDoc}
+use Rattle.stx_host.specs.declared.act.Got.TheVariants.{Failed}
+use Rattle.stx_host.specs.MemHost.{CallFails, ReadFails}
 use Rattle.stx_host.proofs.mem_host.MemHostHost.read.Goals as goal
 
-pub returns-then-count-eq0-clause-change : goal.returns-then-count-eq0-clause-change
-returns-then-count-eq0-clause-change c =
-    let host = c.args.self.now in
-    let rest = to_come-end host.main host.main_at host.docs host.table.slots.items c.give_open-count.new.table.slots.items c.args.id c.give_open-count.result c.if-count-eq0.true c.give_open-count.ensures.moved in
-    let log = c.add_act.ensures ∙ ap (λ n. host.log.items ++ Read c.args.id n ∷ []) c.if-count-eq0.true in
-    λ i. record (outside_of host) { log = Some (log i); to_come = rest i; open_ids = Some (c.give_open-count.ensures.ids i) }
+pub returns-then-id-eq0-clause-fails : goal.returns-then-id-eq0-clause-fails
+returns-then-id-eq0-clause-fails c = subst (λ id. (c.read_main.result ≡ Failed) ↔ ReadFails c.args.self.now id) (sym c.if-id-eq0.true) c.read_main.ensures.fails
 
-pub returns-clause-change : goal.returns-clause-change
-returns-clause-change c =
-    let host = c.args.self.now in
-    let above : 0 < c.args.id = omega arith in
-    let rest = to_come-read host.main host.main_at host.docs host.table.slots.items c.give_open-count.new.table.slots.items c.args.id c.give_open-count.result above c.give_open-count.ensures.moved in
-    λ i. record (outside_of host) { log = Some (c.add_act.ensures i); to_come = rest i; open_ids = Some (c.give_open-count.ensures.ids i) }
+pub returns-else-id-eq0-clause-fails : goal.returns-else-id-eq0-clause-fails
+returns-else-id-eq0-clause-fails c =
+    let other : (c.args.id == 0) ≡ false = grind (arith, nat_tests) in
+    subst (λ b. (c.read_doc.result ≡ Failed) ↔ CallFails c.args.self.now (if b then ReadMain else ReadDoc)) (sym other) c.read_doc.ensures.fails

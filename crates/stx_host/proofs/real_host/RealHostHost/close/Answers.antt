@@ -6,6 +6,6 @@ use Rattle.stx_host.proofs.real_host.RealHostHost.close.Goals as goal
 
 pub returns : goal.returns
 returns g c =
-    let ids = ap ids_of c.remove.ensures ∙ ids_of-filter c.args.id c.args.self.now.table.slots.items in
+    let ids = ap ids_of c.remove.ensures.removed ∙ ids_of-filter c.args.id c.args.self.now.table.slots.items in
     let rest = sym (kept_bytes (λ id. None) c.args.id) in
     inr (λ i. record (outside_of c.args.self.now.table.slots.items c.args.self.now.faults) { to_come = rest i; open_ids = Some (ids i) })

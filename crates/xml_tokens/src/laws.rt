@@ -1,0 +1,30 @@
+//! Laws about the definitions that the lexer's contract cites. They do nothing.
+ghost use Rattle.xml_tokens.specs.Cuts.{JoinedAgain, OneCut, RestUnended, SomeCut};
+ghost use Rattle.xml_tokens.specs.Run.{AnswersStay, LexemesStay, OneRun, ShapesSayLexemes};
+ghost use Rattle.xml_tokens.specs.Spelling.{ReadIsSpelled, SpelledIsRead};
+
+/// Each list of bytes is cut into shapes and a rest, and in one way.
+pub fn cuts()
+    ensures joined { JoinedAgain }
+    ensures rest { RestUnended }
+    ensures some { SomeCut }
+    ensures one { OneCut }
+{}
+
+/// A document that is read to its end is the shapes that say its lexemes.
+pub fn lexemes()
+    ensures { ShapesSayLexemes }
+{}
+
+/// An answer other than `Need` stays, whatever bytes follow, and a document has one run.
+pub fn answers()
+    ensures stay { AnswersStay }
+    ensures after { LexemesStay }
+    ensures one { OneRun }
+{}
+
+/// A tag is read exactly where it is spelled as XML has it, so far as tags are read.
+pub fn tags()
+    ensures spelled { ReadIsSpelled }
+    ensures read { SpelledIsRead }
+{}
