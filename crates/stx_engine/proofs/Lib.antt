@@ -13,3 +13,4 @@ pub mod Planting
 pub mod Rereading
 pub mod Ending
 pub mod Faults
+pub mod Flattening

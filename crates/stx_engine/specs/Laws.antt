@@ -4,7 +4,8 @@ use Rattle.stx_base.specs.declared.fault.XmlKind.{XmlKind}
 use Rattle.stx_base.specs.declared.limits.Limits.{Limits}
 use Rattle.xml_tokens.specs.declared.lexeme.Lexeme.{Lexeme}
 use Rattle.xml_tokens.specs.declared.lexeme.Step.{Step}
-use Rattle.stx_engine.specs.Document.{Before, at_start, at_end, before_next, fault_of, reading}
+use Rattle.stx_engine.specs.Document.{Before, at_start, at_end, before_next, fault_of, reading, tree_of}
+use Rattle.stx_engine.specs.Flatten.{flatten, pieces}
 use Rattle.stx_engine.specs.Tree.{Bad}
 
 -- what stands behind lexemes
@@ -31,3 +32,9 @@ NoFault =
     (limits : Limits) (length : ℕ) (last : Step) (ls : List Lexeme)
     → AreSound limits at_start ls
     → (reading limits length last at_start ls).why ≡ at_end (behind at_start ls) length last
+
+-- Flattening the tree of what is read of lexemes gives these lexemes back: each start and end, and the texts between them.
+abbrev pub Flattened : Type 0
+Flattened =
+    (limits : Limits) (length : ℕ) (last : Step) (ls : List Lexeme)
+    → let read = reading limits length last at_start ls in flatten (tree_of read) ≡ pieces read.bodies

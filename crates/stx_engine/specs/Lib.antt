@@ -2,6 +2,7 @@ pub mod Answer
 pub mod Document
 pub mod Engine
 pub mod Escape
+pub mod Flatten
 pub mod Laws
 pub mod Lexed
 pub mod Line

@@ -11,7 +11,7 @@ ghost use Rattle.stx_engine.specs.Tree.{Need, Forest};
 ghost use Rattle.stx_engine.specs.Answer.{run_on, result_of, settled, answer, asked};
 ghost use Rattle.stx_engine.specs.Meaning.{Said, Put, Ending, Complete, Unready, code, meaning, outcome};
 ghost use Rattle.stx_engine.specs.Passed.{passed, ending_of};
-ghost use Rattle.stx_engine.specs.Laws.{FirstFault, NoFault};
+ghost use Rattle.stx_engine.specs.Laws.{FirstFault, Flattened, NoFault};
 ghost use Rattle.stx_engine.specs.Result.{text};
 ghost use Rattle.stx_engine.specs.Document.{Reading, tree_of};
 
@@ -54,4 +54,9 @@ pub fn documents_end()
 pub fn first_fault()
     ensures fault { FirstFault }
     ensures none { NoFault }
+{}
+
+/// Flattening a document's tree gives its lexemes back.
+pub fn flattened()
+    ensures { Flattened }
 {}

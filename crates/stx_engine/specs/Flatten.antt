@@ -1,0 +1,43 @@
+-- A tree as the tags and texts that it is made of (XML 1.0, 2.1 and 3.1).
+use Rattle.std.specs.Prelude.{ℕ, Bool, true, false, ◌&&◌, if◌then◌else◌, List, [], ◌∷◌, ◌++◌}
+use Rattle.stx_base.specs.declared.name.Name.{Name}
+use Rattle.xml_tokens.specs.declared.lexeme.Body.{Body}
+use Rattle.xml_tokens.specs.declared.lexeme.Body.TheVariants as body
+use Rattle.stx_engine.specs.Document.{element_of, plain_name}
+use Rattle.stx_engine.specs.Tree.{Mark, Leaf, Chars, Element, Forest, End, Cut, Single, Nested}
+
+-- a start, an end, or a text as long as possible
+pub data Piece : Type 0 where
+  Opens : Element → Piece
+  Closes : Name → Piece
+  Says : List ℕ → Piece
+
+-- the list ends, and each list in it
+abbrev pub is_closed : Forest → Bool
+is_closed (End m) = true
+is_closed (Cut why) = false
+is_closed (Single m leaf next) = is_closed next
+is_closed (Nested m e kids next) = is_closed kids && is_closed next
+
+-- an element whose list is cut is open: it has no end, and nothing follows it
+abbrev pub flatten : Forest → List Piece
+flatten (End m) = []
+flatten (Cut why) = []
+flatten (Single m (Chars text) next) = Says text ∷ flatten next
+flatten (Nested m e kids next) = Opens e ∷ (flatten kids ++ (if is_closed kids then Closes e.name ∷ flatten next else []))
+
+-- a text before pieces: an empty one is none, nor is one that nothing follows, and it joins a text that follows it
+abbrev pub said_before : List ℕ → List Piece → List Piece
+said_before [] ps = ps
+said_before (c ∷ cs) [] = []
+said_before (c ∷ cs) (Says more ∷ ps) = Says (c ∷ cs ++ more) ∷ ps
+said_before (c ∷ cs) (Opens e ∷ ps) = Says (c ∷ cs) ∷ Opens e ∷ ps
+said_before (c ∷ cs) (Closes n ∷ ps) = Says (c ∷ cs) ∷ Closes n ∷ ps
+
+-- lexemes as pieces: an empty-element tag is a start and an end
+abbrev pub pieces : List Body → List Piece
+pieces [] = []
+pieces (body.Chars text blank ∷ bs) = said_before text (pieces bs)
+pieces (body.Start name attrs empty ∷ bs) =
+    Opens (element_of name attrs) ∷ (if empty then Closes (plain_name name) ∷ pieces bs else pieces bs)
+pieces (body.End name ∷ bs) = Closes (plain_name name) ∷ pieces bs
