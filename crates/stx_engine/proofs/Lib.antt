@@ -14,3 +14,4 @@ pub mod Rereading
 pub mod Ending
 pub mod Faults
 pub mod Flattening
+pub mod Unflattening

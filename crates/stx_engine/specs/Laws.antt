@@ -5,8 +5,8 @@ use Rattle.stx_base.specs.declared.limits.Limits.{Limits}
 use Rattle.xml_tokens.specs.declared.lexeme.Lexeme.{Lexeme}
 use Rattle.xml_tokens.specs.declared.lexeme.Step.{Step}
 use Rattle.stx_engine.specs.Document.{Before, at_start, at_end, before_next, fault_of, reading, tree_of}
-use Rattle.stx_engine.specs.Flatten.{flatten, pieces}
-use Rattle.stx_engine.specs.Tree.{Bad}
+use Rattle.stx_engine.specs.Flatten.{flatten, pieces, IsCutTree}
+use Rattle.stx_engine.specs.Tree.{Why, Bad, Forest}
 
 -- what stands behind lexemes
 abbrev pub behind : Before → List Lexeme → Before
@@ -38,3 +38,7 @@ abbrev pub Flattened : Type 0
 Flattened =
     (limits : Limits) (length : ℕ) (last : Step) (ls : List Lexeme)
     → let read = reading limits length last at_start ls in flatten (tree_of read) ≡ pieces read.bodies
+
+-- A tree is the only one with its flattening.
+abbrev pub OnlyTree : Type 0
+OnlyTree = (why : Option Why) (x y : Forest) → IsCutTree why x → IsCutTree why y → flatten x ≡ flatten y → x ≡ y

@@ -11,7 +11,7 @@ ghost use Rattle.stx_engine.specs.Tree.{Need, Forest};
 ghost use Rattle.stx_engine.specs.Answer.{run_on, result_of, settled, answer, asked};
 ghost use Rattle.stx_engine.specs.Meaning.{Said, Put, Ending, Complete, Unready, code, meaning, outcome};
 ghost use Rattle.stx_engine.specs.Passed.{passed, ending_of};
-ghost use Rattle.stx_engine.specs.Laws.{FirstFault, Flattened, NoFault};
+ghost use Rattle.stx_engine.specs.Laws.{FirstFault, Flattened, NoFault, OnlyTree};
 ghost use Rattle.stx_engine.specs.Result.{text};
 ghost use Rattle.stx_engine.specs.Document.{Reading, tree_of};
 
@@ -58,5 +58,7 @@ pub fn first_fault()
 
 /// Flattening a document's tree gives its lexemes back.
 pub fn flattened()
-    ensures { Flattened }
+    ensures lexemes { Flattened }
+    // No other tree does.
+    ensures only { OnlyTree }
 {}
