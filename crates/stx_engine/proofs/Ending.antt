@@ -197,18 +197,18 @@ end_some b n (step.Bad fault) o h = cc
 end_some b n step.Memory o h = cc
 
 -- the list ends in a cut
-abbrev EndsCut : Forest → Type 0
+abbrev pub EndsCut : Forest → Type 0
 EndsCut (End m) = ⊥
 EndsCut (Cut why) = Unit {0}
 EndsCut (Single m leaf next) = EndsCut next
 EndsCut (Nested m e kids next) = EndsCut next
 
 -- the document node's list ends in a cut, where elements of these names are open
-abbrev Deep : List (List ℕ) → Option Why → Future → Type 0
+abbrev pub Deep : List (List ℕ) → Option Why → Future → Type 0
 Deep [] why f = EndsCut (inner why f)
 Deep (n ∷ ns) why f = Deep ns why (outer f)
 
-deep_none : (ns : List (List ℕ)) (why : Option Why) → why ≢ None → Deep ns why []
+pub deep_none : (ns : List (List ℕ)) (why : Option Why) → why ≢ None → Deep ns why []
 deep_none [] None o = o refl
 deep_none [] (Some why) o = tt
 deep_none (n ∷ ns) why o = deep_none ns why o
@@ -217,7 +217,7 @@ deep_start : (ns : List (List ℕ)) (why : Option Why) (e : Element) (kids : For
 deep_start [] why e kids f h = h
 deep_start (n ∷ ns) why e kids f h = h
 
-deep_first : (limits : Limits) (ns : List (List ℕ)) (rooted : Bool) (run : List ℕ) (x : Body) (r : Reading) → let b : Before = record { names = ns; rooted = rooted; run = run } in
+pub deep_first : (limits : Limits) (ns : List (List ℕ)) (rooted : Bool) (run : List ℕ) (x : Body) (r : Reading) → let b : Before = record { names = ns; rooted = rooted; run = run } in
     fault_of limits b x ≡ None → Deep (before_next b x).names r.why (future r.why r.bodies) → Deep ns (with_first b x r).why (future (with_first b x r).why (with_first b x r).bodies)
 deep_first limits [] rooted run (body.Chars text blank) r none h = h
 deep_first limits (n ∷ ns) rooted run (body.Chars text blank) r none h = h

@@ -15,3 +15,4 @@ pub mod Ending
 pub mod Faults
 pub mod Flattening
 pub mod Unflattening
+pub mod Treeing

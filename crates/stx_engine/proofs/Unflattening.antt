@@ -54,7 +54,7 @@ closed_rebuilt why (Nested m e kids next) p c qs h =
     let rest = closed_rebuilt why next p.2 both.1 qs h in
     let list = closed_rebuilt why kids p.1 both.0 (Closes e.name ∷ (flatten next ++ qs)) refl in
     let same : (flatten kids ++ (if is_closed kids then Closes e.name ∷ flatten next else [])) ++ qs ≡ flatten kids ++ (Closes e.name ∷ (flatten next ++ qs)) =
-      ap (λ t. (flatten kids ++ (if t then Closes e.name ∷ flatten next else [])) ++ qs) both.0 ∙ append_assoc (flatten kids) (Closes e.name ∷ flatten next) qs in
+    ap (λ t. (flatten kids ++ (if t then Closes e.name ∷ flatten next else [])) ++ qs) both.0 ∙ append_assoc (flatten kids) (Closes e.name ∷ flatten next) qs in
     subst (λ ps. Rebuilt why (Opens e ∷ ps) (Nested m e kids next) (outer (rebuilt why qs))) (sym same)
     (nested_rebuilt why (flatten kids ++ (Closes e.name ∷ (flatten next ++ qs))) m e kids next (rebuilt why (flatten next ++ qs)) (outer (rebuilt why qs)) p.0 list rest.list rest.lists)
 

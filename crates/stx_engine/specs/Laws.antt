@@ -39,6 +39,12 @@ Flattened =
     (limits : Limits) (length : ℕ) (last : Step) (ls : List Lexeme)
     → let read = reading limits length last at_start ls in flatten (tree_of read) ≡ pieces read.bodies
 
+-- The tree of what is read of lexemes is a cut tree.
+abbrev pub IsTree : Type 0
+IsTree =
+    (limits : Limits) (length : ℕ) (last : Step) (ls : List Lexeme)
+    → let read = reading limits length last at_start ls in IsCutTree read.why (tree_of read)
+
 -- A tree is the only one with its flattening.
 abbrev pub OnlyTree : Type 0
 OnlyTree = (why : Option Why) (x y : Forest) → IsCutTree why x → IsCutTree why y → flatten x ≡ flatten y → x ≡ y

@@ -11,7 +11,7 @@ ghost use Rattle.stx_engine.specs.Tree.{Need, Forest};
 ghost use Rattle.stx_engine.specs.Answer.{run_on, result_of, settled, answer, asked};
 ghost use Rattle.stx_engine.specs.Meaning.{Said, Put, Ending, Complete, Unready, code, meaning, outcome};
 ghost use Rattle.stx_engine.specs.Passed.{passed, ending_of};
-ghost use Rattle.stx_engine.specs.Laws.{FirstFault, Flattened, NoFault, OnlyTree};
+ghost use Rattle.stx_engine.specs.Laws.{FirstFault, Flattened, IsTree, NoFault, OnlyTree};
 ghost use Rattle.stx_engine.specs.Result.{text};
 ghost use Rattle.stx_engine.specs.Document.{Reading, tree_of};
 
@@ -56,8 +56,9 @@ pub fn first_fault()
     ensures none { NoFault }
 {}
 
-/// Flattening a document's tree gives its lexemes back.
+/// The tree of a document is the one cut tree that flattens to its lexemes.
 pub fn flattened()
+    ensures tree { IsTree }
     ensures lexemes { Flattened }
     // No other tree does.
     ensures only { OnlyTree }
