@@ -10,3 +10,4 @@ pub mod Rest
 pub mod Walking
 pub mod Names
 pub mod Planting
+pub mod Twins

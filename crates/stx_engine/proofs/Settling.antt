@@ -108,11 +108,11 @@ from-taken r (l ∷ ls) rest fresh h =
 pub drained : (all : Lexed) (r new : Reader) (ls more : List Lexeme) (l : Lexeme) → r.over ≡ None → step.Lexeme l ≡ due r → new ≡ after r (step.Lexeme l) → more ≡ ls ++ l ∷ [] →
     before ls (lexed_from r) ≡ all → (new.over ≡ None) × (before more (lexed_from new) ≡ all)
 drained all r new ls more l fresh due_ is taken h = (
-    ap (λ (q : Reader). q.over) is ∙ after-fresh r l fresh,
-    ap (λ q. before more (lexed_from q)) is
-    ∙ (ap (λ xs. before xs (lexed_from (after r (step.Lexeme l)))) taken
-    ∙ (ap (λ xs. record { lexemes = xs; last = (lexed_from (after r (step.Lexeme l))).last }) (append_assoc ls (l ∷ []) (lexed_from (after r (step.Lexeme l))).lexemes)
-    ∙ (ap (before ls) (sym (from-lexeme r l fresh (sym due_))) ∙ h))),
+  ap (λ (q : Reader). q.over) is ∙ after-fresh r l fresh,
+  ap (λ q. before more (lexed_from q)) is
+      ∙ (ap (λ xs. before xs (lexed_from (after r (step.Lexeme l)))) taken
+      ∙ (ap (λ xs. record { lexemes = xs; last = (lexed_from (after r (step.Lexeme l))).last }) (append_assoc ls (l ∷ []) (lexed_from (after r (step.Lexeme l))).lexemes)
+      ∙ (ap (before ls) (sym (from-lexeme r l fresh (sym due_))) ∙ h))),
 )
 
 -- y is x, or goes on where x needs more

@@ -1,6 +1,5 @@
 -- What the values of the plain program mean.
 use Rattle.std.specs.Prelude.{List, [], map, reverse, Option, Some, None}
-
 use Rattle.stx_engine.specs.declared.plain.tree.Tree.{Tree, End as NoMore, Cut as Cutting, Chars', Element'}
 use Rattle.stx_engine.specs.declared.plain.tree.Why.{Why as PlainWhy}
 use Rattle.stx_engine.specs.declared.plain.tree.Why.TheVariants as plain

@@ -28,7 +28,12 @@ pub fn parts(alloc: Global, pass: Pass, tree: &Tree) -> Result<Passed, Memory>
 }
 
 // Appends what a list of nodes puts, and answers why it goes no further, if so.
-fn put_list(alloc: Global, pass: Pass, tree: &Tree, parts: &mut List<Part>) -> Result<Option<Why>, Memory>
+fn put_list(
+    alloc: Global,
+    pass: Pass,
+    tree: &Tree,
+    parts: &mut List<Part>,
+) -> Result<Option<Why>, Memory>
     ensures parts { OnOk result (parts.new ≡ parts.old ++ (passed pass (forest_of tree.now)).parts) }
     ensures stop { IfOk result (λ stop. why_of stop ≡ (passed pass (forest_of tree.now)).stop) }
 {
@@ -70,7 +75,13 @@ fn put_text(alloc: Global, pass: Pass, text: &Text, parts: &mut List<Part>) -> R
     }
 }
 
-fn put_start(alloc: Global, pass: Pass, name: &Name, attrs: &List<Attr>, parts: &mut List<Part>) -> Result<(), Memory>
+fn put_start(
+    alloc: Global,
+    pass: Pass,
+    name: &Name,
+    attrs: &List<Attr>,
+    parts: &mut List<Part>,
+) -> Result<(), Memory>
     ensures { OnOk result (parts.new ≡ parts.old ++ start_parts pass (record { name = name.now; attrs = attrs.now; decls = [] })) }
 {
     match pass {

@@ -38,7 +38,12 @@ fn settles(parts: &[Part]) -> bool
 
 // Appends a part, and says whether a start tag is open behind it. `in_tag` says that one is open before it, and
 // `is_settled` that some part after it is no attribute.
-fn append_part(part: &Part, in_tag: bool, is_settled: bool, out: &mut Vec<u8>) -> Result<bool, Memory>
+fn append_part(
+    part: &Part,
+    in_tag: bool,
+    is_settled: bool,
+    out: &mut Vec<u8>,
+) -> Result<bool, Memory>
     ensures { IfOk result (λ opens. (ps : Items Piece) → spec.settles ps ≡ is_settled →
         out.new.items ++ text_from opens ps ≡ out.old.items ++ text_from in_tag (part.now ∷ ps)) }
 {
@@ -80,7 +85,12 @@ fn append_tag_end(in_tag: bool, out: &mut Vec<u8>) -> Result<(), Memory>
     Ok(())
 }
 
-fn append_start(name: &Name, in_tag: bool, is_settled: bool, out: &mut Vec<u8>) -> Result<(), Memory>
+fn append_start(
+    name: &Name,
+    in_tag: bool,
+    is_settled: bool,
+    out: &mut Vec<u8>,
+) -> Result<(), Memory>
     ensures { OnOk result (out.new.items ≡ out.old.items ++ (tag_end in_tag ++ (if is_settled then codes "<" ++ written_name name.now else []))) }
 {
     append_tag_end(in_tag, out)?;
@@ -91,7 +101,12 @@ fn append_start(name: &Name, in_tag: bool, is_settled: bool, out: &mut Vec<u8>) 
     Ok(())
 }
 
-fn append_attribute(name: &Name, value: &Text, is_settled: bool, out: &mut Vec<u8>) -> Result<(), Memory>
+fn append_attribute(
+    name: &Name,
+    value: &Text,
+    is_settled: bool,
+    out: &mut Vec<u8>,
+) -> Result<(), Memory>
     ensures { OnOk result (out.new.items ≡ out.old.items ++ (if is_settled then codes " " ++ written_name name.now ++ codes "=\"" ++ escaped Context.Value (encode_utf8_all value.now) ++ codes "\"" else [])) }
 {
     if is_settled {

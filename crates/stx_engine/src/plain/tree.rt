@@ -52,9 +52,16 @@ fn follow(alloc: Global, body: Body, why: Option<Why>, lists: &mut List<Tree>) -
     ensures { OnOk result (lists_of lists.new ≡ followed (why_of why) body (lists_of lists.old)) }
 {
     let list = match body {
-        Body::Chars { text, blank: _blank } => text_before(alloc, text, take_inner(lists, why))?,
+        Body::Chars {
+            text,
+            blank: _blank,
+        } => text_before(alloc, text, take_inner(lists, why))?,
         Body::Start { name, attrs, empty } => {
-            let kids = if empty { Tree::End } else { take_inner(lists, why) };
+            let kids = if empty {
+                Tree::End
+            } else {
+                take_inner(lists, why)
+            };
             element(alloc, &name, &attrs, kids, take_inner(lists, why))?
         }
         Body::End { name: _name } => Tree::End,
@@ -114,7 +121,13 @@ fn chars(alloc: Global, text: Text, next: Tree) -> Result<Tree, Memory>
     Ok(Tree::Chars { text, next })
 }
 
-fn element(alloc: Global, name: &Text, attrs: &List<RawAttr>, kids: Tree, next: Tree) -> Result<Tree, Memory>
+fn element(
+    alloc: Global,
+    name: &Text,
+    attrs: &List<RawAttr>,
+    kids: Tree,
+    next: Tree,
+) -> Result<Tree, Memory>
     ensures { IfOk result (λ tree. forest_of tree ≡ Nested Fresh (element_of name.now attrs.now) (forest_of kids) (forest_of next)) }
 {
     let name = name_of(alloc, name)?;

@@ -28,5 +28,5 @@ returns-in-Element c =
     subst (λ f. IfOk c.chars-in-Element.result (λ tree. forest_of tree ≡ f))
     (sym (ap (λ n. text_before c.args.text (forest_of n)) c.in-Element.is
     ∙ before-element c.args.text _ (forest_of c.in-Element.kids.value) (forest_of c.in-Element.next.value)
-      (some-text c.is_empty.result c.args.text c.if-is_empty.false c.is_empty.ensures.1)))
+    (some-text c.is_empty.result c.args.text c.if-is_empty.false c.is_empty.ensures.1)))
     c.chars-in-Element.ensures
