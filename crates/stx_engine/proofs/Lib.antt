@@ -11,3 +11,5 @@ pub mod Walking
 pub mod Names
 pub mod Planting
 pub mod Twins
+pub mod Rereading
+pub mod Ending

@@ -117,3 +117,8 @@ module _ (pass : Pass) where
   run-passed tree =
       ap run_of (outcome-passed tree)
       ∙ ap (λ l. record { parts = l; ending = ending_of (passed pass tree).stop }) (parts-back (passed pass tree).parts)
+
+  -- a run that ends so is this one
+  pub run-ends : (tree : Forest) (parts : List Part) (ending : Ending) → Ends code (meaning pass tree) (map Put parts) ending → record { parts = parts; ending = ending } ≡ run_of (outcome pass tree)
+  run-ends tree parts ending h =
+      sym (ap run_of (outcome_is pass tree (map Put parts) ending h) ∙ ap (λ l. record { parts = l; ending = ending }) (parts-back parts))

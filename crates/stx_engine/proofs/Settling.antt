@@ -184,7 +184,7 @@ end-ended r fresh h = by_shape (shape_len (is_last r) (coming r)) (sym (due-fres
 -- Readings of bytes, and what is put
 
 module _ (limits : Limits) (bytes more : List ℕ) (ended : Bool) where
-  no_end : (lexed limits bytes false).last ≢ step.End
+  pub no_end : (lexed limits bytes false).last ≢ step.End
   no_end h =
       let start = unread limits bytes false in
       let l = left (suc (length bytes)) start refl (omega arith) in

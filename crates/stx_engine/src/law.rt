@@ -1,6 +1,6 @@
 //! Laws of the definitions, as contracts.
 
-ghost use Rattle.std.specs.Prelude.{◌≡◌, ◌≢◌, ◌↔◌, ◌++◌, Bool, false, List, ℕ, Some, map};
+ghost use Rattle.std.specs.Prelude.{◌≡◌, ◌≢◌, ◌↔◌, ◌++◌, Bool, false, true, List, ℕ, Some, map};
 ghost use Rattle.stx_base.specs.Course.{Begins, Ends, Over};
 ghost use Rattle.stx_base.specs.StandardLimits.{standard_limits};
 ghost use Rattle.stx_base.specs.declared.limits.Limits.{Limits};
@@ -9,7 +9,7 @@ ghost use Rattle.stx_engine.specs.declared.pass.Pass.{Pass};
 ghost use Rattle.stx_host.specs.declared.act.Doc.{Doc};
 ghost use Rattle.stx_engine.specs.Tree.{Need, Forest};
 ghost use Rattle.stx_engine.specs.Answer.{run_on, result_of, settled, answer, asked};
-ghost use Rattle.stx_engine.specs.Meaning.{Said, Put, Ending, Unready, code, meaning, outcome};
+ghost use Rattle.stx_engine.specs.Meaning.{Said, Put, Ending, Complete, Unready, code, meaning, outcome};
 ghost use Rattle.stx_engine.specs.Passed.{passed, ending_of};
 ghost use Rattle.stx_engine.specs.Result.{text};
 ghost use Rattle.stx_engine.specs.Document.{Reading, tree_of};
@@ -39,4 +39,12 @@ pub fn settled_stays()
     ensures over { (limits : Limits) (pass : Pass) (bytes more : List ℕ) (ended : Bool) → (run_on limits pass bytes false).ending ≢ Unready Need → run_on limits pass (bytes ++ more) ended ≡ run_on limits pass bytes false }
     // So it is with the program's whole answer.
     ensures answer { (words : List (List ℕ)) (docs : List Doc) (pass : Pass) (bytes more : List ℕ) → asked words docs ≡ Some pass → Begins (settled standard_limits pass bytes) (answer words docs (bytes ++ more)).out }
+{}
+
+/// Where a document has ended and where it hasn't.
+pub fn documents_end()
+    // A whole document needs no more.
+    ensures whole { (limits : Limits) (pass : Pass) (bytes : List ℕ) → (run_on limits pass bytes true).ending ≢ Unready Need }
+    // A run on a document's first bytes is not done.
+    ensures beginning { (limits : Limits) (pass : Pass) (bytes : List ℕ) → (run_on limits pass bytes false).ending ≢ Complete }
 {}

@@ -18,3 +18,4 @@ mod words;
 mod writer;
 
 pub use driver::transform;
+pub use pass::Pass;

@@ -4,4 +4,8 @@
 #[cfg(test)]
 mod first_path;
 #[cfg(test)]
+mod plain_rows;
+#[cfg(test)]
 mod row;
+#[cfg(test)]
+mod table;

@@ -28,7 +28,7 @@ pub struct Ran {
     pub host: MemHost,
 }
 
-fn list<T: Copy>(alloc: Global, items: &[T]) -> Result<List<T>, AllocError> {
+pub fn list<T: Copy>(alloc: Global, items: &[T]) -> Result<List<T>, AllocError> {
     Ok(List::from_vec(Vec::from_slice(alloc, items)?))
 }
 

@@ -1,0 +1,81 @@
+//! The rows of sheets without templates, as the plain program computes them, and what the beginnings of documents settle.
+
+use crate::row::{HEAD, SHEET, list};
+use crate::table::{PASS_ALL, REFUSALS, ROWS};
+use std::alloc::Global;
+use std::test::Fail;
+use stx_base::{Limits, Memory, Text};
+use stx_engine::Pass;
+use stx_engine::plain::answer::{Answer, answer_to, settled};
+use stx_host::Doc;
+
+fn answer_of(
+    alloc: Global,
+    words: &[&str],
+    sheet: Option<&str>,
+    main: &str,
+) -> Result<Answer, Memory> {
+    let mut docs = Vec::new(alloc);
+    if let Some(sheet) = sheet {
+        let name = Text::of(alloc, SHEET)?;
+        let bytes = list(alloc, sheet.as_bytes())?;
+        docs.push(Doc { name, bytes })?;
+    }
+    let mut owned = Vec::new(alloc);
+    for word in words {
+        owned.push(String::from_str(alloc, word)?)?;
+    }
+    answer_to(alloc, owned.as_slice(), docs.as_slice(), main.as_bytes())
+}
+
+#[test]
+fn rows(rt: HostRuntime) -> Result<(), Fail> {
+    for row in &ROWS {
+        let found = answer_of(rt.alloc(), &[SHEET], Some(row.sheet), row.main)?;
+        let main = row.main;
+        let content = row.content;
+        let out = format!(in rt.alloc(); "{HEAD}{content}")?;
+        assert_eq!(rt; found.out.as_slice(), out.as_bytes(), "Out of {main}");
+        assert_eq!(rt; found.note.as_str(), row.note, "Note of {main}");
+        assert_eq!(rt; found.status, row.status, "status of {main}");
+        assert_eq!(rt; found.opened.len(), 1, "names opened of {main}");
+    }
+    Ok(())
+}
+
+#[test]
+fn refusals(rt: HostRuntime) -> Result<(), Fail> {
+    for (words, sheet, status, note) in REFUSALS {
+        let found = answer_of(rt.alloc(), words, sheet, "<a/>")?;
+        let opened = usize::from(status == 3);
+        assert_eq!(rt; found.status, status, "{note}");
+        assert_eq!(rt; found.note.as_str(), note);
+        assert!(rt; found.out.is_empty(), "{note}");
+        assert_eq!(rt; found.opened.len(), opened, "{note}");
+    }
+    Ok(())
+}
+
+// How many bytes behind the head are settled after each byte of `<a b="1">x</a>`: nothing until its end tag is whole,
+// then all; of other documents what stands before the node that isn't ready.
+#[test]
+fn settled_bytes(rt: HostRuntime) -> Result<(), Fail> {
+    let rows: [(&str, &str); 10] = [
+        ("", ""),
+        ("<a b=\"1\">", ""),
+        ("<a b=\"1\">x", ""),
+        ("<a b=\"1\">x</a", ""),
+        ("<a b=\"1\">x</a>", "<a b=\"1\">x</a>"),
+        ("<a><b>", ""),
+        ("<a><b>x<c>", "<a><b>x"),
+        ("<a><b/>", "<a><b/>"),
+        ("<a><b/>y", "<a><b/>"),
+        ("<a><b/>y</b>z", "<a><b/>"),
+    ];
+    for (bytes, content) in rows {
+        let found = settled(rt.alloc(), Limits::standard(), Pass::All, bytes.as_bytes())?;
+        let out = format!(in rt.alloc(); "{HEAD}{content}")?;
+        assert_eq!(rt; found.as_slice(), out.as_bytes(), "settled by {bytes}");
+    }
+    Ok(())
+}
