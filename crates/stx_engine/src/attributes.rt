@@ -21,7 +21,8 @@ pub fn has_duplicate(alloc: Global, attrs: &List<RawAttr>) -> Result<bool, Memor
     }
 }
 
-fn has_equal_pair(attrs: &[RawAttr]) -> bool
+/// The same, by comparing each pair.
+pub fn has_equal_pair(attrs: &[RawAttr]) -> bool
     ensures { result ≡ has_twins attrs.now }
 {
     for (at, attr) in attrs.iter().enumerate() {
