@@ -10,6 +10,7 @@ pub mod Rest
 pub mod Walking
 pub mod Names
 pub mod Planting
+pub mod Twins
 pub mod Rereading
 pub mod Ending
 pub mod Faults

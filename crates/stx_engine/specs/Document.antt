@@ -1,5 +1,5 @@
 -- The tree of a document, from its lexemes: the first fault, and nodes by start and end tags (XML 1.0, 2.1 and 3.1).
-use Rattle.std.specs.Prelude.{ℕ, Bool, true, false, not, ◌&&◌, ◌||◌, nat_lt, nat_le, ◌==◌, bytes_eq, if◌then◌else◌, List, [], ◌∷◌, ◌++◌, length, map, Option, Some, None}
+use Rattle.std.specs.Prelude.{ℕ, Bool, true, false, not, ◌&&◌, ◌||◌, nat_lt, nat_le, ◌==◌, bytes_eq, encode_utf8_all, if◌then◌else◌, List, [], ◌∷◌, ◌++◌, length, map, Option, Some, None}
 use Rattle.std.specs.List.{list_any}
 use Rattle.stx_base.specs.declared.fault.XmlFault.{XmlFault}
 use Rattle.stx_base.specs.declared.fault.XmlKind.{XmlKind}
@@ -40,10 +40,18 @@ is_innermost name (innermost ∷ names) = bytes_eq innermost name
 abbrev pub is_complete : Before → Bool
 is_complete b = b.rooted && not (is_inside b.names)
 
+-- an attribute of these has this name as written
+abbrev pub has_name : List RawAttr → (written : List ℕ) → Bool
+has_name attrs written = list_any (λ a. bytes_eq written (encode_utf8_all a.name)) attrs
+
+-- an attribute has the name of an earlier one
+abbrev pub repeats : (earlier attrs : List RawAttr) → Bool
+repeats earlier [] = false
+repeats earlier (a ∷ others) = has_name earlier (encode_utf8_all a.name) || repeats (earlier ++ a ∷ []) others
+
 -- two attributes have one name as written (XML 1.0, 3.1)
 abbrev pub has_twins : List RawAttr → Bool
-has_twins [] = false
-has_twins (a ∷ others) = list_any (λ b. bytes_eq b.name a.name) others || has_twins others
+has_twins attrs = repeats [] attrs
 
 -- the fault of a lexeme at its place, if it has one: text outside the root, a text that is too long, a second root, an
 -- attribute twice or too many open elements, all of which are reported as not built; an end without its start

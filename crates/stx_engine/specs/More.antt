@@ -1,15 +1,14 @@
 -- What a run still gives.
-use Rattle.std.specs.Prelude.{◌≡◌, ℕ, true, false, Result, Ok, List, [], ◌∷◌, ◌++◌, reverse, Option, Some, None}
-use Rattle.stx_base.specs.declared.fault.XmlKind.{XmlKind}
-use Rattle.stx_base.specs.declared.memory.Memory.{Memory}
+use Rattle.std.specs.Prelude.{◌≡◌, ℕ, true, false, List, [], ◌∷◌, ◌++◌, reverse, Option, Some, None}
+use Rattle.stx_base.specs.declared.fault.XmlFault.{XmlFault}
 use Rattle.stx_base.specs.declared.part.Part.{Part}
 use Rattle.stx_engine.specs.declared.pass.Pass.{Pass}
 use Rattle.stx_engine.specs.declared.walk.Tag.{Tag}
 use Rattle.stx_engine.specs.declared.walk.Walk.{Walk}
 use Rattle.stx_engine.specs.declared.writer.Writer.{Writer}
 use Rattle.xml_tokens.specs.declared.lexeme.Body.{Body}
-use Rattle.xml_tokens.specs.declared.lexeme.Body.TheVariants as body
-use Rattle.stx_engine.specs.Document.{Before, Reading, Future, inner, outer, future, text_before, element_of, before_next, is_innermost, with_first}
+use Rattle.xml_tokens.specs.declared.lexeme.Lexeme.{Lexeme}
+use Rattle.stx_engine.specs.Document.{Before, Reading, Future, inner, outer, future, text_before, element_of, before_next, fault_of, with_first}
 use Rattle.stx_engine.specs.Meaning.{end_parts}
 use Rattle.stx_engine.specs.Passed.{Passed, passed, put, then_put}
 use Rattle.stx_engine.specs.Result.{once_settled, text_from}
@@ -111,7 +110,8 @@ pub record Takes (body : Body) (old new : Walk) : Type 0 where
   pub limits : new.limits ≡ old.limits
   pub law : (r : Reading) → given_on old (with_first (before_of old) body r) ≡ given_on new r
 
--- an end without a fault has the name of the innermost open element
-abbrev pub MatchingEnds : Walk → Body → Result (Option XmlKind) Memory → Type 0
-MatchingEnds w (body.End name) result = result ≡ Ok None → is_innermost name (names_of w) ≡ true
-MatchingEnds w other result = Unit {0}
+-- a lexeme is taken where it has no fault, and else its fault is the answer, and nothing changes
+abbrev pub Taken : Walk → Lexeme → Walk → Option XmlFault → Type 0
+Taken old l new None = (fault_of old.limits (before_of old) l.body ≡ None) × Takes l.body old new
+Taken old l new (Some fault) =
+    (fault_of old.limits (before_of old) l.body ≡ Some fault.kind) × (fault.offset ≡ l.offset) × (new ≡ old)

@@ -163,7 +163,7 @@ impl Engine {
         } else {
             Reading::Faulty(XmlFault {
                 kind: XmlKind::Truncated,
-                offset: self.lexer.offset(),
+                offset: self.lexer.fed(),
             })
         }
     }

@@ -1,4 +1,4 @@
-ghost use Rattle.std.specs.Prelude.{◌≡◌, ◌++◌, true, None, OnOk, length, nat_le, nat_lt, ◌≤◌, ◌<◌, ◌^◌};
+ghost use Rattle.std.specs.Prelude.{◌≡◌, ◌++◌, true, None, OnOk, IfOk, length, nat_le, nat_lt, ◌≤◌, ◌<◌, ◌^◌};
 ghost use Rattle.xml_tokens.specs.declared.lexeme.Body.TheVariants as body;
 
 use crate::attributes::has_duplicate;
@@ -33,8 +33,8 @@ pub struct Walk {
 }
 
 impl Walk {
-    ghost use Rattle.stx_engine.specs.Document.{is_complete, is_innermost, is_inside};
-    ghost use Rattle.stx_engine.specs.More.{IsBegun, IsSettled, IsWritten, MatchingEnds, Takes, before_of, names_of};
+    ghost use Rattle.stx_engine.specs.Document.{fault_of, is_complete, is_innermost, is_inside};
+    ghost use Rattle.stx_engine.specs.More.{IsBegun, IsSettled, IsWritten, Taken, Takes, before_of, names_of};
 
     pub fn new(alloc: Global, limits: Limits, pass: Pass) -> Walk {
         Walk {
@@ -56,7 +56,9 @@ impl Walk {
     }
 
     /// Takes the next lexeme, unless it has a fault: that is the answer, and nothing changes.
-    pub fn take(&mut self, lexeme: Lexeme) -> Result<Option<XmlFault>, Memory> {
+    pub fn take(&mut self, lexeme: Lexeme) -> Result<Option<XmlFault>, Memory>
+        ensures { IfOk result (Taken self.old lexeme self.new) }
+    {
         let Lexeme { offset, body } = lexeme;
         if let Some(kind) = self.fault_of(&body)? {
             return Ok(Some(XmlFault { kind, offset }));
@@ -113,7 +115,7 @@ impl Walk {
     }
 
     fn fault_of(&self, body: &Body) -> Result<Option<XmlKind>, Memory>
-        ensures { MatchingEnds self.now body.now result }
+        ensures { IfOk result (λ fault. fault ≡ fault_of self.now.limits (before_of self.now) body.now) }
     {
         let fault = match body {
             Body::Chars { text, blank } => {

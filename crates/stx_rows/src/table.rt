@@ -31,7 +31,7 @@ pub struct Row {
     pub note: &'static str,
 }
 
-pub const ROWS: [Row; 22] = [
+pub const ROWS: [Row; 25] = [
     // The rows of the language.
     Row {
         sheet: PASS_ALL,
@@ -111,6 +111,29 @@ pub const ROWS: [Row; 22] = [
         content: "",
         status: 4,
         note: "stx: -: Truncated at 6\n",
+    },
+    // A byte order mark counts in places.
+    Row {
+        sheet: PASS_ALL,
+        main: "\u{feff}",
+        content: "",
+        status: 4,
+        note: "stx: -: Truncated at 3\n",
+    },
+    Row {
+        sheet: PASS_ALL,
+        main: "\u{feff}<a></b>",
+        content: "",
+        status: 4,
+        note: "stx: -: Mismatch at 6\n",
+    },
+    // More attributes than are compared pair by pair, and one of them twice.
+    Row {
+        sheet: PASS_ALL,
+        main: "<a b='' c='' d='' e='' f='' g='' h='' i='' j='' c=''/>",
+        content: "",
+        status: 4,
+        note: "stx: -: NotBuilt at 0\n",
     },
     Row {
         sheet: PASS_ALL,

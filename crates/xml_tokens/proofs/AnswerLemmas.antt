@@ -37,6 +37,7 @@ shape_of r l e = by_over r.over refl where
   by_shape : (o : Option ℕ) → shape_len (is_last r) (coming r) ≡ o → step.Lexeme l ≡ at_shape_or_rest r o → (len : ℕ) × (shape_len (is_last r) (coming r) ≡ Some len)
   by_shape (Some len) h d = (len, h)
   by_shape None h d = absurd (rest_no_lexeme (at_rest r) l d)
+
   by_over : (o : Option Ending) → r.over ≡ o → (len : ℕ) × (shape_len (is_last r) (coming r) ≡ Some len)
   by_over (Some over) h = absurd (no_lexeme over l (e ∙ ap (λ o. repeated_or o (at_shape_or_rest r (shape_len (is_last r) (coming r)))) h))
   by_over None h = by_shape (shape_len (is_last r) (coming r)) refl (e ∙ ap (λ o. repeated_or o (at_shape_or_rest r (shape_len (is_last r) (coming r)))) h)
@@ -86,6 +87,7 @@ shape_no_need limits bytes at e = by_size (nat_lt limits.lexeme (length bytes)) 
   by_body : (o : Option Body) → step.Need ≡ lexeme_or_fault o at → ⊥
   by_body (Some body) d = cc
   by_body None d = cc
+
   by_size : (t : Bool) → step.Need ≡ (if t then step.Bad (record { kind = LexemeTooLong; offset = at }) else lexeme_or_fault (judged bytes) at) → ⊥
   by_size true d = cc
   by_size false d = by_body (judged bytes) d
@@ -96,6 +98,7 @@ due-need r e = by_over r.over e where
   by_shape : (o : Option ℕ) → step.Need ≡ at_shape_or_rest r o → (r.ended ≡ false) × (is_cut r ≡ false)
   by_shape (Some len) d = absurd (shape_no_need r.limits (take len (coming r)) (place r) d)
   by_shape None d = need-open r d
+
   by_over : (o : Option Ending) → step.Need ≡ repeated_or o (at_shape_or_rest r (shape_len (is_last r) (coming r))) → (r.ended ≡ false) × (is_cut r ≡ false)
   by_over (Some over) d = absurd (no_need over d)
   by_over None d = by_shape (shape_len (is_last r) (coming r)) d

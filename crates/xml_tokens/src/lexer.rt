@@ -92,11 +92,12 @@ impl Lexer {
         self.ended = true;
     }
 
-    /// Where the unread bytes begin in the document, and once the document is used up, its length.
-    pub fn offset(&self) -> u64
-        ensures { result ≡ self.now.offset }
+    /// How many bytes of the document were fed, up to the last value of u64.
+    pub fn fed(&self) -> u64
+        ensures { fed self.now < 2 ^ 64 → result ≡ fed self.now }
     {
-        self.offset
+        let unread = self.buffer.len() - self.start;
+        self.offset.saturating_add(unread as u64)
     }
 
     /// The next lexeme, or why there is none. An answer other than a lexeme and `Need` is repeated from then on.

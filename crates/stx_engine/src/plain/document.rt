@@ -1,6 +1,5 @@
 //! The tree of a document, from all its lexemes.
 
-ghost use Rattle.std.specs.List.{list_any};
 ghost use Rattle.std.specs.Str.{chars};
 ghost use Rattle.std.specs.Prelude.{◌≡◌, [], ◌∷◌, ◌++◌, IfOk, OnOk, bytes_eq, if◌then◌else◌, length, nat_lt};
 ghost use Rattle.stx_engine.specs.Answer.{doc};
@@ -8,11 +7,12 @@ ghost use Rattle.stx_engine.specs.Document as spec;
 ghost use Rattle.stx_engine.specs.Document.{at_start, before_next, reading};
 ghost use Rattle.stx_engine.specs.Plain.{before_of, forest_of, is_kept, why_of};
 
+use crate::attributes::has_equal_pair;
 use crate::plain::lexemes::{Lexed, lexemes};
 use crate::plain::tree::{Tree, Why, build};
 use std::alloc::Global;
 use stx_base::{Copied, Limits, List, Memory, Text, XmlFault, XmlKind};
-use xml_tokens::{Body, Lexeme, RawAttr, Step};
+use xml_tokens::{Body, Lexeme, Step};
 
 /// The tree of a document; `ended` says that these are all its bytes, and not only its first ones.
 pub fn read_document(
@@ -163,7 +163,7 @@ fn fault_of(
         Body::Start { attrs, .. } => {
             let is_refused = before.is_complete()
                 || limits.depth as usize <= before.names.len()
-                || has_twins(attrs.as_slice());
+                || has_equal_pair(attrs.as_slice());
             Ok(is_refused.then_some(XmlKind::NotBuilt))
         }
         Body::End { name } => Ok((!is_innermost(before, name)).then_some(XmlKind::Mismatch)),
@@ -194,34 +194,6 @@ fn is_innermost(before: &Before, name: &Text) -> bool
         Some(innermost) => innermost.same(name),
         None => false,
     }
-}
-
-// Two attributes have one name.
-fn has_twins(attrs: &[RawAttr]) -> bool
-    ensures { result ≡ spec.has_twins attrs.now }
-{
-    match attrs.split_first() {
-        Some((first, others)) => has_name(others, &first.name) || has_twins(others),
-        None => false,
-    }
-}
-
-// Some attribute has this name.
-fn has_name(attrs: &[RawAttr], name: &Text) -> bool
-    ensures { result ≡ list_any (λ b. bytes_eq b.name name.now) attrs.now }
-{
-    for attr in attrs {
-        if is_named(attr, name) {
-            return true;
-        }
-    }
-    false
-}
-
-fn is_named(attr: &RawAttr, name: &Text) -> bool
-    ensures { result ≡ bytes_eq attr.now.name name.now }
-{
-    attr.name.same(name)
 }
 
 // Why there is no lexeme any more, where the document has `len` bytes.
