@@ -1,17 +1,15 @@
 -- A whole document needs no more bytes, and a run on a document's first bytes is not done.
-use Rattle.std.proofs.Common.{◌≡◌, ◌≢◌, ℕ, suc, ◌+◌, ◌<◌, Bool, true, false, List, [], ◌∷◌, Option, Some, None, length, refl, sym, ap, ◌∙◌, subst, arith}
+use Rattle.std.proofs.Common.{◌≡◌, ◌≢◌, ℕ, suc, ◌+◌, Bool, true, false, List, [], ◌∷◌, Option, Some, None, length, refl, sym, ap, ◌∙◌, arith}
 use Rattle.std.specs.Prelude.{cond, not, ◌&&◌, ◌==◌, nat_lt, take}
 use Rattle.stx_base.specs.declared.fault.XmlFault.{XmlFault}
 use Rattle.stx_base.specs.declared.fault.XmlKind.{XmlKind}
-use Rattle.stx_base.specs.declared.fault.XmlKind.TheVariants.{LexemeTooLong, InputTooLong, Mismatch}
+use Rattle.stx_base.specs.declared.fault.XmlKind.TheVariants.{LexemeTooLong, InputTooLong}
 use Rattle.stx_base.specs.declared.limits.Limits.{Limits}
 use Rattle.xml_tokens.specs.Plain.{judged as judged_bytes}
-use Rattle.xml_tokens.specs.Reader.{Reader, bad, is_cut, is_last, is_open, coming, place, due, at_shape_or_rest, at_rest, lexeme_or_fault, step_or_need}
+use Rattle.xml_tokens.specs.Reader.{Reader, bad, is_cut, is_last, is_open, coming, place, due, at_shape_or_rest, lexeme_or_fault, step_or_need}
 use Rattle.xml_tokens.specs.Shape.{shape_len}
 use Rattle.xml_tokens.specs.declared.lexeme.Body.{Body}
 use Rattle.xml_tokens.specs.declared.lexeme.Body.TheVariants as body
-use Rattle.xml_tokens.specs.declared.lexeme.Ending.{Ending}
-use Rattle.xml_tokens.specs.declared.lexeme.Ending.TheVariants as ending
 use Rattle.xml_tokens.specs.declared.lexeme.Lexeme.{Lexeme}
 use Rattle.xml_tokens.specs.declared.lexeme.Step.{Step}
 use Rattle.xml_tokens.specs.declared.lexeme.Step.TheVariants as step
@@ -19,11 +17,11 @@ use Rattle.xml_tokens.proofs.ReaderLemmas.{ending_at}
 use Rattle.xml_tokens.proofs.RunLemmas.{due-fresh, taken-fresh, taken-ended, need-going}
 use Rattle.stx_engine.specs.declared.pass.Pass.{Pass}
 use Rattle.stx_engine.specs.Answer.{read, run_on}
-use Rattle.stx_engine.specs.Document.{Before, Reading, Future, is_inside, is_complete, is_innermost, at_start, at_end, fault_of, before_next, element_of, judged, reading, with_first, unknown, inner, outer, followed, future, text_before, tree_of}
-use Rattle.stx_engine.specs.Lexed.{Lexed, lexed, unread}
-use Rattle.stx_engine.specs.Meaning.{Ending as Stop, Complete, Unready, end_parts, start_parts, text_parts}
-use Rattle.stx_engine.specs.Passed.{Passed, stopped, put, unless_stopped, then_put, once_ready, passed, ending_of}
-use Rattle.stx_engine.specs.Tree.{Why, Need, Bad, Mark, Fresh, Told, Begun, Leaf, Chars, Element, Forest, End, Cut, Single, Nested}
+use Rattle.stx_engine.specs.Document.{Before, Reading, Future, is_inside, is_complete, at_start, at_end, fault_of, before_next, element_of, judged, reading, with_first, unknown, inner, outer, followed, future, text_before, tree_of}
+use Rattle.stx_engine.specs.Lexed.{lexed, unread}
+use Rattle.stx_engine.specs.Meaning.{Complete, Unready, end_parts, start_parts}
+use Rattle.stx_engine.specs.Passed.{Passed, put, unless_stopped, then_put, once_ready, passed, ending_of}
+use Rattle.stx_engine.specs.Tree.{Why, Need, Bad, Mark, Fresh, Told, Begun, Chars, Element, Forest, End, Cut, Single, Nested}
 use Rattle.stx_engine.proofs.Passing.{run-passed}
 use Rattle.stx_engine.proofs.Settling.{left, no_end}
 

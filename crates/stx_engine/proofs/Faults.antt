@@ -1,10 +1,10 @@
 -- The first fault of a document.
-use Rattle.std.proofs.Common.{◌≡◌, ℕ, List, [], ◌∷◌, ◌++◌, Option, Some, None, refl, sym, ap, ◌∙◌}
+use Rattle.std.proofs.Common.{◌≡◌, ℕ, List, [], ◌∷◌, ◌++◌, Some, None, refl, ap, ◌∙◌}
 use Rattle.stx_base.specs.declared.fault.XmlKind.{XmlKind}
 use Rattle.stx_base.specs.declared.limits.Limits.{Limits}
 use Rattle.xml_tokens.specs.declared.lexeme.Lexeme.{Lexeme}
 use Rattle.xml_tokens.specs.declared.lexeme.Step.{Step}
-use Rattle.stx_engine.specs.Document.{Before, Reading, at_end, before_next, fault_of, judged, reading}
+use Rattle.stx_engine.specs.Document.{Before, at_end, before_next, fault_of, judged, reading}
 use Rattle.stx_engine.specs.Laws.{behind, AreSound}
 use Rattle.stx_engine.specs.Tree.{Bad}
 use Rattle.stx_engine.proofs.Ending.{why_first}

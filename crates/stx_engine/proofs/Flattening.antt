@@ -10,8 +10,8 @@ use Rattle.xml_tokens.specs.declared.lexeme.Body.TheVariants as body
 use Rattle.xml_tokens.specs.declared.lexeme.Lexeme.{Lexeme}
 use Rattle.xml_tokens.specs.declared.lexeme.Step.{Step}
 use Rattle.xml_tokens.specs.declared.lexeme.Step.TheVariants as step
-use Rattle.stx_engine.specs.Document.{Before, Reading, Future, at_start, at_end, is_inside, is_innermost, fault_of, before_next, element_of, plain_name, judged, reading, with_first, inner, outer, followed, future, text_before, tree_of}
-use Rattle.stx_engine.specs.Flatten.{Piece, Opens, Closes, Says, is_closed, flatten, said_before, pieces}
+use Rattle.stx_engine.specs.Document.{Before, Reading, Future, at_start, at_end, is_inside, fault_of, before_next, element_of, plain_name, judged, reading, with_first, inner, outer, future, text_before, tree_of}
+use Rattle.stx_engine.specs.Flatten.{Piece, Opens, Closes, is_closed, flatten, said_before, pieces}
 use Rattle.stx_engine.specs.Tree.{Why, Fresh, Chars, Element, Forest, End, Cut, Single, Nested}
 
 -- a list, and then the end of the element that it stands in, if the list ends

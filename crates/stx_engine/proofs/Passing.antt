@@ -1,12 +1,12 @@
 -- What a run puts is what its nodes put.
-use Rattle.std.proofs.Common.{◌≡◌, ℕ, List, [], ◌∷◌, ◌++◌, Option, Some, None, map, refl, sym, ap, ◌∙◌, subst, append_assoc, append-nil}
-use Rattle.stx_base.specs.Course.{Course, Ret, Halt, Say, Ask, and_then, says, Over, Ends}
+use Rattle.std.proofs.Common.{◌≡◌, List, [], ◌∷◌, ◌++◌, Option, Some, None, map, refl, sym, ap, ◌∙◌, subst, append_assoc, append-nil}
+use Rattle.stx_base.specs.Course.{Ret, Halt, Ask, and_then, says, Over, Ends}
 use Rattle.stx_base.proofs.Course.{funext, and_then_says, unfolded, ends_said, stopped as stopped_so}
 use Rattle.stx_base.specs.declared.part.Part.{Part}
 use Rattle.stx_engine.specs.declared.pass.Pass.{Pass}
-use Rattle.stx_engine.specs.Tree.{Why, Mark, Fresh, Told, Begun, Leaf, Chars, Element, Forest, End, Cut, Single, Nested}
-use Rattle.stx_engine.specs.Meaning.{Said, Put, Ending, Complete, Unready, Here, Asked, Job, Nodes, Does, when_ready, start_parts, end_parts, text_parts, siblings, pass_leaf, pass_element, nodes, code, meaning, outcome, puts}
-use Rattle.stx_engine.specs.Passed.{Passed, stopped, put, unless_stopped, then_put, once_ready, passed, ending_of}
+use Rattle.stx_engine.specs.Tree.{Why, Mark, Fresh, Told, Begun, Chars, Element, Forest, End, Cut, Single, Nested}
+use Rattle.stx_engine.specs.Meaning.{Said, Put, Ending, Complete, Unready, Here, Asked, Nodes, Does, when_ready, start_parts, end_parts, text_parts, siblings, pass_element, nodes, code, meaning, outcome, puts}
+use Rattle.stx_engine.specs.Passed.{Passed, put, unless_stopped, then_put, once_ready, passed, ending_of}
 use Rattle.stx_engine.specs.Answer.{parts_put, run_of}
 use Rattle.stx_engine.proofs.Total.{outcome_is}
 

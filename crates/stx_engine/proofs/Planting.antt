@@ -1,10 +1,8 @@
 -- Trees that are built from their last lexeme on.
-use Rattle.std.proofs.Common.{◌≡◌, ◌≢◌, ℕ, Bool, true, false, List, [], ◌∷◌, ◌++◌, map, reverse, Option, Some, None, refl, sym, ap, ◌∙◌}
+use Rattle.std.proofs.Common.{◌≡◌, ◌≢◌, ℕ, Bool, false, List, [], ◌∷◌, ◌++◌, Option, refl, sym, ap, ◌∙◌}
 use Rattle.std.specs.Prelude.{IsTrue}
 use Rattle.xml_tokens.specs.declared.lexeme.Body.{Body}
-use Rattle.stx_engine.specs.declared.plain.tree.Tree.{Tree}
 use Rattle.stx_engine.specs.Document.{Future, followed, future, text_before}
-use Rattle.stx_engine.specs.Plain.{forest_of, lists_of}
 use Rattle.stx_engine.specs.Tree.{Why, Fresh, Chars, Element, Forest, End, Cut, Single, Nested}
 
 -- lexemes, and then a future

@@ -1,5 +1,5 @@
 -- What the first bytes of a document settle stays so, whatever bytes follow.
-use Rattle.std.proofs.Common.{◌≡◌, ◌⊎◌, inl, inr, ⊎_elim, ℕ, Bool, true, false, List, [], ◌∷◌, ◌++◌, Option, Some, None, refl, sym, ap, ◌∙◌, subst, append_assoc}
+use Rattle.std.proofs.Common.{◌≡◌, ◌⊎◌, inl, inr, ℕ, Bool, true, false, List, [], ◌∷◌, ◌++◌, Option, Some, None, refl, sym, ap, ◌∙◌, subst, append_assoc}
 use Rattle.std.specs.Prelude.{if◌then◌else◌}
 use Rattle.stx_base.specs.Course.{Begins}
 use Rattle.stx_base.specs.declared.fault.XmlKind.{XmlKind}
@@ -11,8 +11,8 @@ use Rattle.xml_tokens.specs.declared.lexeme.Lexeme.{Lexeme}
 use Rattle.xml_tokens.specs.declared.lexeme.Step.{Step}
 use Rattle.xml_tokens.specs.declared.lexeme.Step.TheVariants as step
 use Rattle.stx_engine.specs.declared.pass.Pass.{Pass}
-use Rattle.stx_engine.specs.Tree.{Why, Need, Bad, Mark, Fresh, Told, Begun, Leaf, Chars, Element, Forest, End, Cut, Single, Nested}
-use Rattle.stx_engine.specs.Document.{Before, is_inside, fault_of, before_next, Reading, with_first, ends_in, judged, reading, Future, inner, outer, text_before, element_of, followed, future, tree_of}
+use Rattle.stx_engine.specs.Tree.{Why, Need, Bad, Mark, Fresh, Told, Begun, Chars, Forest, End, Cut, Single, Nested}
+use Rattle.stx_engine.specs.Document.{Before, is_inside, fault_of, before_next, Reading, with_first, judged, reading, Future, inner, outer, text_before, followed, future, tree_of}
 use Rattle.stx_engine.specs.Meaning.{start_parts, end_parts, text_parts}
 use Rattle.stx_engine.specs.Passed.{Passed, stopped, put, unless_stopped, then_put, once_ready, passed}
 

@@ -1,5 +1,5 @@
 -- Lexemes that are read one after another.
-use Rattle.std.proofs.Common.{◌≡◌, Bool, true, false, List, [], ◌∷◌, ◌++◌, Option, Some, None, refl, sym, ap, ◌∙◌, append_assoc, append-nil}
+use Rattle.std.proofs.Common.{◌≡◌, Bool, true, false, List, [], ◌∷◌, ◌++◌, Some, None, sym, ap, ◌∙◌, append_assoc, append-nil}
 use Rattle.std.specs.Prelude.{ℕ, if◌then◌else◌}
 use Rattle.stx_base.specs.declared.fault.XmlKind.{XmlKind}
 use Rattle.stx_base.specs.declared.limits.Limits.{Limits}
@@ -7,7 +7,7 @@ use Rattle.xml_tokens.specs.declared.lexeme.Body.{Body}
 use Rattle.xml_tokens.specs.declared.lexeme.Body.TheVariants as body
 use Rattle.xml_tokens.specs.declared.lexeme.Lexeme.{Lexeme}
 use Rattle.xml_tokens.specs.declared.lexeme.Step.{Step}
-use Rattle.stx_engine.specs.Document.{Before, Reading, at_end, ends_in, fault_of, before_next, is_inside, judged, reading, with_first}
+use Rattle.stx_engine.specs.Document.{Before, Reading, fault_of, before_next, is_inside, judged, reading, with_first}
 use Rattle.stx_engine.specs.Plain.{is_kept}
 use Rattle.stx_engine.specs.Tree.{Bad}
 

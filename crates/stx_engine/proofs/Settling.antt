@@ -8,9 +8,9 @@ use Rattle.stx_base.specs.declared.fault.XmlKind.TheVariants.{LexemeTooLong, Inp
 use Rattle.stx_base.specs.declared.limits.Limits.{Limits}
 use Rattle.xml_tokens.specs.Shape.{shape_len}
 use Rattle.xml_tokens.specs.Plain.{judged}
-use Rattle.xml_tokens.specs.Reader.{Reader, bad, is_cut, is_last, is_open, coming, place, due, after, at_shape, at_shape_or_rest, at_rest, lexeme_or_fault, step_or_need}
+use Rattle.xml_tokens.specs.Reader.{Reader, bad, is_cut, is_last, is_open, coming, place, due, after, at_shape_or_rest, at_rest, lexeme_or_fault, step_or_need}
 use Rattle.xml_tokens.specs.Run.{Taken}
-use Rattle.xml_tokens.proofs.RunLemmas.{with_rest, due-fresh, due-more, taken-more, taken-fresh, taken-ended, after-shorter, after-fresh, need-going}
+use Rattle.xml_tokens.proofs.RunLemmas.{with_rest, due-fresh, due-more, taken-more, taken-fresh, taken-ended, after-shorter, after-fresh}
 use Rattle.xml_tokens.proofs.ReaderLemmas.{ending_at}
 use Rattle.xml_tokens.specs.declared.lexeme.Body.{Body}
 use Rattle.xml_tokens.specs.declared.lexeme.Ending.{Ending}
@@ -21,9 +21,9 @@ use Rattle.xml_tokens.specs.declared.lexeme.Step.TheVariants as step
 use Rattle.stx_host.specs.Outside.{document}
 use Rattle.stx_host.specs.declared.act.Doc.{Doc}
 use Rattle.stx_engine.specs.declared.pass.Pass.{Pass}
-use Rattle.stx_engine.specs.Answer.{read, run_of, run_on, result_of, settled, answer, asked, words_answer, sheet_answer, run_answer, sheet_named}
-use Rattle.stx_engine.specs.Document.{Reading, reading, at_start, tree_of}
-use Rattle.stx_engine.specs.Meaning.{Ending as Stop, Unready, outcome}
+use Rattle.stx_engine.specs.Answer.{read, run_on, result_of, settled, answer, asked, words_answer, sheet_answer, run_answer, sheet_named}
+use Rattle.stx_engine.specs.Document.{reading, at_start, tree_of}
+use Rattle.stx_engine.specs.Meaning.{Unready}
 use Rattle.stx_engine.specs.Passed.{Passed, passed, ending_of}
 use Rattle.stx_engine.specs.Result.{head, text}
 use Rattle.stx_engine.specs.Sheets.{pass_of}

@@ -8,8 +8,8 @@ use Rattle.xml_tokens.specs.declared.lexeme.Body.TheVariants as body
 use Rattle.xml_tokens.specs.declared.lexeme.Lexeme.{Lexeme}
 use Rattle.xml_tokens.specs.declared.lexeme.Step.{Step}
 use Rattle.stx_engine.specs.Document.{Before, Reading, Future, at_start, at_end, fault_of, before_next, judged, reading, inner, outer, followed, future, text_before, tree_of}
-use Rattle.stx_engine.specs.Flatten.{is_closed, IsAfterText, IsCut, IsProper, IsCutTree, is_complete}
-use Rattle.stx_engine.specs.Tree.{Why, Bad, Mark, Fresh, Chars, Element, Forest, End, Cut, Single, Nested}
+use Rattle.stx_engine.specs.Flatten.{is_closed, IsCut, IsProper, IsCutTree, is_complete}
+use Rattle.stx_engine.specs.Tree.{Why, Bad, Chars, Forest, End, Cut, Single, Nested}
 use Rattle.stx_engine.proofs.Ending.{EndsCut, Deep, deep_none, deep_first, why_first}
 
 abbrev Tidy : Option Why → Future → Type 0

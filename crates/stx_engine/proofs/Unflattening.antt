@@ -2,7 +2,7 @@
 use Rattle.std.proofs.Common.{◌≡◌, ◌≢◌, ℕ, Bool, true, false, List, [], ◌∷◌, ◌++◌, Option, Some, None, refl, sym, ap, ◌∙◌, append_assoc, append-nil, subst}
 use Rattle.std.specs.Prelude.{if◌then◌else◌, ◌&&◌}
 use Rattle.stx_engine.specs.Document.{Future, inner, outer, text_before}
-use Rattle.stx_engine.specs.Flatten.{Piece, Opens, Closes, Says, is_closed, flatten, IsAfterText, IsCut, IsProper, IsCutTree, is_complete}
+use Rattle.stx_engine.specs.Flatten.{Piece, Opens, Closes, Says, is_closed, flatten, IsAfterText, IsCut, IsProper, IsCutTree}
 use Rattle.stx_engine.specs.Tree.{Why, Mark, Fresh, Chars, Element, Forest, End, Cut, Single, Nested}
 
 module _ (why : Option Why) where

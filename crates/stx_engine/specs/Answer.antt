@@ -14,7 +14,7 @@ use Rattle.stx_engine.specs.declared.outcome.Outcome.{Outcome}
 use Rattle.stx_engine.specs.declared.outcome.Outcome.TheVariants.{Done, Usage, Sheet, Xml, Memory}
 use Rattle.stx_engine.specs.declared.pass.Pass.{Pass}
 use Rattle.stx_engine.specs.Document.{Reading, reading, at_start, tree_of}
-use Rattle.stx_engine.specs.Lexed.{Lexed, lexed}
+use Rattle.stx_engine.specs.Lexed.{lexed}
 use Rattle.stx_engine.specs.Line.{line_of, status_of}
 use Rattle.stx_engine.specs.Meaning.{Said, Put, Ending, Complete, Unready, Here, outcome}
 use Rattle.stx_engine.specs.Result.{head, text}

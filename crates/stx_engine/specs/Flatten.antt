@@ -4,7 +4,7 @@ use Rattle.stx_base.specs.declared.name.Name.{Name}
 use Rattle.xml_tokens.specs.declared.lexeme.Body.{Body}
 use Rattle.xml_tokens.specs.declared.lexeme.Body.TheVariants as body
 use Rattle.stx_engine.specs.Document.{element_of, plain_name}
-use Rattle.stx_engine.specs.Tree.{Why, Mark, Fresh, Leaf, Chars, Element, Forest, End, Cut, Single, Nested}
+use Rattle.stx_engine.specs.Tree.{Why, Fresh, Chars, Element, Forest, End, Cut, Single, Nested}
 
 -- a start, an end, or a text as long as possible
 pub data Piece : Type 0 where

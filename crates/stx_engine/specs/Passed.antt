@@ -1,9 +1,9 @@
 -- What a run puts, node by node: a sheet without templates treats each by the pass-through.
-use Rattle.std.specs.Prelude.{List, [], ◌∷◌, ◌++◌, Option, Some, None}
+use Rattle.std.specs.Prelude.{List, [], ◌++◌, Option, Some, None}
 use Rattle.stx_base.specs.declared.part.Part.{Part}
 use Rattle.stx_engine.specs.declared.pass.Pass.{Pass}
 use Rattle.stx_engine.specs.Meaning.{Ending, Complete, Unready, start_parts, end_parts, text_parts}
-use Rattle.stx_engine.specs.Tree.{Why, Mark, Fresh, Told, Begun, Leaf, Chars, Element, Forest, End, Cut, Single, Nested}
+use Rattle.stx_engine.specs.Tree.{Why, Mark, Fresh, Told, Begun, Chars, Forest, End, Cut, Single, Nested}
 
 -- the parts that are put, and why nothing follows them, if so
 pub record Passed : Type 0 where

@@ -1,4 +1,4 @@
-use Rattle.std.proofs.Common.{◌≡◌, ◌++◌, map, sym, ap, ◌∙◌, subst}
+use Rattle.std.proofs.Common.{◌++◌, map, sym, ap, ◌∙◌, subst}
 use Rattle.stx_base.specs.Course.{Ends}
 use Rattle.stx_engine.specs.Meaning.{Put, code, meaning}
 use Rattle.stx_engine.specs.Passed.{passed, ending_of}
