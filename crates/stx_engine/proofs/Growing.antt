@@ -1,13 +1,11 @@
 -- The text of parts grows with them.
-use Rattle.std.proofs.Common.{◌≡◌, ℕ, Bool, true, false, List, [], ◌∷◌, ◌++◌, refl, ap, sym, ◌∙◌, append_assoc, subst}
+use Rattle.std.proofs.Common.{◌≡◌, ℕ, Bool, true, false, List, [], ◌∷◌, ◌++◌, refl, ap, ◌∙◌, append_assoc}
 use Rattle.std.specs.Prelude.{codes, encode_utf8_all, if◌then◌else◌}
-use Rattle.std.proofs.lemmas.List.{append-nil}
-use Rattle.stx_base.specs.declared.name.Name.{Name}
 use Rattle.stx_base.specs.declared.part.Part.{Part}
 use Rattle.stx_base.specs.declared.part.Part.TheVariants as part
 use Rattle.stx_engine.specs.declared.escape.Context.TheVariants.{Content, Value}
 use Rattle.stx_engine.specs.Escape.{escaped}
-use Rattle.stx_engine.specs.Result.{settles, once_settled, tag_end, element_end, written_name, text_from, text}
+use Rattle.stx_engine.specs.Result.{settles, once_settled, tag_end, written_name, text_from}
 
 -- bytes, and more after them
 abbrev Begins : List ℕ → List ℕ → Type 0

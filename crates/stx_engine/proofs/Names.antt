@@ -1,5 +1,5 @@
 -- Laws of the names of the open elements.
-use Rattle.std.proofs.Common.{◌≡◌, ℕ, ◌+◌, ◌-◌, Bool, true, false, not, List, [], ◌∷◌, ◌++◌, Option, Some, None, refl, ap, sym, ◌∙◌, reverse, length, inl, inr, ⊎_elim, arith, IsTrue, subst}
+use Rattle.std.proofs.Common.{◌≡◌, ℕ, ◌-◌, Bool, true, false, not, List, [], ◌∷◌, ◌++◌, Option, Some, None, refl, ap, sym, ◌∙◌, reverse, length, inl, inr, ⊎_elim, arith, IsTrue}
 use Rattle.std.specs.Prelude.{◌⊎◌, slice_get, is_some, bytes_eq, MatchOption}
 use Rattle.std.proofs.lemmas.Bool.Decides.{same_from_decides}
 use Rattle.std.proofs.lemmas.List.{length_push}

@@ -2,17 +2,15 @@
 use Rattle.std.proofs.Common.{◌≡◌, ℕ, List, [], ◌∷◌, ◌++◌, Option, Some, None, refl, ap, sym, ◌∙◌, append_assoc}
 use Rattle.std.proofs.lemmas.List.{append-nil}
 use Rattle.stx_base.specs.declared.part.Part.{Part}
-use Rattle.stx_base.specs.declared.part.Part.TheVariants as part
 use Rattle.xml_tokens.specs.declared.lexeme.RawAttr.{RawAttr}
 use Rattle.stx_engine.specs.declared.pass.Pass.{Pass}
 use Rattle.stx_engine.specs.declared.pass.Pass.TheVariants as pass
-use Rattle.stx_engine.specs.declared.walk.Tag.{Tag}
 use Rattle.stx_engine.specs.declared.writer.Writer.{Writer}
 use Rattle.stx_engine.specs.Document.{Future, inner, outer, text_before, element_of}
 use Rattle.stx_engine.specs.Meaning.{start_parts, end_parts, text_parts}
-use Rattle.stx_engine.specs.More.{Follows, Given, PutsParts, gives, rest, with_front}
+use Rattle.stx_engine.specs.More.{Follows, Given, PutsParts, gives, rest}
 use Rattle.stx_engine.specs.Passed.{Passed, passed, put, then_put, unless_stopped}
-use Rattle.stx_engine.specs.Tree.{Why, Fresh, Leaf, Chars, Forest, End, Cut, Single, Nested}
+use Rattle.stx_engine.specs.Tree.{Why, Fresh, Chars, Forest, End, Cut, Single, Nested}
 
 put-put : (ps qs : List Part) (p : Passed) → put ps (put qs p) ≡ put (ps ++ qs) p
 put-put ps qs p = ap (λ l. record p { parts = l }) (sym (append_assoc ps qs p.parts))

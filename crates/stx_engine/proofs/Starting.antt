@@ -3,7 +3,6 @@ use Rattle.std.proofs.Common.{◌≡◌, ℕ, Bool, true, false, List, [], ◌�
 use Rattle.std.specs.Prelude.{codes, encode_utf8_all}
 use Rattle.std.specs.List.{flat_map}
 use Rattle.stx_base.specs.declared.part.Part.{Part}
-use Rattle.stx_base.specs.declared.part.Part.TheVariants as part
 use Rattle.xml_tokens.specs.declared.lexeme.RawAttr.{RawAttr}
 use Rattle.stx_engine.specs.declared.pass.Pass.TheVariants as pass
 use Rattle.stx_engine.specs.Document.{element_of, plain_attr}

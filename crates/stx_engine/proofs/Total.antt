@@ -1,12 +1,12 @@
 -- Each run on a tree has an end.
-use Rattle.std.proofs.Common.{◌≡◌, ℕ, ◌+◌, ◌<◌, ◌≤◌, List, [], ◌∷◌, Option, Some, None, map, arith}
-use Rattle.stx_base.specs.Course.{Course, Ret, Halt, Say, Ask, and_then, says, Over, Ends}
+use Rattle.std.proofs.Common.{◌≡◌, ℕ, ◌+◌, List, Some, None, map, arith}
+use Rattle.stx_base.specs.Course.{says, Over, Ends}
 use Rattle.stx_base.specs.Termination.{Safe}
-use Rattle.stx_base.proofs.Termination.{safe_then, safe_says, safe_more, has_end, end_at}
+use Rattle.stx_base.proofs.Termination.{safe_then, safe_says, has_end, end_at}
 use Rattle.stx_base.specs.declared.part.Part.{Part}
 use Rattle.stx_engine.specs.declared.pass.Pass.{Pass}
-use Rattle.stx_engine.specs.Tree.{Mark, Fresh, Told, Begun, Leaf, Chars, Element, Forest, End, Cut, Single, Nested}
-use Rattle.stx_engine.specs.Meaning.{Said, Put, Ending, Complete, Here, Asked, Job, Nodes, Does, when_ready, start_parts, end_parts, text_parts, siblings, pass_leaf, pass_element, nodes, code, meaning, size, outcome}
+use Rattle.stx_engine.specs.Tree.{Mark, Fresh, Told, Begun, Chars, Forest, End, Cut, Single, Nested}
+use Rattle.stx_engine.specs.Meaning.{Said, Put, Ending, Here, Asked, Job, Nodes, Does, when_ready, start_parts, end_parts, text_parts, siblings, pass_leaf, pass_element, nodes, code, meaning, size, outcome}
 
 abbrev weight : Job → ℕ
 weight (Nodes list asked) = size list

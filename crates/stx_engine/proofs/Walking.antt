@@ -1,20 +1,17 @@
 -- Laws of the walk's steps.
 use Rattle.std.proofs.Common.{◌≡◌, ℕ, Bool, true, false, List, [], ◌∷◌, ◌++◌, Option, Some, None, refl, ap, sym, ◌∙◌, reverse}
 use Rattle.std.proofs.lemmas.List.{reverse-append}
-use Rattle.stx_base.specs.declared.part.Part.{Part}
-use Rattle.xml_tokens.specs.declared.lexeme.Body.{Body}
 use Rattle.xml_tokens.specs.declared.lexeme.Body.TheVariants as body
 use Rattle.xml_tokens.specs.declared.lexeme.RawAttr.{RawAttr}
 use Rattle.stx_engine.specs.declared.copier.Copier.{Copier}
-use Rattle.stx_engine.specs.declared.pass.Pass.{Pass}
 use Rattle.stx_engine.specs.declared.walk.Tag.{Tag}
 use Rattle.stx_engine.specs.declared.walk.Walk.{Walk}
-use Rattle.stx_engine.specs.Document.{Before, Reading, Future, inner, outer, future, followed, text_before, element_of, is_inside, before_next, with_first}
+use Rattle.stx_engine.specs.Document.{Reading, Future, inner, outer, future, followed, text_before, element_of, is_inside}
 use Rattle.stx_engine.specs.Meaning.{start_parts, end_parts, text_parts}
-use Rattle.stx_engine.specs.More.{Follows, Given, PutsParts, gives, rest, with_front, with_held, names_of, before_of, still, given, given_on, IsBegun, IsWritten, IsSettled, Takes}
-use Rattle.stx_engine.specs.Passed.{Passed, passed, put, then_put}
+use Rattle.stx_engine.specs.More.{Follows, PutsParts, gives, rest, with_front, with_held, names_of, still, given, given_on, IsBegun, IsWritten, IsSettled, Takes}
+use Rattle.stx_engine.specs.Passed.{passed, put, then_put}
 use Rattle.stx_engine.specs.Tree.{Why, Fresh, Forest, End, Nested}
-use Rattle.stx_engine.proofs.Rest.{given_by, given-put, rest-nested, rest-text, rest-front, rest-onwards, onwards-put, text_before-ready, text_before-append, end_parts-attrs}
+use Rattle.stx_engine.proofs.Rest.{given_by, given-put, rest-nested, rest-text, rest-front, text_before-ready, text_before-append}
 
 pub reverse-last : {A : Type 0} (xs : List A) (x : A) → reverse (xs ++ x ∷ []) ≡ x ∷ reverse xs
 reverse-last xs x = reverse-append xs (x ∷ [])

@@ -1,7 +1,6 @@
 -- The tree of a document, from its lexemes: the first fault, and nodes by start and end tags (XML 1.0, 2.1 and 3.1).
-use Rattle.std.specs.Prelude.{ℕ, Bool, true, false, not, ◌&&◌, ◌||◌, nat_lt, nat_le, ◌==◌, bytes_eq, encode_utf8_all, if◌then◌else◌, List, [], ◌∷◌, ◌++◌, length, map, Option, Some, None}
+use Rattle.std.specs.Prelude.{ℕ, Bool, true, false, not, ◌&&◌, ◌||◌, nat_lt, nat_le, bytes_eq, encode_utf8_all, if◌then◌else◌, List, [], ◌∷◌, ◌++◌, length, map, Option, Some, None}
 use Rattle.std.specs.List.{list_any}
-use Rattle.stx_base.specs.declared.fault.XmlFault.{XmlFault}
 use Rattle.stx_base.specs.declared.fault.XmlKind.{XmlKind}
 use Rattle.stx_base.specs.declared.fault.XmlKind.TheVariants.{LexemeTooLong, NotBuilt, Mismatch, Truncated}
 use Rattle.stx_base.specs.declared.limits.Limits.{Limits}
@@ -13,7 +12,7 @@ use Rattle.xml_tokens.specs.declared.lexeme.Lexeme.{Lexeme}
 use Rattle.xml_tokens.specs.declared.lexeme.RawAttr.{RawAttr}
 use Rattle.xml_tokens.specs.declared.lexeme.Step.{Step}
 use Rattle.xml_tokens.specs.declared.lexeme.Step.TheVariants as step
-use Rattle.stx_engine.specs.Tree.{Why, Need, Bad, Mark, Fresh, Leaf, Chars, Element, Forest, End, Cut, Single, Nested}
+use Rattle.stx_engine.specs.Tree.{Why, Need, Bad, Fresh, Chars, Element, Forest, End, Cut, Single, Nested}
 
 -- what stands before a lexeme: the names of the open elements, the innermost first, whether the root's start tag was
 -- read, and the text directly before

@@ -1,6 +1,5 @@
 -- What an engine is handed, and what it wants.
-use Rattle.std.specs.Prelude.{◌≡◌, ℕ, ◌+◌, ◌≤◌, Bool, true, false, List, length}
-use Rattle.stx_base.specs.declared.limits.Limits.{Limits}
+use Rattle.std.specs.Prelude.{◌≡◌, ◌+◌, ◌≤◌, Bool, true, false, length}
 use Rattle.xml_tokens.specs.Reader.{Reader, fed}
 use Rattle.stx_engine.specs.declared.engine.Piece.{Piece}
 use Rattle.stx_engine.specs.declared.engine.Piece.TheVariants.{Start, Bytes, End}

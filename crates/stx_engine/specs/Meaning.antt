@@ -1,8 +1,7 @@
 -- What a run does with a document's tree.
-use Rattle.std.specs.Prelude.{ℕ, ◌+◌, List, [], ◌∷◌, ◌++◌, map, Option, Some, None}
-use Rattle.stx_base.specs.Course.{Course, Ret, Halt, Say, Ask, and_then, says, Answer, value, run}
+use Rattle.std.specs.Prelude.{ℕ, ◌+◌, List, [], ◌∷◌, map, Option, Some, None}
+use Rattle.stx_base.specs.Course.{Course, Ret, Halt, Ask, and_then, says, Answer, value, run}
 use Rattle.stx_base.specs.declared.name.Attr.{Attr}
-use Rattle.stx_base.specs.declared.name.Name.{Name}
 use Rattle.stx_base.specs.declared.part.Part.{Part}
 use Rattle.stx_base.specs.declared.part.Part.TheVariants as part
 use Rattle.stx_engine.specs.declared.pass.Pass.{Pass}

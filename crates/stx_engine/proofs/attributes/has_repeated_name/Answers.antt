@@ -1,4 +1,4 @@
-use Rattle.std.proofs.Common.{◌≡◌, ap, sym, ◌∙◌, true, false, not, cond, take, encode_utf8_all}
+use Rattle.std.proofs.Common.{◌≡◌, ap, sym, ◌∙◌, true, false, cond, take, encode_utf8_all}
 use Rattle.std.specs.Cmp.Lexicographic.{slice_cmp}
 use Rattle.std.specs.Ordering.{nat_cmp, is_eq}
 use Rattle.stx_engine.specs.Document.{has_name}

@@ -1,6 +1,6 @@
 use Rattle.std.proofs.Common.{◌+◌}
 use Rattle.stx_base.proofs.Course.{one_end}
-use Rattle.stx_engine.specs.Meaning.{code, size}
+use Rattle.stx_engine.specs.Meaning.{size}
 use Rattle.stx_engine.proofs.Total.{has_meaning, outcome_is}
 use Rattle.stx_engine.proofs.law.one_meaning.Goals as goal
 

@@ -1,4 +1,4 @@
-use Rattle.std.proofs.Common.{rules, ap, ◌∙◌, length}
+use Rattle.std.proofs.Common.{rules, ap, length}
 use Rattle.std.proofs.lemmas.Str.{chars_from_encodes}
 use Rattle.stx_engine.proofs.walk.char_count.Goals as goal
 

@@ -1,6 +1,4 @@
-use Rattle.std.proofs.Common.{refl, true, subst}
-use Rattle.stx_engine.specs.More.{Takes}
-use Rattle.xml_tokens.specs.declared.lexeme.Body.TheVariants as body
+use Rattle.std.proofs.Common.{refl}
 use Rattle.stx_engine.proofs.Results.{on_both}
 use Rattle.stx_engine.proofs.Walking.{takes_empty}
 use Rattle.stx_engine.proofs.walk.Walk.take_start.Goals as goal

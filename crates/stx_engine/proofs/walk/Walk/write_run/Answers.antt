@@ -1,4 +1,4 @@
-use Rattle.std.proofs.Common.{refl, sym, ◌∙◌}
+use Rattle.std.proofs.Common.{refl}
 use Rattle.stx_engine.proofs.Walking.{writes_run}
 use Rattle.stx_engine.proofs.walk.Walk.write_run.Goals as goal
 
