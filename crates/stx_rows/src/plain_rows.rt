@@ -50,7 +50,7 @@ fn refusals(rt: HostRuntime) -> Result<(), Fail> {
         let found = answer_of(rt.alloc(), words, sheet, "<a/>")?;
         let opened = usize::from(status == 3);
         assert_eq!(rt; found.status, status, "{note}");
-        assert_eq!(rt; found.note.as_str(), note);
+        assert_eq!(rt; found.note.as_bytes(), note.as_bytes(), "{note}");
         assert!(rt; found.out.is_empty(), "{note}");
         assert_eq!(rt; found.opened.len(), opened, "{note}");
     }
