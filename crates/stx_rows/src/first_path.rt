@@ -58,6 +58,23 @@ fn written_before_reads(rt: HostRuntime) -> Result<(), Fail> {
     Ok(())
 }
 
+// A fault is found with the last byte of its lexeme, and nothing behind it is read.
+#[test]
+fn no_read_after_a_fault(rt: HostRuntime) -> Result<(), Fail> {
+    let given = Given {
+        words: &[SHEET],
+        sheet: Some(PASS_ALL),
+        main: "<a></b><c></c>",
+        in_bytes: true,
+        fails: &[],
+    };
+    let ran = given.run(rt.alloc())?;
+    let before = ran.taken_before_reads(rt.alloc())?;
+    assert_eq!(rt; ran.status, 4);
+    assert_eq!(rt; before.len(), "<a></b>".len());
+    Ok(())
+}
+
 // A read of the main document that fails: what the reads before it settled was written.
 #[test]
 fn failing_read(rt: HostRuntime) -> Result<(), Fail> {
