@@ -78,6 +78,19 @@ module _ (r : Reader) where
   need_by false false false true true e = absurd cc
   need_by false false false true false e = absurd cc
 
+  end_by_tests : (undecided long cut ended empty : Bool) → step.End ≡ step_or_need (rest_by undecided long cut ended empty) → (ended ≡ true) × (cut ≡ false)
+  end_by_tests true long true ended empty e = absurd cc
+  end_by_tests true long false true empty e = (refl, refl)
+  end_by_tests true long false false empty e = absurd cc
+  end_by_tests false true cut ended empty e = absurd cc
+  end_by_tests false false true ended empty e = absurd cc
+  end_by_tests false false false true empty e = (refl, refl)
+  end_by_tests false false false false empty e = absurd cc
+
+  -- a document ends only within the limit
+  end-within : step.End ≡ step_or_need (at_rest r) → (r.ended ≡ true) × (is_cut r ≡ false)
+  end-within e = end_by_tests (is_open r) (nat_lt r.limits.lexeme (length (coming r))) (is_cut r) r.ended (length (coming r) == 0) e
+
   -- more bytes are wanted only where the document may go on
   need-open : step.Need ≡ step_or_need (at_rest r) → (r.ended ≡ false) × (is_cut r ≡ false)
   need-open e = need_by (is_open r) (nat_lt r.limits.lexeme (length (coming r))) (is_cut r) r.ended (length (coming r) == 0) e
@@ -103,6 +116,23 @@ due-need r e = by_over r.over e where
   by_over (Some over) d = absurd (no_need over d)
   by_over None d = by_shape (shape_len (is_last r) (coming r)) d
 
+shape_no_end : (limits : Limits) (bytes : List ℕ) (at : ℕ) → step.End ≡ at_shape limits bytes at → ⊥
+shape_no_end limits bytes at e = by_size (nat_lt limits.lexeme (length bytes)) e where
+  by_body : (o : Option Body) → step.End ≡ lexeme_or_fault o at → ⊥
+  by_body (Some body) d = cc
+  by_body None d = cc
+
+  by_size : (t : Bool) → step.End ≡ (if t then step.Bad (record { kind = LexemeTooLong; offset = at }) else lexeme_or_fault (judged bytes) at) → ⊥
+  by_size true d = cc
+  by_size false d = by_body (judged bytes) d
+
+due-end : (r : Reader) → step.End ≡ due r → r.over ≡ None → (r.ended ≡ true) × (is_cut r ≡ false)
+unfolding due
+due-end r e fresh = by_shape (shape_len (is_last r) (coming r)) (e ∙ ap (λ o. repeated_or o (at_shape_or_rest r (shape_len (is_last r) (coming r)))) fresh) where
+  by_shape : (o : Option ℕ) → step.End ≡ at_shape_or_rest r o → (r.ended ≡ true) × (is_cut r ≡ false)
+  by_shape (Some len) d = absurd (shape_no_end r.limits (take len (coming r)) (place r) d)
+  by_shape None d = end-within r d
+
 pub answer-shrinks : (r : Reader) (s : Step) → IsAnswer r s → Shrinks r s (after r s)
 answer-shrinks r (step.Lexeme l) h = lexeme-shrinks r l h
 answer-shrinks r step.Need h = tt
@@ -115,7 +145,9 @@ answer-MayWant r step.Need w h =
     let e = due-need r h in
     (e.0, omega (arith, w, ltb-false (r.limits.input - r.offset) (length r.unread) e.1))
 answer-MayWant r (step.Lexeme l) w h = tt
-answer-MayWant r step.End w h = tt
+answer-MayWant r step.End w h = λ fresh.
+    let e = due-end r h fresh in
+    (e.0, omega (arith, w, ltb-false (r.limits.input - r.offset) (length r.unread) e.1))
 answer-MayWant r (step.Bad fault) w h = tt
 answer-MayWant r step.Memory w h = tt
 

@@ -148,7 +148,8 @@ abbrev pub Shrinks : Reader → Step → Reader → Type 0
 Shrinks old (step.Lexeme lexeme) new = length new.unread < length old.unread
 Shrinks old answer new = Unit {0}
 
--- more bytes are wanted only of a document that may go on within the limit
+-- more bytes are wanted only of a document that may go on within the limit; and only where it ended within it does it end
 abbrev pub MayWant : Reader → Step → Type 0
+MayWant r step.End = r.over ≡ None → (r.ended ≡ true) × (fed r ≤ r.limits.input)
 MayWant r step.Need = (r.ended ≡ false) × (fed r ≤ r.limits.input)
 MayWant r answer = Unit {0}
