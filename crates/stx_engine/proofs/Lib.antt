@@ -17,3 +17,7 @@ pub mod Faults
 pub mod Flattening
 pub mod Unflattening
 pub mod Treeing
+pub mod Tagging
+pub mod Matching
+pub mod Named
+pub mod Nesting

@@ -7,6 +7,7 @@ pub mod Laws
 pub mod Lexed
 pub mod Line
 pub mod Meaning
+pub mod Nesting
 pub mod Passed
 pub mod Plain
 pub mod Result

@@ -1,6 +1,6 @@
 //! Laws of the definitions, as contracts.
 
-ghost use Rattle.std.specs.Prelude.{◌≡◌, ◌≢◌, ◌↔◌, ◌++◌, Bool, false, true, List, ℕ, Some, map};
+ghost use Rattle.std.specs.Prelude.{◌≡◌, ◌≢◌, ◌↔◌, ◌++◌, Bool, false, true, List, ℕ, Some, codes, map};
 ghost use Rattle.stx_base.specs.Course.{Begins, Ends, Over};
 ghost use Rattle.stx_base.specs.StandardLimits.{standard_limits};
 ghost use Rattle.stx_base.specs.declared.limits.Limits.{Limits};
@@ -12,6 +12,7 @@ ghost use Rattle.stx_engine.specs.Answer.{run_on, result_of, settled, answer, as
 ghost use Rattle.stx_engine.specs.Meaning.{Said, Put, Ending, Complete, Unready, code, meaning, outcome};
 ghost use Rattle.stx_engine.specs.Passed.{passed, ending_of};
 ghost use Rattle.stx_engine.specs.Laws.{FirstFault, Flattened, IsTree, NoFault, OnlyTree};
+ghost use Rattle.stx_engine.specs.Nesting.{EndsHaveStarts};
 ghost use Rattle.stx_engine.specs.Result.{text};
 ghost use Rattle.stx_engine.specs.Document.{Reading, tree_of};
 
@@ -62,4 +63,24 @@ pub fn flattened()
     ensures lexemes { Flattened }
     // No other tree does.
     ensures only { OnlyTree }
+{}
+
+/// No end tag in an output lacks its start tag, wherever the output stops.
+pub fn ends_have_starts()
+    ensures run { (limits : Limits) (pass : Pass) (bytes : List ℕ) (ended : Bool) (front : List ℕ) → Begins front (result_of (run_on limits pass bytes ended)) → EndsHaveStarts front }
+    // So it is with all that the program writes.
+    ensures answer { (words : List (List ℕ)) (docs : List Doc) (main front : List ℕ) → Begins front (answer words docs main).out → EndsHaveStarts front }
+{}
+
+/// Which end tags lack their start tags.
+pub fn lone_ends()
+    // One where no element is open.
+    ensures alone { EndsHaveStarts (codes "</a>") → ⊥ }
+    ensures twice { EndsHaveStarts (codes "<a></a></a>") → ⊥ }
+    ensures empty { EndsHaveStarts (codes "<a/></a>") → ⊥ }
+    // One where the innermost open element has another name.
+    ensures other { EndsHaveStarts (codes "<a><b></a>") → ⊥ }
+    ensures longer { EndsHaveStarts (codes "<a></ab>") → ⊥ }
+    // None in quotes, in a comment, or unfinished.
+    ensures none { EndsHaveStarts (codes "<a b='</c>'><!--</c>--></a></c") }
 {}
