@@ -15,3 +15,4 @@ pub mod Sheets
 pub mod Tag
 pub mod Tree
 pub mod More
+pub mod Words

@@ -1,7 +1,5 @@
 -- What the values of the plain program mean.
-use Rattle.std.specs.Prelude.{◌≡◌, ℕ, Bool, true, List, [], map, reverse, Option, Some, None, string_bytes}
-use Rattle.std.specs.Str.{chars}
-use Rattle.std.specs.declared.string.String.{String}
+use Rattle.std.specs.Prelude.{◌≡◌, Bool, true, List, [], map, reverse, Option, Some, None, string_bytes}
 use Rattle.xml_tokens.specs.declared.lexeme.Body.{Body}
 use Rattle.xml_tokens.specs.declared.lexeme.Body.TheVariants as body
 use Rattle.stx_engine.specs.declared.plain.answer.Answer.{Answer as PlainAnswer}
@@ -45,10 +43,6 @@ is_kept b (body.End name) = true
 
 abbrev pub run_of : PlainPassed → Run
 run_of p = record { parts = p.parts; ending = ending_of (why_of p.stop) }
-
--- words as lists of characters
-abbrev pub characters : {A : Type 0} → List (String A) → List (List ℕ)
-characters words = map (λ w. chars (string_bytes w)) words
 
 -- an answer of the plain program is this one
 pub record IsAnswer (found : PlainAnswer) (answer : Answer) : Type 0 where

@@ -7,9 +7,10 @@ ghost use Rattle.stx_host.specs.Outside.{document as document_of};
 ghost use Rattle.stx_engine.specs.Answer as spec;
 ghost use Rattle.stx_engine.specs.Meaning.{Unready};
 ghost use Rattle.stx_engine.specs.Passed.{ending_of};
-ghost use Rattle.stx_engine.specs.Plain.{characters, cut_of, run_of, why_of, IsAnswer};
+ghost use Rattle.stx_engine.specs.Plain.{cut_of, run_of, why_of, IsAnswer};
 ghost use Rattle.stx_engine.specs.Result.{head, text as spec_text};
 ghost use Rattle.stx_engine.specs.Sheets.{is_spelled as spec_is_spelled, pass_of as spec_pass_of};
+ghost use Rattle.stx_engine.specs.Words.{characters};
 
 use crate::line::line;
 use crate::outcome::Outcome;
