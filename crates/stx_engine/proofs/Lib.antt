@@ -14,6 +14,8 @@ pub mod Twins
 pub mod Rereading
 pub mod Ending
 pub mod Faults
+pub mod Forms
+pub mod Loading
 pub mod Flattening
 pub mod Unflattening
 pub mod Treeing

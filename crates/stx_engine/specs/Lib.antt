@@ -6,6 +6,7 @@ pub mod Flatten
 pub mod Laws
 pub mod Lexed
 pub mod Line
+pub mod Loading
 pub mod Meaning
 pub mod Nesting
 pub mod Passed
