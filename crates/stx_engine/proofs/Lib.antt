@@ -23,3 +23,6 @@ pub mod Tagging
 pub mod Matching
 pub mod Named
 pub mod Nesting
+pub mod Going
+pub mod Pumping
+pub mod Beginnings

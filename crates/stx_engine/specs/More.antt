@@ -1,6 +1,7 @@
 -- What a run still gives.
 use Rattle.std.specs.Prelude.{◌≡◌, ℕ, true, false, List, [], ◌∷◌, ◌++◌, reverse, Option, Some, None}
 use Rattle.stx_base.specs.declared.fault.XmlFault.{XmlFault}
+use Rattle.stx_base.specs.declared.limits.Limits.{Limits}
 use Rattle.stx_base.specs.declared.part.Part.{Part}
 use Rattle.stx_engine.specs.declared.pass.Pass.{Pass}
 use Rattle.stx_engine.specs.declared.walk.Tag.{Tag}
@@ -75,6 +76,25 @@ given w why f =
 -- what a walk still gives on what is read of a document
 abbrev pub given_on : Walk → Reading → Given
 given_on w r = given w r.why (future r.why r.bodies)
+
+-- a walk that took nothing yet
+pub record StartsAs (limits : Limits) (pass : Pass) (w : Walk) : Type 0 where
+  pub limits_are : w.limits ≡ limits
+  pub pass_is : w.copier.pass ≡ pass
+  pub rooted : w.rooted ≡ false
+  pub begun : w.begun ≡ []
+  pub held : w.held ≡ None
+  pub run : w.run ≡ []
+  pub tag : w.copier.writer.held.items ≡ []
+  pub settled : w.copier.writer.settled.items ≡ []
+
+-- the settled bytes were handed out, and all else is as it was
+pub record HandsOut (old new : Walk) : Type 0 where
+  pub before : before_of new ≡ before_of old
+  pub limits : new.limits ≡ old.limits
+  pub settled : new.copier.writer.settled.items ≡ []
+  pub law : (why : Option Why) (f : Future)
+      → given old why f ≡ record (given new why f) { bytes = old.copier.writer.settled.items ++ (given new why f).bytes }
 
 -- an element or an end follows: the held start tag was begun
 pub record IsBegun (old new : Walk) : Type 0 where

@@ -1,6 +1,7 @@
-ghost use Rattle.std.specs.Prelude.{◌≡◌, Ok};
+ghost use Rattle.std.specs.Prelude.{◌≡◌, ◌<◌, ◌^◌, IfOk, OnErr, None, Ok};
 ghost use Rattle.xml_tokens.specs.Reader.{begun, fed};
-ghost use Rattle.stx_engine.specs.Engine.{Expects, GoesOn, Wants};
+ghost use Rattle.stx_engine.specs.Document.{reported};
+ghost use Rattle.stx_engine.specs.Engine.{ended_reading, Expects, GoesOn, IsReady, IsWaiting, Means, Pumps, ReadsOn, Wants, more, more_of};
 ghost use Rattle.stx_engine.specs.declared.engine.Pumped.TheVariants as pumped;
 ghost use Rattle.stx_engine.specs.declared.engine.Reading.TheVariants as reading;
 
@@ -56,8 +57,11 @@ pub struct Engine {
 }
 
 impl Engine {
+    /// What it gives from its start on is the meaning of the document.
     pub fn new(alloc: Global, pass: Pass, limits: Limits) -> Engine
-        ensures { result.lexer ≡ begun limits }
+        ensures lexer { result.lexer ≡ begun limits }
+        ensures waits { limits.input < 2 ^ 64 → IsWaiting result }
+        ensures meaning { Means limits pass result }
     {
         Engine {
             alloc,
@@ -68,14 +72,20 @@ impl Engine {
     }
 
     /// How the run ended.
-    pub fn into_outcome(self) -> Option<Outcome> {
+    pub fn into_outcome(self) -> Option<Outcome>
+        ensures { result ≡ self.outcome }
+    {
         let Engine { outcome, .. } = self;
         outcome
     }
 
-    /// Takes a piece and appends to `out` all bytes that are settled. Where memory is wanting nothing is appended.
+    /// Takes a piece and appends to `out` all bytes that are settled. What was appended, and then what is still to come, is
+    /// what was to come of the piece and all that follows it. Where memory is wanting what was appended is a beginning of
+    /// that.
     pub fn pump(&mut self, piece: Piece<'_>, out: &mut Vec<u8>) -> Pumped
-        requires { Expects self.old.lexer piece }
+        requires expects { Expects self.old.lexer piece }
+        requires waits { IsWaiting self.old }
+        ensures pumps { Pumps (more_of self.old piece.entry) self.new out.old.items out.new.items result }
         ensures wants { result ≡ pumped.Main → Wants piece.entry self.old.lexer self.new.lexer }
     {
         match self.step(piece, out) {
@@ -88,7 +98,10 @@ impl Engine {
     }
 
     fn step(&mut self, piece: Piece<'_>, out: &mut Vec<u8>) -> Result<Pumped, Memory>
-        requires { Expects self.old.lexer piece }
+        requires expects { Expects self.old.lexer piece }
+        requires waits { IsWaiting self.old }
+        ensures pumps { IfOk result (Pumps (more_of self.old piece.entry) self.new out.old.items out.new.items) }
+        ensures err { OnErr result (out.new.items ≡ out.old.items) }
         ensures wants { result ≡ Ok pumped.Main → Wants piece.entry self.old.lexer self.new.lexer }
     {
         match piece {
@@ -109,6 +122,9 @@ impl Engine {
 
     // Takes what was handed in, and appends all bytes that are settled.
     fn go_on(&mut self, out: &mut Vec<u8>) -> Result<Pumped, Memory>
+        requires { IsReady self.old.walk self.old.lexer }
+        ensures pumps { IfOk result (Pumps (more self.old) self.new out.old.items out.new.items) }
+        ensures err { OnErr result (out.new.items ≡ out.old.items) }
         ensures wants { result ≡ Ok pumped.Main → GoesOn self.new.lexer }
         ensures ended { self.new.lexer.ended ≡ self.old.lexer.ended }
         ensures fed { fed self.new.lexer ≡ fed self.old.lexer }
@@ -135,6 +151,8 @@ impl Engine {
 
     // Takes all lexemes that are complete.
     fn read_on(&mut self) -> Result<Reading, Memory>
+        requires { IsReady self.old.walk self.old.lexer }
+        ensures going { IfOk result (ReadsOn self.old.walk self.new.walk self.old.lexer self.new.lexer) }
         ensures wants { result ≡ Ok reading.Wants → GoesOn self.new.lexer }
         ensures ended { self.new.lexer.ended ≡ self.old.lexer.ended }
         ensures fed { fed self.new.lexer ≡ fed self.old.lexer }
@@ -156,7 +174,8 @@ impl Engine {
     }
 
     fn at_end(&self) -> Reading
-        ensures { result ≡ reading.Wants → ⊥ }
+        ensures wants { result ≡ reading.Wants → ⊥ }
+        ensures reading { fed self.now.lexer < 2 ^ 64 → result ≡ ended_reading self.now.walk (fed self.now.lexer) }
     {
         if self.walk.is_complete() {
             Reading::Complete
@@ -170,7 +189,9 @@ impl Engine {
 }
 
 // A lexeme that is too long is reported as a form that isn't read yet.
-fn as_reported(fault: XmlFault) -> XmlFault {
+fn as_reported(fault: XmlFault) -> XmlFault
+    ensures { result ≡ record fault { kind = reported fault.kind } }
+{
     match fault.kind {
         XmlKind::LexemeTooLong => XmlFault {
             kind: XmlKind::NotBuilt,

@@ -1,4 +1,4 @@
-ghost use Rattle.std.specs.Prelude.{◌≡◌, ◌++◌, true, None, OnOk, IfOk, length, nat_le, nat_lt, ◌≤◌, ◌<◌, ◌^◌};
+ghost use Rattle.std.specs.Prelude.{◌≡◌, ◌++◌, true, None, OnOk, OnErr, IfOk, length, nat_le, nat_lt, ◌≤◌, ◌<◌, ◌^◌};
 ghost use Rattle.xml_tokens.specs.declared.lexeme.Body.TheVariants as body;
 
 use crate::attributes::has_duplicate;
@@ -34,9 +34,11 @@ pub struct Walk {
 
 impl Walk {
     ghost use Rattle.stx_engine.specs.Document.{fault_of, is_complete, is_innermost, is_inside};
-    ghost use Rattle.stx_engine.specs.More.{IsBegun, IsSettled, IsWritten, Taken, Takes, before_of, names_of};
+    ghost use Rattle.stx_engine.specs.More.{HandsOut, IsBegun, IsSettled, IsWritten, StartsAs, Taken, Takes, before_of, names_of};
 
-    pub fn new(alloc: Global, limits: Limits, pass: Pass) -> Walk {
+    pub fn new(alloc: Global, limits: Limits, pass: Pass) -> Walk
+        ensures { StartsAs limits pass result }
+    {
         Walk {
             alloc,
             limits,
@@ -72,7 +74,11 @@ impl Walk {
     }
 
     /// Appends the bytes that are settled to `out`, which is unchanged after a refusal.
-    pub fn hand_out(&mut self, out: &mut Vec<u8>) -> Result<(), Memory> {
+    pub fn hand_out(&mut self, out: &mut Vec<u8>) -> Result<(), Memory>
+        ensures ok { OnOk result (out.new.items ≡ out.old.items ++ self.old.copier.writer.settled.items) }
+        ensures err { OnErr result (out.new.items ≡ out.old.items) }
+        ensures rest { OnOk result (HandsOut self.old self.new) }
+    {
         self.copier.hand_out(out)
     }
 
