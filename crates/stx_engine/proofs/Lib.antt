@@ -26,3 +26,6 @@ pub mod Nesting
 pub mod Going
 pub mod Pumping
 pub mod Beginnings
+pub mod Driven
+pub mod Ran
+pub mod Headed

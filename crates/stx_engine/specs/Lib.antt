@@ -1,8 +1,10 @@
 pub mod Answer
 pub mod Document
+pub mod Driving
 pub mod Engine
 pub mod Escape
 pub mod Flatten
+pub mod Headline
 pub mod Laws
 pub mod Lexed
 pub mod Line
@@ -12,6 +14,7 @@ pub mod Nesting
 pub mod Passed
 pub mod Plain
 pub mod Result
+pub mod Running
 pub mod Sheets
 pub mod Tag
 pub mod Tree

@@ -1,5 +1,16 @@
-ghost use Rattle.std.specs.Prelude.{◌≤◌, ◌^◌};
-ghost use Rattle.stx_engine.specs.Engine.{GoesOn};
+ghost use Rattle.std.specs.Prelude.{◌≤◌, ◌^◌, ℕ, List};
+ghost use Rattle.stx_base.specs.Course.{Begins};
+ghost use Rattle.stx_base.specs.declared.limits.Limits.{Limits};
+ghost use Rattle.stx_host.specs.Before.{since};
+ghost use Rattle.stx_host.specs.declared.act.Doc.{Doc};
+ghost use Rattle.stx_engine.specs.Answer.{answer};
+ghost use Rattle.stx_engine.specs.Driving.{Drives, FailsBy, WritesOn};
+ghost use Rattle.stx_engine.specs.Engine.{GoesOn, IsWaiting, Means};
+ghost use Rattle.stx_engine.specs.Headline.{AsksSettled, GivesAnswer, IsStatus, NotesAfterFailure, OpensFirst, RefusesUnnamed, Tells};
+ghost use Rattle.stx_engine.specs.Nesting.{EndsHaveStarts};
+ghost use Rattle.stx_engine.specs.Running.{Reports, Runs};
+ghost use Rattle.stx_engine.specs.Words.{characters};
+ghost use Rattle.stx_engine.specs.declared.pass.Pass.{Pass};
 
 use crate::engine::{Engine, Piece, Pumped};
 use crate::line::{OUT_OF_MEMORY, line};
@@ -13,11 +24,30 @@ use stx_host::{Got, Host, Lane, Put};
 /// The status where the host failed.
 const HOST_FAILED: u8 = 5;
 
+/// The status where memory was wanting.
+const MEMORY_WANTING: u8 = 7;
+
 /// Does all that the program does with the words after its name, and answers the status that it ends with: 0 where the
 /// document was read to its end and all was written, 2 where the words are refused, 3 where the sheet is, 4 where the
 /// document has a fault, 5 where the host failed, 7 where memory was wanting. What stopped the run stands in one line
 /// on the lane `Note`.
-pub fn transform<H: Host>(alloc: Global, words: &[String], host: &mut H) -> u8 {
+pub fn transform<H: Host>(alloc: Global, words: &[String], host: &mut H) -> u8
+    // Where no call of the host failed and memory sufficed, the lanes and the status are exactly the answer.
+    ensures answer { (docs : List Doc) (main : List ℕ) → Tells (H.outside host.old) docs main → GivesAnswer (H.outside host.old) (H.outside host.new) result (answer (characters words.now) docs main) }
+    // Whenever the main document is read, exactly what the bytes read so far settle was written, and more is needed.
+    ensures reads { (docs : List Doc) (main : List ℕ) → Tells (H.outside host.old) docs main → AsksSettled (H.outside host.old) (H.outside host.new) (characters words.now) docs main }
+    // After any stop the output is a beginning of the answer's.
+    ensures prefix { (docs : List Doc) (main : List ℕ) → Tells (H.outside host.old) docs main → Begins (since (H.outside host.old).out (H.outside host.new).out) (answer (characters words.now) docs main).out }
+    // No end tag in it lacks its start tag.
+    ensures nested { (docs : List Doc) (main : List ℕ) → Tells (H.outside host.old) docs main → EndsHaveStarts (since (H.outside host.old).out (H.outside host.new).out) }
+    // Only documents that the answer opens are opened, in its order.
+    ensures opened { (docs : List Doc) (main : List ℕ) → Tells (H.outside host.old) docs main → OpensFirst docs (answer (characters words.now) docs main).opened result (since (H.outside host.old).log (H.outside host.new).log) }
+    // Where the host failed or memory was wanting, the line says which and where.
+    ensures failure { (docs : List Doc) (main : List ℕ) → Tells (H.outside host.old) docs main → NotesAfterFailure (H.outside host.old) (H.outside host.new) (characters words.now) result (answer (characters words.now) docs main) }
+    // For every host, whatever it tells: the statuses that there are, and when words are refused.
+    ensures status { IsStatus (H.outside host.old) (H.outside host.new) result }
+    ensures words { RefusesUnnamed (H.outside host.old) (H.outside host.new) (characters words.now) result }
+{
     let outcome = run(alloc, words, host);
     match line(alloc, &outcome) {
         Ok(line) => report(line.as_str(), outcome.status(), host),
@@ -25,16 +55,19 @@ pub fn transform<H: Host>(alloc: Global, words: &[String], host: &mut H) -> u8 {
     }
 }
 
-// Writes the fault line, where there is one.
-fn report<H: Host>(line: &str, status: u8, host: &mut H) -> u8 {
-    let mut taken = 0;
-    match write(host, Lane::Note, line.as_bytes(), &mut taken) {
-        Ok(()) => status,
-        Err(Refused) => HOST_FAILED,
+// Writes the fault line, where there is one. Want of memory stays the status where that fails too.
+fn report<H: Host>(line: &str, status: u8, host: &mut H) -> u8
+    ensures { Reports (H.outside host.old) line.now status (H.outside host.new) result }
+{
+    match write(host, Lane::Note, line.as_bytes()) {
+        Err(_) if status != MEMORY_WANTING => HOST_FAILED,
+        _ => status,
     }
 }
 
-fn run<H: Host>(alloc: Global, words: &[String], host: &mut H) -> Outcome {
+fn run<H: Host>(alloc: Global, words: &[String], host: &mut H) -> Outcome
+    ensures { Runs (characters words.now) (H.outside host.old) (H.outside host.new) result }
+{
     let name = match read_words(alloc, words) {
         Ok(name) => name,
         Err(WordsFault::Usage) => return Outcome::Usage,
@@ -49,18 +82,21 @@ fn run<H: Host>(alloc: Global, words: &[String], host: &mut H) -> Outcome {
 // Reads the main document, hands it to the engine, and writes what is settled before each read.
 fn drive<H: Host>(alloc: Global, engine: Engine, host: &mut H) -> Outcome
     requires goes_on { GoesOn engine.lexer }
+    requires waits { IsWaiting engine }
     requires input { engine.lexer.limits.input ≤ 2 ^ 50 }
+    ensures { (limits : Limits) (pass : Pass) → Means limits pass engine → Drives limits pass (H.outside host.old) (H.outside host.new) result }
 {
     let mut engine = engine;
     let mut settled = Vec::new(alloc);
     let mut room = [0; PIECE];
     let mut read = 0u64;
-    let mut taken = 0u64;
+    let mut written = 0u64;
     let mut pumped = engine.pump(Piece::Start, &mut settled);
     loop {
-        if write(host, Lane::Out, settled.as_slice(), &mut taken).is_err() {
-            return failure(alloc, HostFault::Write, taken);
+        if let Err(refused) = write(host, Lane::Out, settled.as_slice()) {
+            return failure(alloc, HostFault::Write, written.saturating_add(refused.taken as u64));
         }
+        written = written.saturating_add(settled.len() as u64);
         settled.clear();
         if pumped != Pumped::Main {
             return engine.into_outcome().unwrap_or(Outcome::Memory);
@@ -77,7 +113,9 @@ fn drive<H: Host>(alloc: Global, engine: Engine, host: &mut H) -> Outcome
 }
 
 // The host failed after so many bytes of the main document, or of the lane `Out`.
-fn failure(alloc: Global, fault: HostFault, offset: u64) -> Outcome {
+fn failure(alloc: Global, fault: HostFault, offset: u64) -> Outcome
+    ensures { FailsBy fault offset result }
+{
     match Text::of(alloc, "-") {
         Ok(file) => Outcome::Host {
             file,
@@ -88,20 +126,21 @@ fn failure(alloc: Global, fault: HostFault, offset: u64) -> Outcome {
     }
 }
 
-// A write failed.
+// A write failed, after `taken` of the bytes were taken.
 #[derive(Clone, Copy, Debug)]
-struct Refused;
+struct Refused {
+    taken: usize,
+}
 
-// Writes on until all bytes are taken, and counts them.
-fn write<H: Host>(host: &mut H, lane: Lane, bytes: &[u8], taken: &mut u64) -> Result<(), Refused> {
-    let mut rest = bytes;
-    while !rest.is_empty() {
-        match host.write(lane, rest) {
-            Put::Took(count) => {
-                *taken = taken.saturating_add(count as u64);
-                rest = &rest[count..];
-            }
-            Put::Failed => return Err(Refused),
+// Writes on until all bytes are taken.
+fn write<H: Host>(host: &mut H, lane: Lane, bytes: &[u8]) -> Result<(), Refused>
+    ensures { WritesOn (H.outside host.old) lane bytes.now result (H.outside host.new) }
+{
+    let mut taken = 0;
+    while taken < bytes.len() {
+        match host.write(lane, &bytes[taken..]) {
+            Put::Took(count) => taken += count,
+            Put::Failed => return Err(Refused { taken }),
         }
     }
     Ok(())

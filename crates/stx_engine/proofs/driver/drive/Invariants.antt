@@ -1,15 +1,20 @@
 use Rattle.std.proofs.Common.{◌≡◌, ◌+◌, ◌-◌, ◌≤◌, ◌^◌, cond}
+use Rattle.stx_base.specs.declared.limits.Limits.{Limits}
 use Rattle.xml_tokens.specs.Reader.{fed}
 use Rattle.stx_engine.specs.declared.engine.Pumped.TheVariants as pumped
-use Rattle.stx_engine.specs.Engine.{GoesOn, is_main}
+use Rattle.stx_engine.specs.declared.pass.Pass.{Pass}
+use Rattle.stx_engine.specs.Engine.{GoesOn, IsWaiting, Means, is_main}
+use Rattle.stx_engine.proofs.Driven.{Driving}
 use Rattle.stx_engine.proofs.driver.drive.Given as goal
 
--- while more of the document is wanted it goes on, and no more was read than was handed in
-abbrev pub invariant-loop-room : goal.invariant-loop-room
-invariant-loop-room g l =
-    l.pumped ≡ pumped.Main
-    → GoesOn l.engine.lexer × (l.read ≤ fed l.engine.lexer) × (l.engine.lexer.limits.input ≤ 2 ^ 50)
+-- while more of the document is wanted it goes on, and no more was read than was handed in; what was settled before was
+-- written, and what is settled now is to be written next
+abbrev pub invariant-loop-refused : goal.invariant-loop-refused
+invariant-loop-refused g l =
+    (l.pumped ≡ pumped.Main → GoesOn l.engine.lexer × (l.read ≤ fed l.engine.lexer) × (l.engine.lexer.limits.input ≤ 2 ^ 50) × IsWaiting l.engine)
+    × ((limits : Limits) (pass : Pass) → Means limits pass l.fn.engine
+       → Driving limits pass l.fn.engine (g.H.Host.outside l.initial.host) (g.H.Host.outside l.host) l.engine l.settled.items l.read l.written l.pumped)
 
 -- what the limit leaves
-abbrev pub decreases-loop-room : goal.decreases-loop-room
-decreases-loop-room g l = cond (is_main l.pumped) (l.engine.lexer.limits.input + 2 - fed l.engine.lexer) 0
+abbrev pub decreases-loop-refused : goal.decreases-loop-refused
+decreases-loop-refused g l = cond (is_main l.pumped) (l.engine.lexer.limits.input + 2 - fed l.engine.lexer) 0

@@ -1,0 +1,473 @@
+-- How a main document is read through an engine.
+use Rattle.std.proofs.Common.{◌≡◌, ℕ, ◌+◌, ◌-◌, ◌^◌, ◌<◌, ◌≤◌, Bool, true, false, List, [], ◌∷◌, ◌++◌, length, take, drop, sum, min, Option, Some, None, IfSome, Result, Ok, Err, Bor, arith, refl, sym, ap, ◌∙◌, subst, append_assoc, length-append, length-drop, length-take, add-zero}
+use Rattle.std.specs.Option.{option_map}
+use Rattle.std.specs.Prelude.{codes, unwrap_or}
+use Rattle.std.proofs.lemmas.List.{append-nil, take-append-drop, take-append-le, take_all}
+use Rattle.std.proofs.lemmas.Bool.{false≢true}
+use Rattle.std.proofs.Math.Seq.{take-add}
+use Rattle.stx_base.specs.Course.{Begins}
+use Rattle.stx_base.specs.declared.fault.XmlFault.{XmlFault}
+use Rattle.stx_base.specs.declared.limits.Limits.{Limits}
+use Rattle.stx_host.specs.Before.{AtMainReads, Between, Taken, main_read}
+use Rattle.stx_host.specs.Outside.{Outside, GivesBytes, LaneFault, Reads, OutFault, MainFault, Rose, wrote, writes}
+use Rattle.stx_host.specs.declared.act.Act.{Act}
+use Rattle.stx_host.specs.declared.act.Act.TheVariants.{Open, Read, Close, Write}
+use Rattle.stx_host.specs.declared.act.Got.TheVariants.{Bytes as Got', End as GotEnd, Failed as Unread}
+use Rattle.stx_host.specs.declared.act.Lane.{Lane}
+use Rattle.stx_host.specs.declared.act.Lane.TheVariants.{Out}
+use Rattle.stx_host.proofs.CopiedSoFar.{and_nothing_more}
+use Rattle.stx_host.proofs.Stretches.{between_joins, between_read, between_writes, between_fault, nothing_between, main_read-append, main_read-writes, main_reads_one, main_reads_writes}
+use Rattle.stx_engine.specs.Answer.{outcome_of, result_of, run_on, settled}
+use Rattle.stx_engine.specs.Driving.{CountsBy, Drives, EndsAs, FailedAt, FailsBy, IsSettledAt, SameCounts, WritesOn, WritesResult, counted}
+use Rattle.stx_engine.specs.Engine.{Appends, IsWaiting, Means, Pumps, StoppedBy, ahead, more, more_of}
+use Rattle.stx_engine.specs.Loading.{opens}
+use Rattle.stx_engine.specs.Meaning.{Complete, Unready}
+use Rattle.stx_engine.specs.More.{Given}
+use Rattle.stx_engine.specs.Passed.{ending_of}
+use Rattle.stx_engine.specs.Result.{head}
+use Rattle.stx_engine.specs.Tree.{Why, Need, Bad}
+use Rattle.stx_engine.specs.declared.driver.Refused.{Refused}
+use Rattle.stx_engine.specs.declared.engine.Engine.{Engine}
+use Rattle.stx_engine.specs.declared.engine.Piece.{Piece}
+use Rattle.stx_engine.specs.declared.engine.Piece.TheVariants.{Start, Bytes, End}
+use Rattle.stx_engine.specs.declared.engine.Pumped.{Pumped}
+use Rattle.stx_engine.specs.declared.engine.Pumped.TheVariants as pumped
+use Rattle.stx_engine.specs.declared.outcome.HostFault.{HostFault}
+use Rattle.stx_engine.specs.declared.outcome.HostFault.TheVariants as fault
+use Rattle.stx_engine.specs.declared.outcome.Outcome.{Outcome}
+use Rattle.stx_engine.specs.declared.outcome.Outcome.TheVariants.{Done, Usage, Sheet, Xml, Host, Memory}
+use Rattle.stx_engine.specs.declared.pass.Pass.{Pass}
+use Rattle.stx_engine.proofs.Prefixes.{begins_after, begins_more}
+
+-- Acts and what they open
+
+pub opens-append : (xs ys : List Act) → opens (xs ++ ys) ≡ opens xs ++ opens ys
+opens-append [] ys = refl
+opens-append (Open doc id ∷ xs) ys = ap (λ l. doc ∷ l) (opens-append xs ys)
+opens-append (Read id got ∷ xs) ys = opens-append xs ys
+opens-append (Close id ∷ xs) ys = opens-append xs ys
+opens-append (Write lane len ∷ xs) ys = opens-append xs ys
+
+pub opens-writes : (lane : Lane) (lens : List ℕ) → opens (writes lane lens) ≡ []
+opens-writes lane [] = refl
+opens-writes lane (n ∷ lens) = opens-writes lane lens
+
+opens_more : (xs ys : List Act) → opens xs ≡ [] → opens ys ≡ [] → opens (xs ++ ys) ≡ []
+opens_more xs ys e f = opens-append xs ys ∙ ap (λ l. l ++ opens ys) e ∙ f
+
+-- Stretches of time
+
+one_act : (a b c : Outside) (acts : List Act) (act : Act) (out : List ℕ) → Between a b acts out [] → Between b c (act ∷ []) [] [] → Between a c (acts ++ act ∷ []) out []
+one_act a b c acts act out first second = subst (λ outs. Between a c (acts ++ act ∷ []) outs []) (append-nil out) (between_joins a b c acts (act ∷ []) out [] [] [] first second)
+
+-- some bytes more for `Out`
+wrote_more : (old now new : Outside) (acts : List Act) (out lens bytes : List ℕ) → Between old now acts out [] → sum lens ≡ length bytes → new ≡ wrote now Out lens bytes → Between old new (acts ++ writes Out lens) (out ++ bytes) []
+wrote_more old now new acts out lens bytes between total is = between_joins old now new acts (writes Out lens) out bytes [] [] between (between_writes now new Out lens bytes total is)
+
+main_left : (old now : Outside) (main : List ℕ) (acts : List Act) (out : List ℕ) → Between old now acts out [] → old.to_come 0 ≡ Some main → now.to_come 0 ≡ Some (drop (main_read acts) main)
+main_left old now main acts out between told = between.main ∙ ap (λ o. option_map (λ bytes. drop (main_read acts) bytes) o) told
+
+given_of : (to_come : Option (List ℕ)) (bytes room : List ℕ) (n : ℕ) → to_come ≡ Some bytes → GivesBytes to_come n room → bytes ≡ take n room ++ drop n bytes
+given_of to_come bytes room n e gives = let given : GivesBytes (Some bytes) n room = subst (λ o. GivesBytes o n room) e gives in given.next
+
+fits_of : (bytes room rest : List ℕ) (n : ℕ) → n ≤ length room → bytes ≡ take n room ++ rest → n ≤ length bytes
+fits_of bytes room rest n fits e = omega (arith, ap length e, length-append (take n room) rest, length-take n room)
+
+nothing_left : (to_come : Option (List ℕ)) (bytes : List ℕ) → to_come ≡ Some bytes → IfSome to_come (λ bs. bs ≡ []) → bytes ≡ []
+nothing_left to_come bytes e none = let at_bytes : IfSome (Some bytes) (λ bs. bs ≡ []) = subst (λ o. IfSome o (λ bs. bs ≡ [])) e none in at_bytes
+
+take-front : (n : ℕ) (room rest : List ℕ) → n ≤ length room → take n (take n room ++ rest) ≡ take n room
+take-front n room rest fits = take-append-le n (take n room) rest (omega (arith, length-take n room)) ∙ take_all n (take n room) (omega (arith, length-take n room))
+
+-- a part of what begins is a beginning
+begins-front : (xs ys zs : List ℕ) → Begins (xs ++ ys) zs → Begins xs zs
+begins-front xs ys zs h = (ys ++ h.0, sym (append_assoc xs ys h.0) ∙ h.1)
+
+-- counts
+
+pub counted_more : (m n : ℕ) → counted (counted m + n) ≡ counted (m + n)
+counted_more m n = omega arith
+
+same_counts : (old now new : Outside) → SameCounts old now → SameCounts now new → SameCounts old new
+same_counts old now new a b = record { doc = b.doc ∙ a.doc; main = b.main ∙ a.main; out = b.out ∙ a.out; note = b.note ∙ a.note }
+
+wrote-counts : (now new : Outside) (lens bytes : List ℕ) → new ≡ wrote now Out lens bytes → SameCounts now new
+wrote-counts now new lens bytes is = record { doc = ap (λ o. o.doc_faults) is; main = ap (λ o. o.main_faults) is; out = ap (λ o. o.out_faults) is; note = ap (λ o. o.note_faults) is }
+
+read-counts : (now new : Outside) (n : ℕ) → Reads now 0 (Got' n) new → SameCounts now new
+read-counts now new n is = record { doc = ap (λ o. o.doc_faults) is; main = ap (λ o. o.main_faults) is; out = ap (λ o. o.out_faults) is; note = ap (λ o. o.note_faults) is }
+
+end-counts : (now new : Outside) → Reads now 0 GotEnd new → SameCounts now new
+end-counts now new is = record { doc = ap (λ o. o.doc_faults) is; main = ap (λ o. o.main_faults) is; out = ap (λ o. o.out_faults) is; note = ap (λ o. o.note_faults) is }
+
+-- What is still to come
+
+module _ (start : Engine) (main : List ℕ) where
+  -- all that the document gives
+  abbrev whole : Given
+  whole = more_of start Start main true
+
+  -- what was appended after so many bytes of the document, by what is wanted
+  abbrev pub Goes : Engine → (n : ℕ) → (appended : List ℕ) → Pumped → Type 0
+  Goes e n appended pumped.Main = (bytes : List ℕ) (ended : Bool) → more_of start Start (take n main ++ bytes) ended ≡ ahead appended (more e bytes ended)
+  Goes e n appended pumped.Done = (e.outcome ≡ Some Done) × (whole ≡ record { bytes = appended; stop = None })
+  Goes e n appended pumped.Stopped = StoppedBy e.outcome appended (λ bytes ended. whole)
+
+  ahead_twice : (xs ys : List ℕ) (g : Given) → ahead xs (ahead ys g) ≡ ahead (xs ++ ys) g
+  ahead_twice xs ys g = ap (λ l. record g { bytes = l }) (sym (append_assoc xs ys g.bytes))
+
+  -- after a piece: what was to come of it came, where `front` came before, and the piece gives the whole
+  goes-piece : (given : List ℕ → Bool → Given) (new : Engine) (n : ℕ) (front appended : List ℕ) (p : Pumped)
+      → ((bytes : List ℕ) (ended : Bool) → p ≡ pumped.Main → more_of start Start (take n main ++ bytes) ended ≡ ahead front (given bytes ended))
+      → (rest : List ℕ) (at_end : Bool) → whole ≡ ahead front (given rest at_end)
+      → Appends given new appended p → Goes new n (front ++ appended) p
+  goes-piece given new n front appended pumped.Main step rest at_end all a = λ bytes ended.
+      step bytes ended refl ∙ ap (ahead front) (a.1 bytes ended) ∙ ahead_twice front appended (more new bytes ended)
+  goes-piece given new n front appended pumped.Done step rest at_end all a = (a.0, all ∙ ap (ahead front) (a.1 rest at_end))
+  goes-piece given new n front appended pumped.Stopped step rest at_end all a = by_outcome new.outcome a where
+    by_outcome : (o : Option Outcome) → StoppedBy o appended given → StoppedBy o (front ++ appended) (λ bytes ended. whole)
+    by_outcome (Some (Xml file fault)) s = (s.0, λ bytes ended. all ∙ ap (ahead front) (s.1 rest at_end))
+    by_outcome (Some Memory) s = λ bytes ended. subst (λ g. Begins (front ++ appended) g.bytes) (sym all) (begins_after front appended (given rest at_end).bytes (s rest at_end))
+    by_outcome (Some Done) s = absurd s
+    by_outcome (Some Usage) s = absurd s
+    by_outcome (Some (Sheet fault)) s = absurd s
+    by_outcome (Some (Host file fault offset)) s = absurd s
+    by_outcome None s = absurd s
+
+  -- what was appended is a beginning
+  goes-begins : (e : Engine) (n : ℕ) (appended : List ℕ) (p : Pumped) → Goes e n appended p → Begins appended whole.bytes
+  goes-begins e n appended pumped.Main goes =
+      ((more e (drop n main) true).bytes,
+       sym (ap (λ g. g.bytes) (goes (drop n main) true)) ∙ ap (λ l. (more_of start Start l true).bytes) (take-append-drop n main))
+  goes-begins e n appended pumped.Done goes = ([], append-nil appended ∙ sym (ap (λ g. g.bytes) goes.1))
+  goes-begins e n appended pumped.Stopped goes = by_outcome e.outcome goes where
+    by_outcome : (o : Option Outcome) → StoppedBy o appended (λ bytes ended. whole) → Begins appended whole.bytes
+    by_outcome (Some (Xml file fault)) s = ([], append-nil appended ∙ sym (ap (λ g. g.bytes) (s.1 main true)))
+    by_outcome (Some Memory) s = s main true
+    by_outcome (Some Done) s = absurd s
+    by_outcome (Some Usage) s = absurd s
+    by_outcome (Some (Sheet fault)) s = absurd s
+    by_outcome (Some (Host file fault offset)) s = absurd s
+    by_outcome None s = absurd s
+
+-- A run so far
+
+module _ (limits : Limits) (pass : Pass) (start : Engine) where
+  -- what was written, and what is to be written next, where the main document is told
+  pub record Going (main : List ℕ) (acts : List Act) (out next : List ℕ) (e : Engine) (p : Pumped) : Type 0 where
+    pub reads : AtMainReads acts out [] (λ taken. IsSettledAt limits pass (take taken.main_read main) taken)
+    pub within : main_read acts ≤ length main
+    pub goes : Goes start main e (main_read acts) (out ++ next) p
+
+  -- how an engine ended, by what it wants
+  abbrev IsStop : Option Outcome → Type 0
+  IsStop (Some (Xml file fault)) = Unit {0}
+  IsStop (Some Memory) = Unit {0}
+  IsStop outcome = ⊥
+
+  abbrev StopsBy : Pumped → Option Outcome → Type 0
+  StopsBy pumped.Main outcome = Unit {0}
+  StopsBy pumped.Done outcome = outcome ≡ Some Done
+  StopsBy pumped.Stopped outcome = IsStop outcome
+
+  stops-by : (given : List ℕ → Bool → Given) (new : Engine) (appended : List ℕ) (p : Pumped) → Appends given new appended p → StopsBy p new.outcome
+  stops-by given new appended pumped.Main a = tt
+  stops-by given new appended pumped.Done a = a.0
+  stops-by given new appended pumped.Stopped a = by_outcome new.outcome a where
+    by_outcome : (o : Option Outcome) → StoppedBy o appended given → IsStop o
+    by_outcome (Some (Xml file fault)) s = tt
+    by_outcome (Some Memory) s = tt
+    by_outcome (Some Done) s = absurd s
+    by_outcome (Some Usage) s = absurd s
+    by_outcome (Some (Sheet fault)) s = absurd s
+    by_outcome (Some (Host file fault offset)) s = absurd s
+    by_outcome None s = absurd s
+
+  -- a run so far, of which `next` is to be written next
+  pub record Driving (old now : Outside) (e : Engine) (next : List ℕ) (read written : ℕ) (p : Pumped) : Type 0 where
+    pub acts : List Act
+    pub out : List ℕ
+    pub between : Between old now acts out []
+    pub opened : opens acts ≡ []
+    pub counts : SameCounts old now
+    pub read_is : read ≡ main_read acts
+    pub written_is : written ≡ counted (length out)
+    pub stop : StopsBy p e.outcome
+    pub told : (main : List ℕ) → old.to_come 0 ≡ Some main → Going main acts out next e p
+
+  module _ (means : Means limits pass start) where
+    result_is : (bytes : List ℕ) (ended : Bool) → result_of (run_on limits pass bytes ended) ≡ (more_of start Start bytes ended).bytes
+    result_is bytes ended = sym (ap (λ l. head ++ l) (means bytes ended).0)
+
+    -- more is wanted, and all that is settled was written
+    settled-at : (main : List ℕ) (n : ℕ) (out : List ℕ) (e : Engine) → IsWaiting e → Goes start main e n out pumped.Main
+        → IsSettledAt limits pass (take n main) (record { out = out; note = []; main_read = n })
+    settled-at main n out e waits goes =
+        let bytes = take n main in
+        let here : more_of start Start bytes false ≡ record { bytes = out; stop = Some Need } =
+        ap (λ l. more_of start Start l false) (sym (append-nil bytes)) ∙ goes [] false ∙ ap (ahead out) waits.nothing ∙ ap (λ l. record { bytes = l; stop = Some Need }) (append-nil out) in
+        record {
+          out = sym (result_is bytes false ∙ ap (λ g. g.bytes) here);
+          note = refl;
+          needs = sym (means bytes false).1 ∙ ap (λ g. ending_of g.stop) here;
+        }
+
+    pub starts : (old : Outside) (e : Engine) (next : List ℕ) (p : Pumped) → Pumps (more_of start Start) e [] next p → Driving old old e next 0 0 p
+    starts old e next p pumps = record {
+      acts = [];
+      out = [];
+      between = nothing_between old;
+      opened = refl;
+      counts = record { doc = refl; main = refl; out = refl; note = refl };
+      read_is = refl;
+      written_is = refl;
+      stop = stops-by (more_of start Start) e pumps.0 p pumps.2;
+      told = λ main told. record {
+        reads = λ k is_read. absurd (false≢true is_read);
+        within = omega arith;
+        goes = subst (λ l. Goes start main e 0 l p) (sym pumps.1)
+            (goes-piece start main (more_of start Start) e 0 [] pumps.0 p (λ bytes ended is. refl) main true refl pumps.2);
+      };
+    }
+
+    -- what was to be written was written
+    pub writes-on : (old now new : Outside) (e : Engine) (next bytes lens : List ℕ) (read written written' : ℕ) (p : Pumped) → Driving old now e next read written p
+        → bytes ≡ next → sum lens ≡ length bytes → new ≡ wrote now Out lens bytes → written' ≡ counted (written + length next) → Driving old new e [] read written' p
+    writes-on old now new e next bytes lens read written written' p d same total_bytes wrote_bytes at =
+        let total : sum lens ≡ length next = total_bytes ∙ ap length same in
+        let is : new ≡ wrote now Out lens next = wrote_bytes ∙ ap (wrote now Out lens) same in
+        let count : main_read (d.acts ++ writes Out lens) ≡ main_read d.acts = omega (arith, main_read-append d.acts (writes Out lens), main_read-writes Out lens) in
+        record {
+          acts = d.acts ++ writes Out lens;
+          out = d.out ++ next;
+          between = wrote_more old now new d.acts d.out lens next d.between total is;
+          opened = opens_more d.acts (writes Out lens) d.opened (opens-writes Out lens);
+          counts = same_counts old now new d.counts (wrote-counts now new lens next is);
+          read_is = d.read_is ∙ sym count;
+          written_is = at ∙ ap (λ n. counted (n + length next)) d.written_is ∙ counted_more (length d.out) (length next) ∙ ap counted (sym (length-append d.out next));
+          stop = d.stop;
+          told = λ main told.
+              let so_far = d.told main told in
+              record {
+                reads = main_reads_writes d.acts Out lens d.out next [] [] (λ taken. IsSettledAt limits pass (take taken.main_read main) taken) d.between.out_written d.between.note_written so_far.reads;
+                within = omega (arith, count, so_far.within);
+                goes = subst (λ l. Goes start main e (main_read (d.acts ++ writes Out lens)) l p) (sym (append-nil (d.out ++ next)))
+                    (subst (λ n. Goes start main e n (d.out ++ next) p) (sym count) so_far.goes);
+              };
+        }
+
+    -- a piece of the main document was read and handed to the engine
+    pub reads-piece : (old now new : Outside) (e after : Engine) (next room : List ℕ) (n read written : ℕ) (p : Pumped) → Driving old now e [] read written pumped.Main → IsWaiting e
+        → GivesBytes (now.to_come 0) n room → Reads now 0 (Got' n) new → Pumps (λ bytes ended. more e (take n room ++ bytes) ended) after [] next p
+        → Driving old new after next (read + n) written p
+    reads-piece old now new e after next room n read written p d waits gives change pumps =
+        let piece = take n room in
+        let given_on : List ℕ → Bool → Given = λ bytes ended. more e (piece ++ bytes) ended in
+        let at : ℕ = main_read d.acts in
+        let count : main_read (d.acts ++ Read 0 n ∷ []) ≡ at + n = main_read-append d.acts (Read 0 n ∷ []) ∙ ap (λ m. at + m) (add-zero n) in
+        record {
+          acts = d.acts ++ Read 0 n ∷ [];
+          out = d.out;
+          between = one_act old now new d.acts (Read 0 n) d.out d.between (between_read now new 0 (Got' n) change);
+          opened = opens_more d.acts (Read 0 n ∷ []) d.opened refl;
+          counts = same_counts old now new d.counts (read-counts now new n change);
+          read_is = ap (λ m. m + n) d.read_is ∙ sym count;
+          written_is = d.written_is;
+          stop = stops-by given_on after pumps.0 p pumps.2;
+          told = λ main told.
+              let so_far = d.told main told in
+              let left : now.to_come 0 ≡ Some (drop at main) = main_left old now main d.acts d.out d.between told in
+              let given : drop at main ≡ take n room ++ drop n (drop at main) = given_of (now.to_come 0) (drop at main) room n left gives in
+              let fits : n ≤ length (drop at main) = fits_of (drop at main) room (drop n (drop at main)) n gives.fits given in
+              let piece_is : take n (drop at main) ≡ piece = ap (take n) given ∙ take-front n room (drop n (drop at main)) gives.fits in
+              let goes : Goes start main e at d.out pumped.Main = subst (λ l. Goes start main e at l pumped.Main) (append-nil d.out) so_far.goes in
+              record {
+                reads = main_reads_one d.acts (Read 0 n) d.out [] (λ taken. IsSettledAt limits pass (take taken.main_read main) taken) d.between.out_written d.between.note_written so_far.reads
+                    (λ is_read. settled-at main at d.out e waits goes);
+                within = omega (arith, count, fits, length-drop at main, so_far.within);
+                goes = subst (λ l. Goes start main after (main_read (d.acts ++ Read 0 n ∷ [])) (d.out ++ l) p) (sym pumps.1)
+                    (subst (λ m. Goes start main after m (d.out ++ pumps.0) p) (sym count)
+                     (goes-piece start main given_on after (at + n) d.out pumps.0 p
+                      (λ bytes ended is. ap (λ l. more_of start Start (l ++ bytes) ended) (take-add at n main ∙ ap (λ l. take at main ++ l) piece_is)
+                       ∙ ap (λ l. more_of start Start l ended) (append_assoc (take at main) piece bytes) ∙ goes (piece ++ bytes) ended)
+                      (drop n (drop at main)) true
+                      (ap (λ l. more_of start Start l true) (sym (take-append-drop at main) ∙ ap (λ l. take at main ++ l) given)
+                       ∙ goes (piece ++ drop n (drop at main)) true)
+                      pumps.2));
+              };
+        }
+
+    -- the main document ended, and so the engine was told
+    pub reads-end : (old now new : Outside) (e after : Engine) (next : List ℕ) (read written : ℕ) (p : Pumped) → Driving old now e [] read written pumped.Main → IsWaiting e
+        → IfSome (now.to_come 0) (λ bytes. bytes ≡ []) → Reads now 0 GotEnd new → (p ≡ pumped.Main → ⊥) → Pumps (more_of e End) after [] next p
+        → Driving old new after next read written p
+    reads-end old now new e after next read written p d waits ended change last pumps =
+        let at : ℕ = main_read d.acts in
+        let count : main_read (d.acts ++ Read 0 0 ∷ []) ≡ at = main_read-append d.acts (Read 0 0 ∷ []) ∙ add-zero at in
+        record {
+          acts = d.acts ++ Read 0 0 ∷ [];
+          out = d.out;
+          between = one_act old now new d.acts (Read 0 0) d.out d.between (between_read now new 0 GotEnd change);
+          opened = opens_more d.acts (Read 0 0 ∷ []) d.opened refl;
+          counts = same_counts old now new d.counts (end-counts now new change);
+          read_is = d.read_is ∙ sym count;
+          written_is = d.written_is;
+          stop = stops-by (more_of e End) after pumps.0 p pumps.2;
+          told = λ main told.
+              let so_far = d.told main told in
+              let left : now.to_come 0 ≡ Some (drop at main) = main_left old now main d.acts d.out d.between told in
+              let none : drop at main ≡ [] = nothing_left (now.to_come 0) (drop at main) left ended in
+              let goes : Goes start main e at d.out pumped.Main = subst (λ l. Goes start main e at l pumped.Main) (append-nil d.out) so_far.goes in
+              record {
+                reads = main_reads_one d.acts (Read 0 0) d.out [] (λ taken. IsSettledAt limits pass (take taken.main_read main) taken) d.between.out_written d.between.note_written so_far.reads
+                    (λ is_read. settled-at main at d.out e waits goes);
+                within = omega (arith, count, so_far.within);
+                goes = subst (λ l. Goes start main after (main_read (d.acts ++ Read 0 0 ∷ [])) (d.out ++ l) p) (sym pumps.1)
+                    (goes-piece start main (more_of e End) after (main_read (d.acts ++ Read 0 0 ∷ [])) d.out pumps.0 p
+                     (λ bytes ended is. absurd (last is)) [] true
+                     (ap (λ l. more_of start Start l true) (sym (take-append-drop at main) ∙ ap (λ l. take at main ++ l) none) ∙ goes [] true)
+                     pumps.2);
+              };
+        }
+
+    -- How it ends
+
+    -- a failure of the host
+    pub record Fails (old new : Outside) (acts : List Act) (out : List ℕ) (o : Outcome) : Type 0 where
+      pub counts : CountsBy o old new
+      pub failed : FailedAt o acts out
+      pub ends : (main : List ℕ) → EndsAs limits pass main out o
+
+    fails-by : (f : HostFault) (offset : ℕ) (old new : Outside) (acts : List Act) (out : List ℕ) → new.note_faults ≡ old.note_faults → Fails old new acts out (Host (codes "-") f offset)
+        → (o : Outcome) → FailsBy f offset o → Fails old new acts out o
+    fails-by f offset old new acts out note facts Memory told = record { counts = note; failed = tt; ends = λ main. tt }
+    fails-by f offset old new acts out note facts Done e = subst (Fails old new acts out) (sym e) facts
+    fails-by f offset old new acts out note facts Usage e = subst (Fails old new acts out) (sym e) facts
+    fails-by f offset old new acts out note facts (Sheet fault) e = subst (Fails old new acts out) (sym e) facts
+    fails-by f offset old new acts out note facts (Xml file fault) e = subst (Fails old new acts out) (sym e) facts
+    fails-by f offset old new acts out note facts (Host file g at) e = subst (Fails old new acts out) (sym e) facts
+
+    -- what is written of the result is a beginning of it
+    begins-result : (main : List ℕ) (n : ℕ) (appended : List ℕ) (e : Engine) (p : Pumped) → Goes start main e n appended p → Begins appended (result_of (run_on limits pass main true))
+    begins-result main n appended e p goes = subst (Begins appended) (sym (result_is main true)) (goes-begins start main e n appended p goes)
+
+    -- a write failed
+    pub write-fails : (old now new : Outside) (e : Engine) (next all lens : List ℕ) (read written offset taken : ℕ) (p : Pumped) (o : Outcome) → Driving old now e next read written p
+        → all ≡ next → sum lens ≡ taken → taken < length all → OutFault (wrote now Out lens (take taken all)) new → offset ≡ counted (written + taken) → FailsBy fault.Write offset o → Drives limits pass old new o
+    write-fails old now new e next all lens read written offset taken p o d same total some_all failed_all at told_by =
+        let some : taken < length next = omega (arith, some_all, ap length same) in
+        let failed : OutFault (wrote now Out lens (take taken next)) new = subst (λ l. OutFault (wrote now Out lens (take taken l)) new) same failed_all in
+        let bytes = take taken next in
+        let mid = wrote now Out lens bytes in
+        let acts = d.acts ++ writes Out lens in
+        let out = d.out ++ bytes in
+        let fits : taken ≡ length bytes = omega (arith, length-take taken next, some) in
+        let counts = same_counts old now mid d.counts (wrote-counts now mid lens bytes refl) in
+        let place : offset ≡ counted (length out) =
+        at ∙ ap (λ n. counted (n + taken)) d.written_is ∙ counted_more (length d.out) taken ∙ ap (λ n. counted (length d.out + n)) fits ∙ ap counted (sym (length-append d.out bytes)) in
+        let note = ap (λ x. x.note_faults) failed.alone ∙ counts.note in
+        let fails = fails-by fault.Write offset old new acts out note
+             (record {
+               counts = (subst (λ n. Rose n new.out_faults) counts.out failed.count.rose,
+                record { doc = ap (λ x. x.doc_faults) failed.alone ∙ counts.doc; main = ap (λ x. x.main_faults) failed.alone ∙ counts.main; out = refl; note = note });
+               failed = (refl, place);
+               ends = λ main. tt;
+             }) o told_by in
+        record {
+          acts = acts;
+          out = out;
+          between = and_nothing_more old mid new acts out (wrote_more old now mid d.acts d.out lens bytes d.between (total ∙ fits) refl) (between_fault mid new Out failed);
+          opened = opens_more d.acts (writes Out lens) d.opened (opens-writes Out lens);
+          counts = fails.counts;
+          failed = fails.failed;
+          told = λ main told.
+              let so_far = d.told main told in
+              record {
+                reads = main_reads_writes d.acts Out lens d.out bytes [] [] (λ taken. IsSettledAt limits pass (take taken.main_read main) taken) d.between.out_written d.between.note_written so_far.reads;
+                prefix = begins-front (d.out ++ bytes) (drop taken next) (result_of (run_on limits pass main true))
+                    (subst (λ l. Begins l (result_of (run_on limits pass main true))) (ap (λ l. d.out ++ l) (sym (take-append-drop taken next)) ∙ sym (append_assoc d.out bytes (drop taken next)))
+                     (begins-result main (main_read d.acts) (d.out ++ next) e p so_far.goes));
+                ends = fails.ends main;
+              };
+        }
+
+    -- a read failed
+    pub read-fails : (old now new : Outside) (e : Engine) (read written : ℕ) (p : Pumped) (o : Outcome) → Driving old now e [] read written p
+        → MainFault now new → FailsBy fault.Read read o → Drives limits pass old new o
+    read-fails old now new e read written p o d failed told_by =
+        let note = ap (λ x. x.note_faults) failed.alone ∙ d.counts.note in
+        let fails = fails-by fault.Read read old new d.acts d.out note
+             (record {
+               counts = (subst (λ n. Rose n new.main_faults) d.counts.main failed.count.rose,
+                record { doc = ap (λ x. x.doc_faults) failed.alone ∙ d.counts.doc; main = refl; out = ap (λ x. x.out_faults) failed.alone ∙ d.counts.out; note = note });
+               failed = (refl, d.read_is);
+               ends = λ main. tt;
+             }) o told_by in
+        record {
+          acts = d.acts;
+          out = d.out;
+          between = and_nothing_more old now new d.acts d.out d.between (between_read now new 0 Unread (record { main = λ is. failed; doc = λ above. absurd (omega (arith, above)) }));
+          opened = d.opened;
+          counts = fails.counts;
+          failed = fails.failed;
+          told = λ main told.
+              let so_far = d.told main told in
+              record {
+                reads = so_far.reads;
+                prefix = begins-result main (main_read d.acts) d.out e p (subst (λ l. Goes start main e (main_read d.acts) l p) (append-nil d.out) so_far.goes);
+                ends = fails.ends main;
+              };
+        }
+
+    -- the engine is done, or was stopped
+    pub ends : (old now : Outside) (e : Engine) (read written : ℕ) (p : Pumped) (o : Outcome) → Driving old now e [] read written p → (p ≡ pumped.Main → ⊥) → o ≡ unwrap_or e.outcome Memory
+        → Drives limits pass old now o
+    ends old now e read written p o d last is = record {
+      acts = d.acts;
+      out = d.out;
+      between = d.between;
+      opened = d.opened;
+      counts = subst (λ x. CountsBy x old now) (sym is) (by_stop p e.outcome d.stop last).0;
+      failed = subst (λ x. FailedAt x d.acts d.out) (sym is) (by_stop p e.outcome d.stop last).1;
+      told = λ main told.
+          let so_far = d.told main told in
+          let goes : Goes start main e (main_read d.acts) d.out p = subst (λ l. Goes start main e (main_read d.acts) l p) (append-nil d.out) so_far.goes in
+          record {
+            reads = so_far.reads;
+            prefix = begins-result main (main_read d.acts) d.out e p goes;
+            ends = subst (EndsAs limits pass main d.out) (sym is) (by_end main p goes last);
+          };
+    } where
+      by_outcome : (o : Option Outcome) → IsStop o → CountsBy (unwrap_or o Memory) old now × FailedAt (unwrap_or o Memory) d.acts d.out
+      by_outcome (Some (Xml file fault)) s = (d.counts, tt)
+      by_outcome (Some Memory) s = (d.counts.note, tt)
+      by_outcome (Some Done) s = absurd s
+      by_outcome (Some Usage) s = absurd s
+      by_outcome (Some (Sheet fault)) s = absurd s
+      by_outcome (Some (Host file fault offset)) s = absurd s
+      by_outcome None s = absurd s
+      by_stop : (p : Pumped) (o : Option Outcome) → StopsBy p o → (p ≡ pumped.Main → ⊥) → CountsBy (unwrap_or o Memory) old now × FailedAt (unwrap_or o Memory) d.acts d.out
+      by_stop pumped.Main o s other = absurd (other refl)
+      by_stop pumped.Done o s other = subst (λ x. CountsBy (unwrap_or x Memory) old now × FailedAt (unwrap_or x Memory) d.acts d.out) (sym s) (d.counts, tt)
+      by_stop pumped.Stopped o s other = by_outcome o s
+      -- all that the document gives was written
+      wrote_all : (main : List ℕ) (stop : Option Why) → more_of start Start main true ≡ record { bytes = d.out; stop = stop } → (o : Outcome) → o ≡ outcome_of (ending_of stop)
+          → (d.out ≡ result_of (run_on limits pass main true)) × (o ≡ outcome_of (run_on limits pass main true).ending)
+      wrote_all main stop all o e =
+          (sym (result_is main true ∙ ap (λ g. g.bytes) all), e ∙ ap outcome_of (sym (ap (λ g. ending_of g.stop) all) ∙ (means main true).1))
+      by_stopped : (main : List ℕ) (o : Option Outcome) → StoppedBy o d.out (λ bytes ended. more_of start Start main true) → EndsAs limits pass main d.out (unwrap_or o Memory)
+      by_stopped main (Some (Xml file fault)) s = wrote_all main (Some (Bad fault)) (s.1 main true) (Xml file fault) (ap (λ f. Xml f fault) s.0)
+      by_stopped main (Some Memory) s = tt
+      by_stopped main (Some Done) s = absurd s
+      by_stopped main (Some Usage) s = absurd s
+      by_stopped main (Some (Sheet fault)) s = absurd s
+      by_stopped main (Some (Host file fault offset)) s = absurd s
+      by_stopped main None s = absurd s
+      by_end : (main : List ℕ) (p : Pumped) → Goes start main e (main_read d.acts) d.out p → (p ≡ pumped.Main → ⊥) → EndsAs limits pass main d.out (unwrap_or e.outcome Memory)
+      by_end main pumped.Main goes other = absurd (other refl)
+      by_end main pumped.Done goes other = subst (λ x. EndsAs limits pass main d.out (unwrap_or x Memory)) (sym goes.0) (wrote_all main None goes.1 Done refl)
+      by_end main pumped.Stopped goes other = by_stopped main e.outcome goes
+
+-- an engine that wants more waits
+pub waits_where : (given : List ℕ → Bool → Given) (new : Engine) (before now : List ℕ) (p : Pumped) → Pumps given new before now p → p ≡ pumped.Main → IsWaiting new
+waits_where given new before now p pumps is = let at_main : Appends given new pumps.0 pumped.Main = subst (Appends given new pumps.0) is pumps.2 in at_main.0

@@ -1,0 +1,26 @@
+use Rattle.std.proofs.Common.{Err, subst}
+use Rattle.stx_base.specs.StandardLimits.{standard_limits}
+use Rattle.stx_engine.specs.Engine.{Means}
+use Rattle.stx_engine.specs.Words.{ReadsWords, characters}
+use Rattle.stx_engine.proofs.Ran.{ran-usage, ran-nothing, ran-stopped, ran-driven}
+use Rattle.stx_engine.proofs.driver.run.Goals as goal
+
+pub returns-in-Err-Usage : goal.returns-in-Err-Usage
+returns-in-Err-Usage g c = ran-usage (characters c.args.words.now) (g.H.Host.outside c.args.host.now)
+    (subst (λ refused. ReadsWords c.args.words.now (Err refused)) c.in-Err-Usage.field-0-is c.in-Err-Usage.ensures)
+
+pub returns-in-Err-Memory : goal.returns-in-Err-Memory
+returns-in-Err-Memory g c = ran-nothing (characters c.args.words.now) (g.H.Host.outside c.args.host.now)
+
+pub returns-in-Ok-load_sheet : goal.returns-in-Ok-load_sheet
+returns-in-Ok-load_sheet g c =
+    let load = c.in-Ok-load_sheet.ensures in
+    ran-driven (characters c.args.words.now) c.in-Ok.name c.in-Ok.ensures (g.H.Host.outside c.args.host.now) (g.H.Host.outside c.drive.new.host) (g.H.Host.outside c.load_sheet.new.host)
+    c.in-Ok-load_sheet.pass c.drive.result load.acts.0 load.answer load.acts.1 load.counts
+    (c.drive.ensures standard_limits c.in-Ok-load_sheet.pass (subst (λ limits. Means limits c.in-Ok-load_sheet.pass c.new.result) c.standard.ensures c.new.ensures.meaning))
+
+pub returns : goal.returns
+returns g c =
+    let load = c.in-Err.ensures in
+    ran-stopped (characters c.args.words.now) c.in-Ok.name c.in-Ok.ensures (g.H.Host.outside c.args.host.now) (g.H.Host.outside c.load_sheet.new.host)
+    c.in-Err.outcome load.acts.0 load.answer load.acts.1 load.counts

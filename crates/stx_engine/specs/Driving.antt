@@ -1,0 +1,99 @@
+-- What reading a main document through an engine does to the outside.
+use Rattle.std.specs.Prelude.{◌≡◌, ◌≢◌, ℕ, ◌+◌, ◌-◌, ◌^◌, ◌<◌, min, true, false, List, [], ◌++◌, length, take, sum, Some, codes, Ok, Err}
+use Rattle.std.specs.declared.result.Result.{Result}
+use Rattle.stx_base.specs.Course.{Begins}
+use Rattle.stx_base.specs.declared.limits.Limits.{Limits}
+use Rattle.stx_host.specs.Before.{AtMainReads, Between, Taken, main_read}
+use Rattle.stx_host.specs.Outside.{Outside, LaneFault, Rose, wrote}
+use Rattle.stx_host.specs.declared.act.Act.{Act}
+use Rattle.stx_host.specs.declared.act.Lane.{Lane}
+use Rattle.stx_engine.specs.Answer.{outcome_of, result_of, run_on, settled}
+use Rattle.stx_engine.specs.Loading.{opens}
+use Rattle.stx_engine.specs.Meaning.{Unready}
+use Rattle.stx_engine.specs.Tree.{Need}
+use Rattle.stx_engine.specs.declared.driver.Refused.{Refused}
+use Rattle.stx_engine.specs.declared.outcome.HostFault.{HostFault}
+use Rattle.stx_engine.specs.declared.outcome.HostFault.TheVariants as fault
+use Rattle.stx_engine.specs.declared.outcome.Outcome.{Outcome}
+use Rattle.stx_engine.specs.declared.outcome.Outcome.TheVariants.{Usage, Sheet, Host, Memory}
+use Rattle.stx_engine.specs.declared.pass.Pass.{Pass}
+
+-- a number of bytes, as it is counted: up to the last value of u64
+abbrev pub counted : ℕ → ℕ
+counted n = min n (2 ^ 64 - 1)
+
+-- all bytes were taken, in some number of writes; or some first ones were, and then a write failed
+abbrev pub WritesOn : (old : Outside) → Lane → List ℕ → Result (Unit {0}) Refused → (new : Outside) → Type 0
+WritesOn old lane bytes (Ok done) new = (lens : List ℕ) × (sum lens ≡ length bytes) × (new ≡ wrote old lane lens bytes)
+WritesOn old lane bytes (Err refused) new =
+    (lens : List ℕ) × (sum lens ≡ refused.taken) × (refused.taken < length bytes) × LaneFault lane (wrote old lane lens (take refused.taken bytes)) new
+
+-- no count of faults changed
+pub record SameCounts (old new : Outside) : Type 0 where
+  pub doc : new.doc_faults ≡ old.doc_faults
+  pub main : new.main_faults ≡ old.main_faults
+  pub out : new.out_faults ≡ old.out_faults
+  pub note : new.note_faults ≡ old.note_faults
+
+-- a fault raised its count, and no other changed
+abbrev pub RoseBy : HostFault → (old new : Outside) → Type 0
+RoseBy fault.Doc old new = Rose old.doc_faults new.doc_faults × SameCounts (record old { doc_faults = new.doc_faults }) new
+RoseBy fault.Read old new = Rose old.main_faults new.main_faults × SameCounts (record old { main_faults = new.main_faults }) new
+RoseBy fault.Write old new = Rose old.out_faults new.out_faults × SameCounts (record old { out_faults = new.out_faults }) new
+
+-- the counts of faults, by how a run ended: where the host failed, one rose. Memory may be wanting after a fault too, but
+-- no message is written before
+abbrev pub CountsBy : Outcome → (old new : Outside) → Type 0
+CountsBy (Host file fault offset) old new = RoseBy fault old new
+CountsBy Memory old new = new.note_faults ≡ old.note_faults
+CountsBy outcome old new = SameCounts old new
+
+-- where the host failed, it failed on the main document after all that was read of it, or on `Out` after all that it took;
+-- neither words nor a sheet are refused any more
+abbrev pub FailedAt : Outcome → List Act → (out : List ℕ) → Type 0
+FailedAt (Host file fault.Read offset) acts out = (file ≡ codes "-") × (offset ≡ main_read acts)
+FailedAt (Host file fault.Write offset) acts out = (file ≡ codes "-") × (offset ≡ counted (length out))
+FailedAt (Host file fault.Doc offset) acts out = ⊥
+FailedAt Usage acts out = ⊥
+FailedAt (Sheet reason) acts out = ⊥
+FailedAt outcome acts out = Unit {0}
+
+-- a failure is told with its place, if memory suffices
+abbrev pub FailsBy : HostFault → (offset : ℕ) → Outcome → Type 0
+FailsBy fault offset Memory = Unit {0}
+FailsBy fault offset outcome = outcome ≡ Host (codes "-") fault offset
+
+-- Before a read of the main document: all that its first bytes settle was written to `Out`, and no more; and the run on them
+-- waits for more.
+pub record IsSettledAt (limits : Limits) (pass : Pass) (bytes : List ℕ) (taken : Taken) : Type 0 where
+  pub out : taken.out ≡ settled limits pass bytes
+  pub note : taken.note ≡ []
+  pub needs : (run_on limits pass bytes false).ending ≡ Unready Need
+
+-- this holds, unless the host failed or memory was wanting
+abbrev pub UnlessFailed : Outcome → Type 0 → Type 0
+UnlessFailed (Host file fault offset) P = Unit {0}
+UnlessFailed Memory P = Unit {0}
+UnlessFailed outcome P = P
+
+-- how a run ends that the host and memory let end: all of its result was written
+abbrev pub EndsAs : Limits → Pass → (main out : List ℕ) → Outcome → Type 0
+EndsAs limits pass main out outcome =
+    let run = run_on limits pass main true in
+    UnlessFailed outcome ((out ≡ result_of run) × (outcome ≡ outcome_of run.ending))
+
+-- what was written of a main document's result, at each read and in the end
+pub record WritesResult (limits : Limits) (pass : Pass) (main : List ℕ) (acts : List Act) (out : List ℕ) (outcome : Outcome) : Type 0 where
+  pub reads : AtMainReads acts out [] (λ taken. IsSettledAt limits pass (take taken.main_read main) taken)
+  pub prefix : Begins out (result_of (run_on limits pass main true))
+  pub ends : EndsAs limits pass main out outcome
+
+-- what a run did with the main document and to `Out`, and how it ended
+pub record Drives (limits : Limits) (pass : Pass) (old new : Outside) (outcome : Outcome) : Type 0 where
+  pub acts : List Act
+  pub out : List ℕ
+  pub between : Between old new acts out []
+  pub opened : opens acts ≡ []
+  pub counts : CountsBy outcome old new
+  pub failed : FailedAt outcome acts out
+  pub told : (main : List ℕ) → old.to_come 0 ≡ Some main → WritesResult limits pass main acts out outcome

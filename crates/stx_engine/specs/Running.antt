@@ -1,0 +1,74 @@
+-- What a run of the program does to the outside, before its last line is written.
+use Rattle.std.specs.Prelude.{◌≡◌, ℕ, ◌<◌, ◌⊎◌, ◌==◌, if◌then◌else◌, List, [], length, map, take, sum, Option, Some, None, IsSome}
+use Rattle.stx_base.specs.Course.{Begins}
+use Rattle.stx_base.specs.StandardLimits.{standard_limits}
+use Rattle.stx_host.specs.Before.{AtMainReads, Between, Taken}
+use Rattle.stx_host.specs.Outside.{Outside, NoteFault, place, wrote}
+use Rattle.stx_host.specs.declared.act.Act.{Act}
+use Rattle.stx_host.specs.declared.act.Doc.{Doc}
+use Rattle.stx_host.specs.declared.act.Lane.TheVariants.{Note}
+use Rattle.stx_engine.specs.Answer.{Answer, answer, asked, sheet_named}
+use Rattle.stx_engine.specs.Driving.{CountsBy, FailedAt, IsSettledAt, UnlessFailed}
+use Rattle.stx_engine.specs.Line.{line_of, status_of}
+use Rattle.stx_engine.specs.Loading.{opens, read_of_opened}
+use Rattle.stx_engine.specs.declared.outcome.HostFault.TheVariants as fault
+use Rattle.stx_engine.specs.declared.outcome.Outcome.{Outcome}
+use Rattle.stx_engine.specs.declared.outcome.Outcome.TheVariants.{Usage, Sheet, Host, Memory}
+use Rattle.stx_engine.specs.declared.pass.Pass.{Pass}
+
+-- Before a read of the main document: the words and the sheet were accepted, all that the bytes read so far settle of the
+-- result was written to `Out`, and no more, and the run waits for more.
+abbrev pub Asks : (words : List (List ℕ)) → List Doc → (main : List ℕ) → Taken → Type 0
+Asks words docs main taken =
+    (pass : Pass) × (asked words docs ≡ Some pass) × IsSettledAt standard_limits pass (take taken.main_read main) taken
+
+-- the host failed on the sheet, after all that was read of it, on the main document, or on `Out`
+abbrev pub FailedIn : (words : List (List ℕ)) → Outcome → List Act → (out : List ℕ) → Type 0
+FailedIn words (Host file fault.Doc offset) acts out = (sheet_named words ≡ Some file) × (offset ≡ read_of_opened acts)
+FailedIn words Usage acts out = Unit {0}
+FailedIn words (Sheet reason) acts out = Unit {0}
+FailedIn words outcome acts out = FailedAt outcome acts out
+
+-- the words are refused exactly where they name no sheet, if memory suffices
+abbrev pub RefusesWords : (words : List (List ℕ)) → Outcome → Type 0
+RefusesWords words Usage = sheet_named words ≡ None
+RefusesWords words Memory = Unit {0}
+RefusesWords words outcome = IsSome (sheet_named words)
+
+-- the outcome is the answer's, and all of the answer's output was written
+pub record IsAnswered (out : List ℕ) (outcome : Outcome) (a : Answer) : Type 0 where
+  pub output : out ≡ a.out
+  pub line : line_of outcome ≡ a.note
+  pub code : status_of outcome ≡ a.status
+
+-- the documents of the first of these names were opened, in order; of all of them, unless the run failed
+abbrev pub OpensNames : List Doc → (names : List (List ℕ)) → Outcome → List Act → Type 0
+OpensNames docs names outcome acts =
+    (front : List (List ℕ)) × Begins front names × (opens acts ≡ map (place docs) front) × UnlessFailed outcome (front ≡ names)
+
+-- what a run did where the host tells the documents and the main document
+pub record RunsTold (words : List (List ℕ)) (docs : List Doc) (main : List ℕ) (acts : List Act) (out : List ℕ) (outcome : Outcome) : Type 0 where
+  pub reads : AtMainReads acts out [] (Asks words docs main)
+  pub prefix : Begins out (answer words docs main).out
+  pub ends : UnlessFailed outcome (IsAnswered out outcome (answer words docs main))
+  pub opened : OpensNames docs (answer words docs main).opened outcome acts
+
+-- what a run did, and how it ended
+pub record Runs (words : List (List ℕ)) (old new : Outside) (outcome : Outcome) : Type 0 where
+  pub acts : List Act
+  pub out : List ℕ
+  pub between : Between old new acts out []
+  pub counts : CountsBy outcome old new
+  pub failed : FailedIn words outcome acts out
+  pub refuses : RefusesWords words outcome
+  pub told : (docs : List Doc) (main : List ℕ) → old.documents ≡ Some docs → old.to_come 0 ≡ Some main → RunsTold words docs main acts out outcome
+
+-- the status where the line couldn't be written: want of memory stays
+abbrev pub unwritten_status : ℕ → ℕ
+unwritten_status status = if status == 7 then 7 else 5
+
+-- a line was written to `Note`; or its first bytes were, and then the host failed
+abbrev pub Reports : (old : Outside) → (line : List ℕ) → (status : ℕ) → (new : Outside) → (result : ℕ) → Type 0
+Reports old line status new result =
+    ((lens : List ℕ) × (sum lens ≡ length line) × (new ≡ wrote old Note lens line) × (result ≡ status))
+    ⊎ ((lens : List ℕ) × (n : ℕ) × (sum lens ≡ n) × (n < length line) × NoteFault (wrote old Note lens (take n line)) new × (result ≡ unwritten_status status))
