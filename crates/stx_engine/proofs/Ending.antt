@@ -250,7 +250,7 @@ ready_cut Fresh (Cut why) p h = λ k. cc
 ready_cut Fresh (Single m leaf next) p h = h
 ready_cut Fresh (Nested m e kids next) p h = h
 
-passed-cut : (pass : Pass) (x : Forest) → EndsCut x → (passed pass x).stop ≢ None
+pub passed-cut : (pass : Pass) (x : Forest) → EndsCut x → (passed pass x).stop ≢ None
 passed-cut pass (End m) c h = c
 passed-cut pass (Cut why) c h = cc
 passed-cut pass (Single m (Chars text) next) c h = passed-cut pass next c h
@@ -258,7 +258,7 @@ passed-cut pass (Nested m e kids next) c h =
     ready_cut m kids (put (start_parts pass e) (then_put (passed pass kids) (put (end_parts pass e) (passed pass next))))
     (put_cut (passed pass kids).stop (passed pass kids) (put (end_parts pass e) (passed pass next)) refl (passed-cut pass next c)) h
 
-done_so : (s : Option Why) → ending_of s ≡ Complete → s ≡ None
+pub done_so : (s : Option Why) → ending_of s ≡ Complete → s ≡ None
 done_so None h = refl
 done_so (Some why) h = absurd cc
 

@@ -29,3 +29,5 @@ pub mod Beginnings
 pub mod Driven
 pub mod Ran
 pub mod Headed
+pub mod Joining
+pub mod Copying

@@ -29,7 +29,7 @@ tied : (why : Option Why) (f : Future) → Tidy why f → is_closed (inner why f
 tied why [] h c = refl
 tied why (x ∷ f) h c = h.1 c
 
-text_proper : (why : Option Why) (text : List ℕ) (x : Forest) → IsProper why x → IsProper why (text_before text x)
+pub text_proper : (why : Option Why) (text : List ℕ) (x : Forest) → IsProper why x → IsProper why (text_before text x)
 text_proper why [] x p = p
 text_proper why (c ∷ cs) (End m) p = (refl, λ e. cc, tt, p)
 text_proper why (c ∷ cs) (Cut w) p = p
@@ -46,7 +46,7 @@ text_closed (c ∷ cs) (Nested m e kids next) = refl
 and_both : (s t : Bool) → s ≡ true → t ≡ true → (s && t) ≡ true
 and_both s t a b = rw (a, b) refl
 
-whole_closed : (x : Forest) → IsProper None x → is_closed x ≡ true
+pub whole_closed : (x : Forest) → IsProper None x → is_closed x ≡ true
 whole_closed (End m) p = refl
 whole_closed (Cut w) p = absurd cc
 whole_closed (Single m (Chars text) next) p = whole_closed next p.3
@@ -82,7 +82,7 @@ deep_judged limits n last b l r h (Some kind) is o = deep_none b.names (Some (Ba
 deep_judged limits n last b l r h None is o =
     deep_first limits b.names b.rooted b.run l.body r is (h (λ k. o (why_first b l.body r ∙ k)))
 
-deep_reading : (limits : Limits) (n : ℕ) (last : Step) (b : Before) (ls : List Lexeme) → (reading limits n last b ls).why ≢ None →
+pub deep_reading : (limits : Limits) (n : ℕ) (last : Step) (b : Before) (ls : List Lexeme) → (reading limits n last b ls).why ≢ None →
     Deep b.names (reading limits n last b ls).why (future (reading limits n last b ls).why (reading limits n last b ls).bodies)
 deep_reading limits n last b [] o = deep_none b.names (at_end b n last) o
 deep_reading limits n last b (l ∷ ls) o =

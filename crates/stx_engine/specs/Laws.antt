@@ -1,12 +1,18 @@
 -- What laws of the definitions say.
-use Rattle.std.specs.Prelude.{◌≡◌, ℕ, List, [], ◌∷◌, ◌++◌, Option, Some, None}
+use Rattle.std.specs.Prelude.{◌≡◌, ℕ, Bool, List, [], ◌∷◌, ◌++◌, Option, Some, None}
 use Rattle.stx_base.specs.declared.fault.XmlKind.{XmlKind}
 use Rattle.stx_base.specs.declared.limits.Limits.{Limits}
+use Rattle.stx_base.specs.declared.part.Part.{Part}
+use Rattle.stx_base.specs.declared.part.Part.TheVariants as part
+use Rattle.stx_engine.specs.declared.pass.Pass.TheVariants as pass
 use Rattle.xml_tokens.specs.declared.lexeme.Lexeme.{Lexeme}
 use Rattle.xml_tokens.specs.declared.lexeme.Step.{Step}
-use Rattle.stx_engine.specs.Document.{Before, at_start, at_end, before_next, fault_of, reading, tree_of}
+use Rattle.stx_engine.specs.Answer.{doc, run_of, run_on}
+use Rattle.stx_engine.specs.Document.{Before, at_start, at_end, before_next, fault_of, reading, text_before, tree_of}
 use Rattle.stx_engine.specs.Flatten.{flatten, pieces, IsCutTree}
-use Rattle.stx_engine.specs.Tree.{Why, Bad, Forest}
+use Rattle.stx_engine.specs.Forest.{attrs_of, expanded, forest}
+use Rattle.stx_engine.specs.Meaning.{Complete, outcome}
+use Rattle.stx_engine.specs.Tree.{Why, Bad, Fresh, Chars, Forest, End, Cut, Single, Nested}
 
 -- what stands behind lexemes
 abbrev pub behind : Before → List Lexeme → Before
@@ -48,3 +54,48 @@ IsTree =
 -- A tree is the only one with its flattening.
 abbrev pub OnlyTree : Type 0
 OnlyTree = (why : Option Why) (x y : Forest) → IsCutTree why x → IsCutTree why y → flatten x ≡ flatten y → x ≡ y
+
+-- Pass-through `all` copies a complete tree, but for prefixes and declarations.
+abbrev pub CopiesAll : Type 0
+CopiesAll = (tree : Forest) → IsCutTree None tree → forest (run_of (outcome pass.All tree)).parts ≡ expanded tree
+
+-- It copies a document that is complete as it is, since no prefixes and declarations are read yet.
+abbrev pub CopiesDocuments : Type 0
+CopiesDocuments =
+    (limits : Limits) (bytes : List ℕ) (ended : Bool)
+    → let run = run_on limits pass.All bytes ended in run.ending ≡ Complete → forest run.parts ≡ doc limits bytes ended
+
+-- all texts of a list of nodes, joined
+abbrev pub all_text : Forest → List ℕ
+all_text (End m) = []
+all_text (Cut why) = []
+all_text (Single m (Chars text) next) = text ++ all_text next
+all_text (Nested m e kids next) = all_text kids ++ all_text next
+
+-- Pass-through `text` copies all texts to one, and makes no node where there is none.
+abbrev pub CopiesTexts : Type 0
+CopiesTexts =
+    (why : Option Why) (tree : Forest)
+    → IsCutTree why tree → forest (run_of (outcome pass.Chars tree)).parts ≡ text_before (all_text tree) (End Fresh)
+
+-- Pass-through `none` makes no node.
+abbrev pub CopiesNothing : Type 0
+CopiesNothing = (tree : Forest) → forest (run_of (outcome pass.None tree)).parts ≡ End Fresh
+
+-- Parts make a complete tree, whatever parts they are: no text is empty, and no two texts touch.
+abbrev pub MakeTree : Type 0
+MakeTree = (ps : List Part) → IsCutTree None (forest ps)
+
+-- No name among their nodes has a prefix, and no element declarations.
+abbrev pub MakeExpanded : Type 0
+MakeExpanded = (ps : List Part) → expanded (forest ps) ≡ forest ps
+
+-- Two texts that touch are one, wherever they stand.
+abbrev pub TextsJoin : Type 0
+TextsJoin =
+    (ps qs : List Part) (a b : List ℕ)
+    → forest (ps ++ part.Chars a ∷ part.Chars b ∷ qs) ≡ forest (ps ++ part.Chars (a ++ b) ∷ qs)
+
+-- An empty text is none, wherever it stands, but where it parts an attribute from its start tag.
+abbrev pub NoEmptyText : Type 0
+NoEmptyText = (ps qs : List Part) → attrs_of qs ≡ [] → forest (ps ++ part.Chars [] ∷ qs) ≡ forest (ps ++ qs)

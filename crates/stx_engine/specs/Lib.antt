@@ -5,6 +5,7 @@ pub mod Engine
 pub mod Escape
 pub mod Flatten
 pub mod Headline
+pub mod Forest
 pub mod Laws
 pub mod Lexed
 pub mod Line

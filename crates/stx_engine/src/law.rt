@@ -11,7 +11,7 @@ ghost use Rattle.stx_engine.specs.Tree.{Need, Forest};
 ghost use Rattle.stx_engine.specs.Answer.{run_on, result_of, settled, answer, asked};
 ghost use Rattle.stx_engine.specs.Meaning.{Said, Put, Ending, Complete, Unready, code, meaning, outcome};
 ghost use Rattle.stx_engine.specs.Passed.{passed, ending_of};
-ghost use Rattle.stx_engine.specs.Laws.{FirstFault, Flattened, IsTree, NoFault, OnlyTree};
+ghost use Rattle.stx_engine.specs.Laws.{CopiesAll, CopiesDocuments, CopiesNothing, CopiesTexts, FirstFault, Flattened, IsTree, MakeExpanded, MakeTree, NoEmptyText, NoFault, OnlyTree, TextsJoin};
 ghost use Rattle.stx_engine.specs.Nesting.{EndsHaveStarts};
 ghost use Rattle.stx_engine.specs.Result.{text};
 ghost use Rattle.stx_engine.specs.Document.{Reading, tree_of};
@@ -83,4 +83,23 @@ pub fn lone_ends()
     ensures longer { EndsHaveStarts (codes "<a></ab>") → ⊥ }
     // None in quotes, in a comment, or unfinished.
     ensures none { EndsHaveStarts (codes "<a b='</c>'><!--</c>--></a></c") }
+{}
+
+/// What pass-through puts, as nodes.
+pub fn copies()
+    ensures all { CopiesAll }
+    ensures documents { CopiesDocuments }
+    ensures texts { CopiesTexts }
+    ensures nothing { CopiesNothing }
+{}
+
+/// Parts are the nodes of a tree, in which no two texts touch and none is empty.
+pub fn nodes_of_parts()
+    ensures tree { MakeTree }
+    // Names are expanded, and declarations left out.
+    ensures expanded { MakeExpanded }
+    // Texts that touch are one.
+    ensures join { TextsJoin }
+    // An empty text is none.
+    ensures empty { NoEmptyText }
 {}
