@@ -3,6 +3,7 @@
 
 pub mod answer;
 pub mod document;
+pub mod forest;
 pub mod lexemes;
 pub mod parts;
 pub mod text;

@@ -4,9 +4,12 @@ use crate::row::{HEAD, SHEET, list};
 use crate::table::{PASS_ALL, REFUSALS, ROWS};
 use std::alloc::Global;
 use std::test::Fail;
-use stx_base::{Limits, Memory, Text, XmlFault, XmlKind};
+use stx_base::{Limits, List, Memory, Name, Part, Text, XmlFault, XmlKind};
 use stx_engine::Pass;
 use stx_engine::plain::answer::{Answer, answer_to, run_on, settled};
+use stx_engine::plain::forest::forest;
+use stx_engine::plain::parts::parts;
+use stx_engine::plain::text::text;
 use stx_engine::plain::tree::Why;
 use stx_host::Doc;
 
@@ -102,6 +105,98 @@ fn limits(rt: HostRuntime) -> Result<(), Fail> {
         let kind = XmlKind::NotBuilt;
         let wanted = at.map(|offset| Why::Bad(XmlFault { kind, offset }));
         assert_eq!(rt; run.stop, wanted, "{main}");
+    }
+    Ok(())
+}
+
+fn name_of(alloc: Global, local: &str) -> Result<Name, Memory> {
+    Ok(Name {
+        uri: Text::of(alloc, "urn:u")?,
+        local: Text::of(alloc, local)?,
+        prefix: Text::of(alloc, "p")?,
+    })
+}
+
+// Words as parts: `<` begins an element and `>` ends it, `@` is an attribute with the value 1, and any other is a text.
+fn parts_of(alloc: Global, words: &[(char, &str)]) -> Result<Vec<Part>, Memory> {
+    let mut parts = Vec::new(alloc);
+    for (kind, word) in words {
+        parts.push(part_of(alloc, *kind, word)?)?;
+    }
+    Ok(parts)
+}
+
+fn part_of(alloc: Global, kind: char, word: &str) -> Result<Part, Memory> {
+    match kind {
+        '<' => {
+            let name = name_of(alloc, word)?;
+            let scope = List::new(alloc);
+            Ok(Part::Start { name, scope })
+        }
+        '>' => {
+            let name = name_of(alloc, word)?;
+            Ok(Part::End { name })
+        }
+        '@' => {
+            let name = name_of(alloc, word)?;
+            let value = Text::of(alloc, "1")?;
+            Ok(Part::Attribute { name, value })
+        }
+        _ => {
+            let text = Text::of(alloc, word)?;
+            Ok(Part::Chars { text })
+        }
+    }
+}
+
+// The nodes that parts make, passed through: their bytes, and how many parts they are.
+#[test]
+fn nodes_of_parts(rt: HostRuntime) -> Result<(), Fail> {
+    let rows: [(&[(char, &str)], &str, usize); 7] = [
+        (&[], "", 0),
+        (&[(' ', ""), (' ', "")], "", 0),
+        (&[(' ', "x"), (' ', ""), (' ', "y")], "xy", 1),
+        (&[('<', "a"), (' ', ""), ('>', "a")], "<a/>", 2),
+        (
+            &[
+                ('<', "a"),
+                ('@', "b"),
+                ('@', "c"),
+                (' ', "x"),
+                (' ', "y"),
+                ('>', "a"),
+                (' ', "z"),
+            ],
+            "<a b=\"1\" c=\"1\">xy</a>z",
+            6,
+        ),
+        (
+            &[
+                ('<', "a"),
+                (' ', "x"),
+                ('<', "b"),
+                ('>', "b"),
+                (' ', ""),
+                (' ', "y"),
+                ('>', "a"),
+            ],
+            "<a>x<b/>y</a>",
+            6,
+        ),
+        (
+            &[('<', "a"), (' ', "x"), ('<', "b"), (' ', "y")],
+            "<a>x<b>y</b></a>",
+            6,
+        ),
+    ];
+    for (words, bytes, count) in rows {
+        let given = parts_of(rt.alloc(), words)?;
+        let tree = forest(rt.alloc(), given.as_slice())?;
+        let run = parts(rt.alloc(), Pass::All, &tree)?;
+        let found = text(rt.alloc(), run.parts.as_slice())?;
+        assert_eq!(rt; found.as_slice(), bytes.as_bytes(), "bytes of {bytes}");
+        assert_eq!(rt; run.parts.len(), count, "parts of {bytes}");
+        assert!(rt; run.stop.is_none(), "end of {bytes}");
     }
     Ok(())
 }

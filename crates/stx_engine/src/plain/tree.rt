@@ -70,7 +70,7 @@ fn follow(alloc: Global, body: Body, why: Option<Why>, lists: &mut List<Tree>) -
 }
 
 // Takes out the innermost list. One of which nothing is known ends as `why` says.
-fn take_inner(lists: &mut List<Tree>, why: Option<Why>) -> Tree
+pub(crate) fn take_inner(lists: &mut List<Tree>, why: Option<Why>) -> Tree
     ensures inner { forest_of result ≡ inner (why_of why) (lists_of lists.old) }
     ensures outer { lists_of lists.new ≡ outer (lists_of lists.old) }
 {
@@ -82,7 +82,7 @@ fn take_inner(lists: &mut List<Tree>, why: Option<Why>) -> Tree
 }
 
 // A text before a list.
-fn text_before(alloc: Global, text: Text, next: Tree) -> Result<Tree, Memory>
+pub(crate) fn text_before(alloc: Global, text: Text, next: Tree) -> Result<Tree, Memory>
     ensures { IfOk result (λ tree. forest_of tree ≡ spec.text_before text (forest_of next)) }
 {
     if text.is_empty() {
