@@ -5,7 +5,7 @@ use Rattle.stx_base.specs.declared.part.Part.{Part}
 use Rattle.stx_base.specs.declared.part.Part.TheVariants as part
 use Rattle.stx_engine.specs.declared.escape.Context.TheVariants.{Content, Value}
 use Rattle.stx_engine.specs.Escape.{escaped}
-use Rattle.stx_engine.specs.Result.{settles, once_settled, tag_end, written_name, text_from}
+use Rattle.stx_engine.specs.Result.{data_of, settles, once_settled, tag_end, written_name, text_from}
 
 -- bytes, and more after them
 abbrev Begins : List ℕ → List ℕ → Type 0
@@ -53,4 +53,4 @@ text_from-grows b (part.Attribute name value ∷ ps) qs = held-grows _ b ps qs (
 text_from-grows b (part.End name ∷ ps) qs = begins-append _ _ _ (text_from-grows false ps qs)
 text_from-grows b (part.Chars t ∷ ps) qs = begins-append (tag_end b ++ escaped Content (encode_utf8_all t)) _ _ (text_from-grows false ps qs)
 text_from-grows b (part.Comment t ∷ ps) qs = begins-append (tag_end b ++ codes "<!--" ++ encode_utf8_all t ++ codes "-->") _ _ (text_from-grows false ps qs)
-text_from-grows b (part.Pi target t ∷ ps) qs = begins-append (tag_end b ++ codes "<?" ++ encode_utf8_all target ++ codes " " ++ encode_utf8_all t ++ codes "?>") _ _ (text_from-grows false ps qs)
+text_from-grows b (part.Pi target t ∷ ps) qs = begins-append (tag_end b ++ codes "<?" ++ encode_utf8_all target ++ data_of t ++ codes "?>") _ _ (text_from-grows false ps qs)

@@ -33,6 +33,11 @@ abbrev pub element_end : Bool → List ℕ → List ℕ
 element_end true name = codes "/>"
 element_end false name = codes "</" ++ name ++ codes ">"
 
+-- a space and the data of an instruction, where it has some (XML 1.0, 2.6)
+abbrev pub data_of : List ℕ → List ℕ
+data_of [] = []
+data_of (c ∷ cs) = codes " " ++ encode_utf8_all (c ∷ cs)
+
 -- the bytes of parts, where `in_tag` says that a start tag is open before them
 abbrev pub text_from : (in_tag : Bool) → List Part → List ℕ
 text_from in_tag [] = []
@@ -47,7 +52,7 @@ text_from in_tag (part.Chars text ∷ ps) =
 text_from in_tag (part.Comment text ∷ ps) =
     tag_end in_tag ++ codes "<!--" ++ encode_utf8_all text ++ codes "-->" ++ text_from false ps
 text_from in_tag (part.Pi target text ∷ ps) =
-    tag_end in_tag ++ codes "<?" ++ encode_utf8_all target ++ codes " " ++ encode_utf8_all text ++ codes "?>" ++ text_from false ps
+    tag_end in_tag ++ codes "<?" ++ encode_utf8_all target ++ data_of text ++ codes "?>" ++ text_from false ps
 
 -- the bytes of parts; a start tag at their end, with its attributes, isn't in them
 abbrev pub text : List Part → List ℕ

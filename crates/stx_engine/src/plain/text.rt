@@ -4,7 +4,7 @@ ghost use Rattle.std.specs.Prelude.{◌≡◌, [], ◌∷◌, ◌++◌, IfOk, On
 ghost use Rattle.stx_base.specs.declared.part.Part.{Part as Piece};
 ghost use Rattle.stx_engine.specs.Result as spec;
 ghost use Rattle.stx_engine.specs.Escape.{escaped};
-ghost use Rattle.stx_engine.specs.Result.{element_end, tag_end, text_from, written_name};
+ghost use Rattle.stx_engine.specs.Result.{data_of, element_end, tag_end, text_from, written_name};
 
 use crate::escape::{Context, append_escaped};
 use std::alloc::Global;
@@ -150,13 +150,24 @@ fn append_comment(text: &Text, in_tag: bool, out: &mut Vec<u8>) -> Result<(), Me
 }
 
 fn append_pi(target: &Text, text: &Text, in_tag: bool, out: &mut Vec<u8>) -> Result<(), Memory>
-    ensures { OnOk result (out.new.items ≡ out.old.items ++ (tag_end in_tag ++ codes "<?" ++ encode_utf8_all target.now ++ codes " " ++ encode_utf8_all text.now ++ codes "?>")) }
+    ensures { OnOk result (out.new.items ≡ out.old.items ++ (tag_end in_tag ++ codes "<?" ++ encode_utf8_all target.now ++ data_of text.now ++ codes "?>")) }
 {
     append_tag_end(in_tag, out)?;
     out.extend_from_slice(b"<?")?;
     out.extend_from_slice(target.as_str().as_bytes())?;
+    append_data(text, out)?;
+    out.extend_from_slice(b"?>")?;
+    Ok(())
+}
+
+// A space and the data of an instruction, where it has some.
+fn append_data(text: &Text, out: &mut Vec<u8>) -> Result<(), Memory>
+    ensures { OnOk result (out.new.items ≡ out.old.items ++ data_of text.now) }
+{
+    if text.is_empty() {
+        return Ok(());
+    }
     out.push(b' ')?;
     out.extend_from_slice(text.as_str().as_bytes())?;
-    out.extend_from_slice(b"?>")?;
     Ok(())
 }
