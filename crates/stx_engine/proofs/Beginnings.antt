@@ -1,5 +1,5 @@
 -- What an engine gives from its start on.
-use Rattle.std.proofs.Common.{◌≡◌, ℕ, ◌+◌, ◌-◌, ◌^◌, ◌<◌, Bool, true, false, not, ◌&&◌, if◌then◌else◌, nat_lt, List, [], ◌∷◌, ◌++◌, length, take, drop, reverse, Option, Some, None, arith, refl, sym, ap, ◌∙◌}
+use Rattle.std.proofs.Common.{◌≡◌, ℕ, ◌+◌, ◌-◌, ◌^◌, ◌<◌, Bool, false, not, ◌&&◌, if◌then◌else◌, nat_lt, List, [], ◌++◌, length, take, drop, reverse, Option, Some, None, arith, sym, ap, ◌∙◌}
 use Rattle.std.proofs.Math.Seq.{take-nil}
 use Rattle.std.proofs.lemmas.Bool.{le-ltb}
 use Rattle.stx_base.specs.declared.limits.Limits.{Limits}
@@ -9,11 +9,11 @@ use Rattle.xml_tokens.specs.Reader.{Reader, begun, due, fed, at_shape, bad, is_u
 use Rattle.xml_tokens.specs.declared.lexeme.Step.{Step}
 use Rattle.xml_tokens.specs.declared.lexeme.Step.TheVariants as step
 use Rattle.stx_engine.specs.Answer.{doc}
-use Rattle.stx_engine.specs.Document.{Before, Reading, future, reading}
-use Rattle.stx_engine.specs.Engine.{given_from, later, more, IsWaiting, Means}
+use Rattle.stx_engine.specs.Document.{future, reading}
+use Rattle.stx_engine.specs.Engine.{given_from, later, IsWaiting, Means}
 use Rattle.stx_engine.specs.Lexed.{lexed_from, unread}
 use Rattle.stx_engine.specs.More.{Given, StartsAs, rest, text_after, with_front, with_held}
-use Rattle.stx_engine.specs.Passed.{Passed, passed, ending_of}
+use Rattle.stx_engine.specs.Passed.{passed, ending_of}
 use Rattle.stx_engine.specs.Result.{text}
 use Rattle.stx_engine.specs.declared.engine.Engine.{Engine}
 use Rattle.stx_engine.specs.declared.pass.Pass.{Pass}
@@ -52,8 +52,8 @@ module _ (limits : Limits) where
   due_by_len coming place cut None =
       step_or_need
       (if not (not (false && not cut) && is_undecided_at place coming) && nat_lt limits.lexeme (length coming) then Some (bad LexemeTooLong place)
-       else if cut then Some (bad InputTooLong limits.input)
-       else None)
+      else if cut then Some (bad InputTooLong limits.input)
+      else None)
 
   -- the same by what is seen, and whether that is cut
   abbrev due_by : (seen : List ℕ) → (cut : Bool) → Step

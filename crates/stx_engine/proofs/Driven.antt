@@ -1,15 +1,14 @@
 -- How a main document is read through an engine.
-use Rattle.std.proofs.Common.{◌≡◌, ℕ, ◌+◌, ◌-◌, ◌^◌, ◌<◌, ◌≤◌, Bool, true, false, List, [], ◌∷◌, ◌++◌, length, take, drop, sum, min, Option, Some, None, IfSome, Result, Ok, Err, Bor, arith, refl, sym, ap, ◌∙◌, subst, append_assoc, length-append, length-drop, length-take, add-zero}
+use Rattle.std.proofs.Common.{◌≡◌, ℕ, ◌+◌, ◌<◌, ◌≤◌, Bool, true, false, List, [], ◌∷◌, ◌++◌, length, take, drop, sum, Option, Some, None, IfSome, arith, refl, sym, ap, ◌∙◌, subst, append_assoc, length-append, length-drop, length-take, add-zero}
 use Rattle.std.specs.Option.{option_map}
 use Rattle.std.specs.Prelude.{codes, unwrap_or}
 use Rattle.std.proofs.lemmas.List.{append-nil, take-append-drop, take-append-le, take_all}
 use Rattle.std.proofs.lemmas.Bool.{false≢true}
 use Rattle.std.proofs.Math.Seq.{take-add}
 use Rattle.stx_base.specs.Course.{Begins}
-use Rattle.stx_base.specs.declared.fault.XmlFault.{XmlFault}
 use Rattle.stx_base.specs.declared.limits.Limits.{Limits}
-use Rattle.stx_host.specs.Before.{AtMainReads, Between, Taken, main_read}
-use Rattle.stx_host.specs.Outside.{Outside, GivesBytes, LaneFault, Reads, OutFault, MainFault, Rose, wrote, writes}
+use Rattle.stx_host.specs.Before.{AtMainReads, Between, main_read}
+use Rattle.stx_host.specs.Outside.{Outside, GivesBytes, Reads, OutFault, MainFault, Rose, wrote, writes}
 use Rattle.stx_host.specs.declared.act.Act.{Act}
 use Rattle.stx_host.specs.declared.act.Act.TheVariants.{Open, Read, Close, Write}
 use Rattle.stx_host.specs.declared.act.Got.TheVariants.{Bytes as Got', End as GotEnd, Failed as Unread}
@@ -17,19 +16,16 @@ use Rattle.stx_host.specs.declared.act.Lane.{Lane}
 use Rattle.stx_host.specs.declared.act.Lane.TheVariants.{Out}
 use Rattle.stx_host.proofs.CopiedSoFar.{and_nothing_more}
 use Rattle.stx_host.proofs.Stretches.{between_joins, between_read, between_writes, between_fault, nothing_between, main_read-append, main_read-writes, main_reads_one, main_reads_writes}
-use Rattle.stx_engine.specs.Answer.{outcome_of, result_of, run_on, settled}
-use Rattle.stx_engine.specs.Driving.{CountsBy, Drives, EndsAs, FailedAt, FailsBy, IsSettledAt, SameCounts, WritesOn, WritesResult, counted}
+use Rattle.stx_engine.specs.Answer.{outcome_of, result_of, run_on}
+use Rattle.stx_engine.specs.Driving.{CountsBy, Drives, EndsAs, FailedAt, FailsBy, IsSettledAt, SameCounts, counted}
 use Rattle.stx_engine.specs.Engine.{Appends, IsWaiting, Means, Pumps, StoppedBy, ahead, more, more_of}
 use Rattle.stx_engine.specs.Loading.{opens}
-use Rattle.stx_engine.specs.Meaning.{Complete, Unready}
 use Rattle.stx_engine.specs.More.{Given}
 use Rattle.stx_engine.specs.Passed.{ending_of}
 use Rattle.stx_engine.specs.Result.{head}
 use Rattle.stx_engine.specs.Tree.{Why, Need, Bad}
-use Rattle.stx_engine.specs.declared.driver.Refused.{Refused}
 use Rattle.stx_engine.specs.declared.engine.Engine.{Engine}
-use Rattle.stx_engine.specs.declared.engine.Piece.{Piece}
-use Rattle.stx_engine.specs.declared.engine.Piece.TheVariants.{Start, Bytes, End}
+use Rattle.stx_engine.specs.declared.engine.Piece.TheVariants.{Start, End}
 use Rattle.stx_engine.specs.declared.engine.Pumped.{Pumped}
 use Rattle.stx_engine.specs.declared.engine.Pumped.TheVariants as pumped
 use Rattle.stx_engine.specs.declared.outcome.HostFault.{HostFault}
@@ -37,7 +33,7 @@ use Rattle.stx_engine.specs.declared.outcome.HostFault.TheVariants as fault
 use Rattle.stx_engine.specs.declared.outcome.Outcome.{Outcome}
 use Rattle.stx_engine.specs.declared.outcome.Outcome.TheVariants.{Done, Usage, Sheet, Xml, Host, Memory}
 use Rattle.stx_engine.specs.declared.pass.Pass.{Pass}
-use Rattle.stx_engine.proofs.Prefixes.{begins_after, begins_more}
+use Rattle.stx_engine.proofs.Prefixes.{begins_after}
 
 -- Acts and what they open
 
@@ -136,9 +132,10 @@ module _ (start : Engine) (main : List ℕ) where
 
   -- what was appended is a beginning
   goes-begins : (e : Engine) (n : ℕ) (appended : List ℕ) (p : Pumped) → Goes e n appended p → Begins appended whole.bytes
-  goes-begins e n appended pumped.Main goes =
-      ((more e (drop n main) true).bytes,
-       sym (ap (λ g. g.bytes) (goes (drop n main) true)) ∙ ap (λ l. (more_of start Start l true).bytes) (take-append-drop n main))
+  goes-begins e n appended pumped.Main goes = (
+    (more e (drop n main) true).bytes,
+    sym (ap (λ g. g.bytes) (goes (drop n main) true)) ∙ ap (λ l. (more_of start Start l true).bytes) (take-append-drop n main),
+  )
   goes-begins e n appended pumped.Done goes = ([], append-nil appended ∙ sym (ap (λ g. g.bytes) goes.1))
   goes-begins e n appended pumped.Stopped goes = by_outcome e.outcome goes where
     by_outcome : (o : Option Outcome) → StoppedBy o appended (λ bytes ended. whole) → Begins appended whole.bytes
@@ -287,13 +284,13 @@ module _ (limits : Limits) (pass : Pass) (start : Engine) where
                 within = omega (arith, count, fits, length-drop at main, so_far.within);
                 goes = subst (λ l. Goes start main after (main_read (d.acts ++ Read 0 n ∷ [])) (d.out ++ l) p) (sym pumps.1)
                     (subst (λ m. Goes start main after m (d.out ++ pumps.0) p) (sym count)
-                     (goes-piece start main given_on after (at + n) d.out pumps.0 p
-                      (λ bytes ended is. ap (λ l. more_of start Start (l ++ bytes) ended) (take-add at n main ∙ ap (λ l. take at main ++ l) piece_is)
-                       ∙ ap (λ l. more_of start Start l ended) (append_assoc (take at main) piece bytes) ∙ goes (piece ++ bytes) ended)
-                      (drop n (drop at main)) true
-                      (ap (λ l. more_of start Start l true) (sym (take-append-drop at main) ∙ ap (λ l. take at main ++ l) given)
-                       ∙ goes (piece ++ drop n (drop at main)) true)
-                      pumps.2));
+                    (goes-piece start main given_on after (at + n) d.out pumps.0 p
+                    (λ bytes ended is. ap (λ l. more_of start Start (l ++ bytes) ended) (take-add at n main ∙ ap (λ l. take at main ++ l) piece_is)
+                    ∙ ap (λ l. more_of start Start l ended) (append_assoc (take at main) piece bytes) ∙ goes (piece ++ bytes) ended)
+                    (drop n (drop at main)) true
+                    (ap (λ l. more_of start Start l true) (sym (take-append-drop at main) ∙ ap (λ l. take at main ++ l) given)
+                    ∙ goes (piece ++ drop n (drop at main)) true)
+                    pumps.2));
               };
         }
 
@@ -324,9 +321,9 @@ module _ (limits : Limits) (pass : Pass) (start : Engine) where
                 within = omega (arith, count, so_far.within);
                 goes = subst (λ l. Goes start main after (main_read (d.acts ++ Read 0 0 ∷ [])) (d.out ++ l) p) (sym pumps.1)
                     (goes-piece start main (more_of e End) after (main_read (d.acts ++ Read 0 0 ∷ [])) d.out pumps.0 p
-                     (λ bytes ended is. absurd (last is)) [] true
-                     (ap (λ l. more_of start Start l true) (sym (take-append-drop at main) ∙ ap (λ l. take at main ++ l) none) ∙ goes [] true)
-                     pumps.2);
+                    (λ bytes ended is. absurd (last is)) [] true
+                    (ap (λ l. more_of start Start l true) (sym (take-append-drop at main) ∙ ap (λ l. take at main ++ l) none) ∙ goes [] true)
+                    pumps.2);
               };
         }
 
@@ -367,12 +364,14 @@ module _ (limits : Limits) (pass : Pass) (start : Engine) where
         at ∙ ap (λ n. counted (n + taken)) d.written_is ∙ counted_more (length d.out) taken ∙ ap (λ n. counted (length d.out + n)) fits ∙ ap counted (sym (length-append d.out bytes)) in
         let note = ap (λ x. x.note_faults) failed.alone ∙ counts.note in
         let fails = fails-by fault.Write offset old new acts out note
-             (record {
-               counts = (subst (λ n. Rose n new.out_faults) counts.out failed.count.rose,
-                record { doc = ap (λ x. x.doc_faults) failed.alone ∙ counts.doc; main = ap (λ x. x.main_faults) failed.alone ∙ counts.main; out = refl; note = note });
-               failed = (refl, place);
-               ends = λ main. tt;
-             }) o told_by in
+        (record {
+          counts = (
+            subst (λ n. Rose n new.out_faults) counts.out failed.count.rose,
+            record { doc = ap (λ x. x.doc_faults) failed.alone ∙ counts.doc; main = ap (λ x. x.main_faults) failed.alone ∙ counts.main; out = refl; note = note },
+          );
+          failed = (refl, place);
+          ends = λ main. tt;
+        }) o told_by in
         record {
           acts = acts;
           out = out;
@@ -386,7 +385,7 @@ module _ (limits : Limits) (pass : Pass) (start : Engine) where
                 reads = main_reads_writes d.acts Out lens d.out bytes [] [] (λ taken. IsSettledAt limits pass (take taken.main_read main) taken) d.between.out_written d.between.note_written so_far.reads;
                 prefix = begins-front (d.out ++ bytes) (drop taken next) (result_of (run_on limits pass main true))
                     (subst (λ l. Begins l (result_of (run_on limits pass main true))) (ap (λ l. d.out ++ l) (sym (take-append-drop taken next)) ∙ sym (append_assoc d.out bytes (drop taken next)))
-                     (begins-result main (main_read d.acts) (d.out ++ next) e p so_far.goes));
+                    (begins-result main (main_read d.acts) (d.out ++ next) e p so_far.goes));
                 ends = fails.ends main;
               };
         }
@@ -397,12 +396,14 @@ module _ (limits : Limits) (pass : Pass) (start : Engine) where
     read-fails old now new e read written p o d failed told_by =
         let note = ap (λ x. x.note_faults) failed.alone ∙ d.counts.note in
         let fails = fails-by fault.Read read old new d.acts d.out note
-             (record {
-               counts = (subst (λ n. Rose n new.main_faults) d.counts.main failed.count.rose,
-                record { doc = ap (λ x. x.doc_faults) failed.alone ∙ d.counts.doc; main = refl; out = ap (λ x. x.out_faults) failed.alone ∙ d.counts.out; note = note });
-               failed = (refl, d.read_is);
-               ends = λ main. tt;
-             }) o told_by in
+        (record {
+          counts = (
+            subst (λ n. Rose n new.main_faults) d.counts.main failed.count.rose,
+            record { doc = ap (λ x. x.doc_faults) failed.alone ∙ d.counts.doc; main = refl; out = ap (λ x. x.out_faults) failed.alone ∙ d.counts.out; note = note },
+          );
+          failed = (refl, d.read_is);
+          ends = λ main. tt;
+        }) o told_by in
         record {
           acts = d.acts;
           out = d.out;
@@ -446,15 +447,18 @@ module _ (limits : Limits) (pass : Pass) (start : Engine) where
       by_outcome (Some (Sheet fault)) s = absurd s
       by_outcome (Some (Host file fault offset)) s = absurd s
       by_outcome None s = absurd s
+
       by_stop : (p : Pumped) (o : Option Outcome) → StopsBy p o → (p ≡ pumped.Main → ⊥) → CountsBy (unwrap_or o Memory) old now × FailedAt (unwrap_or o Memory) d.acts d.out
       by_stop pumped.Main o s other = absurd (other refl)
       by_stop pumped.Done o s other = subst (λ x. CountsBy (unwrap_or x Memory) old now × FailedAt (unwrap_or x Memory) d.acts d.out) (sym s) (d.counts, tt)
       by_stop pumped.Stopped o s other = by_outcome o s
+
       -- all that the document gives was written
       wrote_all : (main : List ℕ) (stop : Option Why) → more_of start Start main true ≡ record { bytes = d.out; stop = stop } → (o : Outcome) → o ≡ outcome_of (ending_of stop)
           → (d.out ≡ result_of (run_on limits pass main true)) × (o ≡ outcome_of (run_on limits pass main true).ending)
       wrote_all main stop all o e =
           (sym (result_is main true ∙ ap (λ g. g.bytes) all), e ∙ ap outcome_of (sym (ap (λ g. ending_of g.stop) all) ∙ (means main true).1))
+
       by_stopped : (main : List ℕ) (o : Option Outcome) → StoppedBy o d.out (λ bytes ended. more_of start Start main true) → EndsAs limits pass main d.out (unwrap_or o Memory)
       by_stopped main (Some (Xml file fault)) s = wrote_all main (Some (Bad fault)) (s.1 main true) (Xml file fault) (ap (λ f. Xml f fault) s.0)
       by_stopped main (Some Memory) s = tt
@@ -463,6 +467,7 @@ module _ (limits : Limits) (pass : Pass) (start : Engine) where
       by_stopped main (Some (Sheet fault)) s = absurd s
       by_stopped main (Some (Host file fault offset)) s = absurd s
       by_stopped main None s = absurd s
+
       by_end : (main : List ℕ) (p : Pumped) → Goes start main e (main_read d.acts) d.out p → (p ≡ pumped.Main → ⊥) → EndsAs limits pass main d.out (unwrap_or e.outcome Memory)
       by_end main pumped.Main goes other = absurd (other refl)
       by_end main pumped.Done goes other = subst (λ x. EndsAs limits pass main d.out (unwrap_or x Memory)) (sym goes.0) (wrote_all main None goes.1 Done refl)

@@ -1,28 +1,27 @@
 -- What a walk and a reader give, lexeme by lexeme.
-use Rattle.std.proofs.Common.{◌≡◌, ◌≢◌, ℕ, ◌+◌, ◌<◌, ◌≤◌, Bool, true, false, cond, if◌then◌else◌, not, ◌&&◌, subst, List, [], ◌∷◌, ◌++◌, Option, Some, None, length, reverse, refl, sym, ap, ◌∙◌, arith, length-append, length-drop, append_assoc}
+use Rattle.std.proofs.Common.{◌≡◌, ◌≢◌, ℕ, Bool, true, false, cond, if◌then◌else◌, not, ◌&&◌, subst, List, [], ◌∷◌, ◌++◌, Option, Some, None, reverse, refl, sym, ap, ◌∙◌}
 use Rattle.std.proofs.lemmas.List.{append-nil}
 use Rattle.stx_base.specs.declared.fault.XmlFault.{XmlFault}
 use Rattle.stx_base.specs.declared.fault.XmlKind.{XmlKind}
 use Rattle.stx_base.specs.declared.fault.XmlKind.TheVariants.{Truncated}
-use Rattle.xml_tokens.specs.Reader.{Reader, due, after, fed, size}
+use Rattle.xml_tokens.specs.Reader.{Reader, due, after, fed}
 use Rattle.xml_tokens.specs.declared.lexeme.Body.{Body}
 use Rattle.xml_tokens.specs.declared.lexeme.Body.TheVariants as body
 use Rattle.xml_tokens.specs.declared.lexeme.Lexeme.{Lexeme}
 use Rattle.xml_tokens.specs.declared.lexeme.Step.{Step}
 use Rattle.xml_tokens.specs.declared.lexeme.Step.TheVariants as step
-use Rattle.xml_tokens.proofs.RunLemmas.{with_rest, due-more, after_more, after-fresh, after-ended, after-shorter}
+use Rattle.xml_tokens.proofs.RunLemmas.{with_rest, due-more, after_more, after-fresh, after-ended}
 use Rattle.xml_tokens.proofs.AnswerLemmas.{answer-fed}
 use Rattle.stx_engine.specs.declared.walk.Tag.{Tag}
 use Rattle.stx_engine.specs.declared.walk.Walk.{Walk}
-use Rattle.stx_engine.specs.Document.{Before, Reading, Future, is_inside, is_complete, inner, outer, fault_of, before_next, with_first, judged, reading, ends_in, reported, at_end, text_before, element_of}
+use Rattle.stx_engine.specs.Document.{Before, Future, is_inside, is_complete, fault_of, before_next, judged, reading, ends_in, reported, at_end, text_before, element_of}
 use Rattle.stx_engine.specs.Engine.{given_from, later, all_given, ended_reading, IsTidy, ReadsOn}
 use Rattle.stx_engine.specs.declared.engine.Reading.TheVariants.{Wants as WantsMore, Complete, Faulty}
-use Rattle.stx_engine.specs.Lexed.{Lexed, lexed_from}
-use Rattle.stx_engine.specs.More.{Given, Taken, Takes, before_of, names_of, with_front, with_held, given_on, given, still, rest, gives, with_front, text_after}
-use Rattle.stx_engine.specs.Passed.{Passed, stopped, passed, put, then_put}
-use Rattle.stx_engine.specs.Result.{once_settled, text_from}
-use Rattle.stx_engine.specs.Tree.{Why, Need, Bad, Fresh, Forest, Cut, End, Nested}
-use Rattle.stx_engine.proofs.Settling.{before, no_lexemes, from-lexeme, from-last}
+use Rattle.stx_engine.specs.Lexed.{lexed_from}
+use Rattle.stx_engine.specs.More.{Taken, Takes, before_of, names_of, with_front, with_held, given_on, still, rest, gives, with_front, text_after}
+use Rattle.stx_engine.specs.Passed.{stopped, passed}
+use Rattle.stx_engine.specs.Tree.{Why, Bad, Fresh, Forest, Cut, End, Nested}
+use Rattle.stx_engine.proofs.Settling.{before, from-lexeme, from-last}
 
 module _ (r : Reader) (more : List ℕ) (ended : Bool) (fresh : r.over ≡ None) where
   later-fresh : (later r more ended).over ≡ None
@@ -43,6 +42,7 @@ module _ (r : Reader) (more : List ℕ) (ended : Bool) (fresh : r.over ≡ None)
   later-after l d = by_ended r.ended refl where
     q : Reader
     q = after r (step.Lexeme l)
+
     by_ended : (t : Bool) → r.ended ≡ t → after (later r more ended) (step.Lexeme l) ≡ later q more ended
     by_ended true e =
         ap (λ b. after (cond b r (with_rest r more ended)) (step.Lexeme l)) e
@@ -110,11 +110,13 @@ given-cut w why = ap (λ p. record { bytes = gives w.copier.writer p.parts; stop
   cut-rest : (begun : List (List ℕ)) (list : Forest) → passed w.copier.pass list ≡ stopped why → (lists : Future) → rest w.copier.pass (Some why) begun (list ∷ lists) ≡ stopped why
   cut-rest [] list e lists = e
   cut-rest (name ∷ names) list e lists = rw e refl
+
   by_held : (held : Option Tag) → rest w.copier.pass (Some why) (reverse w.begun) (with_front (Some why) held w.run []) ≡ stopped why
   by_held None = cut-rest (reverse w.begun) (text_before w.run (Cut why)) (ap (passed w.copier.pass) (text_before-cut w.run why)) []
   by_held (Some tag) =
       cut-rest (reverse w.begun) (Nested Fresh (element_of tag.name tag.attrs) (text_before w.run (Cut why)) (Cut why))
       (ap (λ l. passed w.copier.pass (Nested Fresh (element_of tag.name tag.attrs) l (Cut why))) (text_before-cut w.run why)) []
+
   nothing : still w (Some why) [] ≡ stopped why
   nothing = by_held w.held
 
@@ -141,16 +143,21 @@ given-complete w tidy whole = ap (λ p. record { bytes = gives w.copier.writer p
   by_tests rooted false e = refl
   by_tests true true e = absurd cc
   by_tests false true e = absurd cc
+
   outside : is_inside (names_of w) ≡ false
   outside = by_tests w.rooted (is_inside (names_of w)) whole
+
   no_text : with_front None None w.run [] ≡ End Fresh ∷ []
   no_text = ap (λ t. text_before t (End Fresh) ∷ []) (tidy outside)
+
   by_begun : (begun : List (List ℕ)) → is_inside begun ≡ false → rest w.copier.pass None begun (with_front None None w.run []) ≡ record { parts = []; stop = None }
   by_begun [] e = ap (λ f. rest w.copier.pass None [] f) no_text
   by_begun (name ∷ names) e = absurd cc
+
   by_held : (held : Option Tag) → is_inside (with_held held (reverse w.begun)) ≡ false → rest w.copier.pass None (reverse w.begun) (with_front None held w.run []) ≡ record { parts = []; stop = None }
   by_held None e = by_begun (reverse w.begun) e
   by_held (Some tag) e = absurd cc
+
   nothing : still w None [] ≡ record { parts = []; stop = None }
   nothing = by_held w.held outside
 
@@ -158,9 +165,11 @@ module _ (start w : Walk) (was r : Reader) (fresh : r.over ≡ None) (tidy : IsT
   -- a lexeme was taken
   pub goes-on : (q : Reader) (new : Walk) (l : Lexeme) → step.Lexeme l ≡ due r → q ≡ after r (step.Lexeme l) → Taken w l new None
       → (q.over ≡ None) × IsTidy new × ((more : List ℕ) (ended : Bool) → given_from start (later was more ended) ≡ given_from new (later q more ended))
-  goes-on q new l d is t =
-      (ap (λ x. x.over) is ∙ after-fresh r l fresh, tidy-taken w new l.body tidy t.1,
-       λ more ended. so_far more ended ∙ given-taken r more ended fresh w new l (sym d) t.0 t.1 ∙ ap (λ x. given_from new (later x more ended)) (sym is))
+  goes-on q new l d is t = (
+    ap (λ x. x.over) is ∙ after-fresh r l fresh,
+    tidy-taken w new l.body tidy t.1,
+    λ more ended. so_far more ended ∙ given-taken r more ended fresh w new l (sym d) t.0 t.1 ∙ ap (λ x. given_from new (later x more ended)) (sym is),
+  )
 
   -- a lexeme has a fault
   pub stops-at : (q : Reader) (new : Walk) (l : Lexeme) (fault : XmlFault) → step.Lexeme l ≡ due r → Taken w l new (Some fault) → ReadsOn start new was q (Faulty fault)
@@ -186,10 +195,12 @@ module _ (start w : Walk) (was r : Reader) (fresh : r.over ≡ None) (tidy : IsT
   ends q d over fed_is = by_whole (is_complete (before_of w)) refl where
     length_is : (more : List ℕ) (ended : Bool) → fed (later r more ended) ≡ fed q
     length_is more ended = ap (λ b. fed (cond b r (with_rest r more ended))) over ∙ sym fed_is
+
     last : (more : List ℕ) (ended : Bool) → given_from start (later was more ended) ≡ given_on w (ends_in (at_end (before_of w) (fed q) step.End))
     last more ended =
         so_far more ended ∙ given-last r more ended fresh w step.End (λ l e. cc) (λ e. cc) (sym d)
         ∙ ap (λ n. given_on w (ends_in (at_end (before_of w) n step.End))) (length_is more ended)
+
     by_whole : (t : Bool) → is_complete (before_of w) ≡ t → ReadsOn start w was q (if t then Complete else Faulty (record { kind = Truncated; offset = fed q }))
     by_whole true whole = λ more ended.
         last more ended

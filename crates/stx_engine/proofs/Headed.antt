@@ -1,24 +1,24 @@
 -- What a whole call did, by what its run and its last line did.
-use Rattle.std.proofs.Common.{◌≡◌, ◌≢◌, ◌↔◌, ◌⊎◌, inl, inr, ℕ, ◌+◌, ◌<◌, ◌==◌, true, if◌then◌else◌, List, [], ◌∷◌, ◌++◌, length, map, take, drop, sum, Option, Some, None, IsSome, arith, refl, sym, ap, ◌∙◌, subst, length-take}
+use Rattle.std.proofs.Common.{◌≡◌, ◌≢◌, ◌⊎◌, inl, inr, ℕ, ◌+◌, ◌==◌, if◌then◌else◌, List, [], ◌∷◌, ◌++◌, length, take, drop, sum, None, IsSome, arith, refl, sym, ap, ◌∙◌, subst, length-take}
 use Rattle.std.specs.Bool.{IsTrue}
 use Rattle.std.specs.List.{list_any}
 use Rattle.std.proofs.lemmas.Bool.{false≢true}
 use Rattle.std.proofs.lemmas.List.{append-nil, take-append-drop}
 use Rattle.stx_base.specs.Course.{Begins}
-use Rattle.stx_host.specs.Before.{AtMainReads, Between, Taken, since}
-use Rattle.stx_host.specs.Outside.{Outside, NoteFault, Rose, place, wrote, writes}
+use Rattle.stx_host.specs.Before.{AtMainReads, Between, since}
+use Rattle.stx_host.specs.Outside.{Outside, Rose, wrote, writes}
 use Rattle.stx_host.specs.declared.act.Act.{Act}
 use Rattle.stx_host.specs.declared.act.Act.TheVariants.{Open, Read, Close, Write}
 use Rattle.stx_host.specs.declared.act.Doc.{Doc}
-use Rattle.stx_host.specs.declared.act.Lane.TheVariants.{Out, Note}
+use Rattle.stx_host.specs.declared.act.Lane.TheVariants.{Note}
 use Rattle.stx_host.proofs.CopiedSoFar.{since_told}
 use Rattle.stx_host.proofs.Stretches.{between_joins, between_writes, between_fault, main_reads_writes, main_read-append, main_read-writes}
-use Rattle.stx_engine.specs.Answer.{Answer, answer, sheet_named}
-use Rattle.stx_engine.specs.Driving.{CountsBy, FailedAt, SameCounts, UnlessFailed}
+use Rattle.stx_engine.specs.Answer.{answer, sheet_named}
+use Rattle.stx_engine.specs.Driving.{CountsBy, SameCounts, UnlessFailed}
 use Rattle.stx_engine.specs.Headline.{AsksSettled, GivesAnswer, IsFailure, IsStatus, NotesAfterFailure, NotesFailure, OpensFirst, RefusesUnnamed, RoseFor, SomeGreater, SomeRose, Tells}
 use Rattle.stx_engine.specs.Line.{line_of, status_of}
 use Rattle.stx_engine.specs.Loading.{opens, read_of, read_of_opened}
-use Rattle.stx_engine.specs.Running.{Asks, FailedIn, IsAnswered, OpensNames, RefusesWords, Reports, Runs, RunsTold, unwritten_status}
+use Rattle.stx_engine.specs.Running.{Asks, FailedIn, IsAnswered, RefusesWords, Reports, Runs, RunsTold, unwritten_status}
 use Rattle.stx_engine.specs.declared.outcome.HostFault.{HostFault}
 use Rattle.stx_engine.specs.declared.outcome.HostFault.TheVariants as fault
 use Rattle.stx_engine.specs.declared.outcome.Outcome.{Outcome}
@@ -81,7 +81,7 @@ reported mid new line status result (inr cut) =
       lens = lens;
       note = bytes;
       between = subst (λ acts. Between mid new acts [] bytes) (append-nil (writes Note lens)) (subst (λ note. Between mid new (writes Note lens ++ []) [] note) (append-nil bytes)
-           (between_joins mid some new (writes Note lens) [] [] [] bytes [] (between_writes mid some Note lens bytes total refl) (between_fault some new Note fault)));
+          (between_joins mid some new (writes Note lens) [] [] [] bytes [] (between_writes mid some Note lens bytes total refl) (between_fault some new Note fault)));
       doc = ap (λ o. o.doc_faults) fault.alone;
       main = ap (λ o. o.main_faults) fault.alone;
       out = ap (λ o. o.out_faults) fault.alone;
@@ -214,8 +214,8 @@ module _ (words : List (List ℕ)) (old mid new : Outside) (o : Outcome) (r : Ru
       | inl whole ↦ elim is_either [
         | inl failure ↦ absurd (memory (whole.1 ∙ failure_rose o failure none))
         | inr own ↦
-          let is = answered o own (IsAnswered r.out o (answer words docs main)) told.ends in
-          (out_is ∙ is.output, note_is ∙ whole.0 ∙ is.line, whole.1 ∙ is.code)
+            let is = answered o own (IsAnswered r.out o (answer words docs main)) told.ends in
+            (out_is ∙ is.output, note_is ∙ whole.0 ∙ is.line, whole.1 ∙ is.code)
       ]
       | inr cut ↦ absurd (none (inr (inr (inr (note_rose cut.2)))))
     ]
@@ -226,7 +226,7 @@ module _ (words : List (List ℕ)) (old mid new : Outside) (o : Outcome) (r : Ru
         let here : AtMainReads acts (r.out ++ []) line.note P = main_reads_writes r.acts Note line.lens r.out [] [] line.note P r.between.out_written r.between.note_written told.reads in
         subst (λ log. AtMainReads log (since old.out new.out) (since old.note new.note) P) (sym log_is)
         (subst (λ out. AtMainReads acts out (since old.note new.note) P) (append-nil r.out ∙ sym out_is)
-         (subst (λ note. AtMainReads acts (r.out ++ []) note P) (sym note_is) here))
+        (subst (λ note. AtMainReads acts (r.out ++ []) note P) (sym note_is) here))
 
     pub begins_output : Begins (since old.out new.out) (answer words docs main).out
     begins_output = subst (λ out. Begins out (answer words docs main).out) (sym out_is) told.prefix
@@ -243,9 +243,12 @@ module _ (words : List (List ℕ)) (old mid new : Outside) (o : Outcome) (r : Ru
 
     pub opens_first : OpensFirst docs (answer words docs main).opened result (since old.log new.log)
     opens_first =
-        let t = told.opened in
-        (t.0, t.1, ap opens log_is ∙ opens-append r.acts (writes Note line.lens) ∙ ap (λ l. opens r.acts ++ l) (opens-writes Note line.lens) ∙ append-nil (opens r.acts) ∙ t.2,
-         λ five seven. all_opened o is_either (t.0 ≡ (answer words docs main).opened) t.3 (elim line.end [ inl whole ↦ inl whole.1 | inr cut ↦ inr cut.1 ]) five seven)
+        let t = told.opened in (
+          t.0,
+          t.1,
+          ap opens log_is ∙ opens-append r.acts (writes Note line.lens) ∙ ap (λ l. opens r.acts ++ l) (opens-writes Note line.lens) ∙ append-nil (opens r.acts) ∙ t.2,
+          λ five seven. all_opened o is_either (t.0 ≡ (answer words docs main).opened) t.3 (elim line.end [ inl whole ↦ inl whole.1 | inr cut ↦ inr cut.1 ]) five seven,
+        )
 
     -- the status 5 or 7 of a line that was written whole is a failure's
     by_failure : (x : Outcome) → IsEither (IsFailure words old new acts r.out x) x → result ≡ status_of x → (result ≡ 5) ⊎ (result ≡ 7) → IsFailure words old new acts r.out x
@@ -274,7 +277,7 @@ module _ (words : List (List ℕ)) (old mid new : Outside) (o : Outcome) (r : Ru
     notes_failure some =
         subst (λ log. NotesFailure words old new log (since old.out new.out) (since old.note new.note) result (answer words docs main)) (sym log_is)
         (subst (λ out. NotesFailure words old new acts out (since old.note new.note) result (answer words docs main)) (sym out_is)
-         (subst (λ note. NotesFailure words old new acts r.out note result (answer words docs main)) (sym note_is) (notes some)))
+        (subst (λ note. NotesFailure words old new acts r.out note result (answer words docs main)) (sym note_is) (notes some)))
 
   -- The status
 

@@ -1,26 +1,22 @@
 -- What a pump appends, and what is still to come then.
-use Rattle.std.proofs.Common.{◌≡◌, ℕ, ◌^◌, ◌<◌, Bool, true, false, cond, List, [], ◌∷◌, ◌++◌, Option, Some, None, length, Result, IfOk, refl, sym, ap, ◌∙◌, subst, append_assoc}
+use Rattle.std.proofs.Common.{◌≡◌, ℕ, ◌^◌, ◌<◌, Bool, true, false, cond, List, [], ◌++◌, Option, Some, None, Result, IfOk, sym, ap, ◌∙◌, subst, append_assoc}
 use Rattle.std.proofs.lemmas.List.{append-nil}
-use Rattle.stx_base.specs.declared.fault.XmlFault.{XmlFault}
 use Rattle.stx_base.specs.Course.{Begins}
-use Rattle.stx_base.specs.declared.limits.Limits.{Limits}
-use Rattle.xml_tokens.specs.Reader.{Reader, begun, due, fed}
-use Rattle.xml_tokens.specs.declared.lexeme.Lexeme.{Lexeme}
+use Rattle.xml_tokens.specs.Reader.{Reader, due, fed}
 use Rattle.xml_tokens.specs.declared.lexeme.Step.TheVariants as step
 use Rattle.xml_tokens.proofs.RunLemmas.{with_rest}
-use Rattle.stx_engine.specs.Document.{Before, Future, future, is_inside, reading, ends_in, at_end}
-use Rattle.stx_engine.specs.Engine.{given_from, later, more, more_of, ahead, all_given, IsTidy, IsReady, IsWaiting, ReadsOn, Appends, Pumps, StoppedBy, Means}
-use Rattle.stx_engine.specs.Lexed.{lexed_from, unread}
-use Rattle.stx_engine.specs.More.{Given, given, given_on, before_of, names_of, HandsOut, StartsAs}
-use Rattle.stx_engine.specs.Tree.{Why, Need, Bad}
+use Rattle.stx_engine.specs.Document.{Before, future, is_inside, reading}
+use Rattle.stx_engine.specs.Engine.{given_from, later, more, ahead, ReadsOn, Appends, Pumps, StoppedBy}
+use Rattle.stx_engine.specs.Lexed.{lexed_from}
+use Rattle.stx_engine.specs.More.{Given, given, given_on, before_of, HandsOut}
+use Rattle.stx_engine.specs.Tree.{Need}
 use Rattle.stx_engine.specs.declared.engine.Engine.{Engine}
 use Rattle.stx_engine.specs.declared.engine.Pumped.{Pumped}
 use Rattle.stx_engine.specs.declared.engine.Pumped.TheVariants as pumped
-use Rattle.stx_engine.specs.declared.engine.Reading.TheVariants.{Wants as WantsMore, Complete, Faulty}
+use Rattle.stx_engine.specs.declared.engine.Reading.TheVariants.{Wants as WantsMore}
 use Rattle.stx_engine.specs.declared.outcome.Outcome.{Outcome}
 use Rattle.stx_engine.specs.declared.outcome.Outcome.TheVariants.{Done, Usage, Sheet, Xml, Host, Memory}
 use Rattle.stx_base.specs.declared.memory.Memory.{Memory as Memory'}
-use Rattle.stx_engine.specs.declared.pass.Pass.{Pass}
 use Rattle.stx_engine.specs.declared.walk.Walk.{Walk}
 use Rattle.stx_engine.proofs.Going.{given-cut}
 use Rattle.stx_engine.proofs.Results.{if_ok}
@@ -70,12 +66,13 @@ before_is_tidy b = is_inside b.names ≡ false → b.run ≡ []
 pub appends-wants : (old new : Engine) (mid : Walk) → ReadsOn old.walk mid old.lexer new.lexer WantsMore → HandsOut mid new.walk → new.lexer.ended ≡ false → new.lexer.limits.input < 2 ^ 64
     → Appends (more old) new mid.copier.writer.settled.items pumped.Main
 unfolding before_is_tidy
-appends-wants old new mid reads hands goes limit =
-    (record {
-      ready = record { fresh = reads.2; tidy = subst before_is_tidy (sym hands.before) reads.3; limit = limit };
-      nothing = nothing-given new.walk new.lexer reads.1 goes hands.settled;
-    },
-    λ bytes ended. reads.0 bytes ended ∙ given-handed mid new.walk (later new.lexer bytes ended) hands)
+appends-wants old new mid reads hands goes limit = (
+  record {
+    ready = record { fresh = reads.2; tidy = subst before_is_tidy (sym hands.before) reads.3; limit = limit };
+    nothing = nothing-given new.walk new.lexer reads.1 goes hands.settled;
+  },
+  λ bytes ended. reads.0 bytes ended ∙ given-handed mid new.walk (later new.lexer bytes ended) hands,
+)
 
 -- what was to be given is told in another way
 pub pumps-same : (was given : List ℕ → Bool → Given) → ((bytes : List ℕ) (ended : Bool) → given bytes ended ≡ was bytes ended)
@@ -89,6 +86,7 @@ pumps-same was given same new before now p h = (h.0, h.1, by_answer p h.2) where
   by_outcome (Some (Sheet fault)) s = absurd s
   by_outcome (Some (Host file fault offset)) s = absurd s
   by_outcome None s = absurd s
+
   by_answer : (q : Pumped) → Appends was new h.0 q → Appends given new h.0 q
   by_answer pumped.Main a = (a.0, λ bytes ended. same bytes ended ∙ a.1 bytes ended)
   by_answer pumped.Done a = (a.0, λ bytes ended. same bytes ended ∙ a.1 bytes ended)

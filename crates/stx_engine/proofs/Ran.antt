@@ -1,24 +1,22 @@
 -- What a run of the program did, by where it ended.
-use Rattle.std.proofs.Common.{◌≡◌, ◌⊎◌, inl, inr, ℕ, ◌+◌, true, List, [], ◌∷◌, ◌++◌, map, take, drop, Option, Some, None, IsSome, Ok, Err, arith, refl, sym, ap, ◌∙◌, subst}
+use Rattle.std.proofs.Common.{◌≡◌, inl, inr, ℕ, true, List, [], ◌∷◌, ◌++◌, take, drop, Option, Some, None, IsSome, Ok, Err, arith, refl, sym, ap, ◌∙◌, subst}
 use Rattle.std.specs.Option.{option_map, option_and_then}
 use Rattle.std.proofs.lemmas.Bool.{false≢true}
 use Rattle.std.proofs.lemmas.List.{append-nil}
 use Rattle.stx_base.specs.Course.{Begins}
 use Rattle.stx_base.specs.StandardLimits.{standard_limits}
 use Rattle.stx_base.specs.declared.fault.SheetFault.{SheetFault}
-use Rattle.stx_host.specs.Before.{AtMainReads, Between, Taken, before, main_read}
-use Rattle.stx_host.specs.Laws.{and_then}
+use Rattle.stx_host.specs.Before.{before, main_read}
 use Rattle.stx_host.specs.Outside.{Outside, Rose, document, place}
 use Rattle.stx_host.specs.declared.act.Act.{Act}
 use Rattle.stx_host.specs.declared.act.Doc.{Doc}
 use Rattle.stx_host.proofs.Stretches.{between_joins, main_reads_join, main_read-append, nothing_between}
-use Rattle.stx_engine.specs.Answer.{Answer, Run, answer, answered, asked, outcome_of, refused, result_of, run_answer, run_on, sheet_answer, sheet_named, words_answer}
-use Rattle.stx_engine.specs.Driving.{CountsBy, Drives, EndsAs, FailedAt, IsSettledAt, RoseBy, SameCounts, UnlessFailed, WritesResult}
+use Rattle.stx_engine.specs.Answer.{Answer, Run, answer, answered, asked, outcome_of, result_of, run_answer, run_on, sheet_answer, sheet_named, words_answer}
+use Rattle.stx_engine.specs.Driving.{CountsBy, Drives, FailedAt, IsSettledAt, SameCounts, UnlessFailed}
 use Rattle.stx_engine.specs.Line.{line_of, status_of}
-use Rattle.stx_engine.specs.Loading.{LoadActs, LoadAnswers, LoadCounts, opens, read_of_opened}
-use Rattle.stx_engine.specs.Running.{Asks, FailedIn, IsAnswered, OpensNames, RefusesWords, Runs, RunsTold}
+use Rattle.stx_engine.specs.Loading.{LoadActs, LoadAnswers, LoadCounts, opens}
+use Rattle.stx_engine.specs.Running.{Asks, FailedIn, IsAnswered, OpensNames, RefusesWords, Runs}
 use Rattle.stx_engine.specs.Sheets.{pass_of}
-use Rattle.stx_engine.specs.declared.outcome.HostFault.{HostFault}
 use Rattle.stx_engine.specs.declared.outcome.HostFault.TheVariants as fault
 use Rattle.stx_engine.specs.declared.outcome.Outcome.{Outcome}
 use Rattle.stx_engine.specs.declared.outcome.Outcome.TheVariants.{Done, Usage, Sheet, Xml, Host, Memory}
@@ -228,11 +226,13 @@ module _ (words : List (List ℕ)) (name : List ℕ) (named : sheet_named words 
         record {
           reads = main_reads_join acts d.acts [] d.out [] [] (Asks words docs main) did.between.out_written did.between.note_written
               (no_main_reads acts [] [] (Asks words docs main) did.no_main_read)
-              (λ k is_read.
-               (pass, asks,
+              (λ k is_read. (
+                pass,
+                asks,
                 subst (λ taken. IsSettledAt standard_limits pass (take taken.main_read main) taken)
-                (ap (λ n. record { out = (before d.acts d.out [] k).out; note = (before d.acts d.out [] k).note; main_read = n }) (omega (arith, did.main_read)))
-                (result.reads k is_read)));
+                    (ap (λ n. record { out = (before d.acts d.out [] k).out; note = (before d.acts d.out [] k).note; main_read = n }) (omega (arith, did.main_read)))
+                    (result.reads k is_read),
+              ));
           prefix = subst (Begins d.out) (sym (ap (λ x. x.out) a)) result.prefix;
           ends = answered-by o (answer words docs main) run d.out a result.ends;
           opened = elim did.opens [
@@ -248,12 +248,14 @@ module _ (words : List (List ℕ)) (name : List ℕ) (named : sheet_named words 
     unless Usage P p = p
     unless (Sheet reason) P p = p
     unless (Xml file fault) P p = p
+
     answered-is : (o : Outcome) (a : Answer) (run : Run) (out : List ℕ) → a ≡ answered (outcome_of run.ending) (result_of run) (name ∷ []) → (out ≡ result_of run) × (o ≡ outcome_of run.ending) → IsAnswered out o a
     answered-is o a run out is ends = record {
       output = ends.0 ∙ sym (ap (λ x. x.out) is);
       line = ap line_of ends.1 ∙ sym (ap (λ x. x.note) is);
       code = ap status_of ends.1 ∙ sym (ap (λ x. x.status) is);
     }
+
     answered-by : (o : Outcome) (a : Answer) (run : Run) (out : List ℕ) → a ≡ answered (outcome_of run.ending) (result_of run) (name ∷ [])
         → UnlessFailed o ((out ≡ result_of run) × (o ≡ outcome_of run.ending)) → UnlessFailed o (IsAnswered out o a)
     answered-by (Host file fault offset) a run out is ends = tt

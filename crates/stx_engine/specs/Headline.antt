@@ -1,5 +1,5 @@
 -- What the program promises of a whole call.
-use Rattle.std.specs.Prelude.{◌≡◌, ◌≢◌, ◌↔◌, ℕ, ◌<◌, ◌==◌, ◌⊎◌, IsTrue, List, [], ◌∷◌, map, Option, Some, None, IsSome}
+use Rattle.std.specs.Prelude.{◌≡◌, ◌≢◌, ◌↔◌, ℕ, ◌<◌, ◌==◌, ◌⊎◌, IsTrue, List, [], ◌∷◌, map, Some, None, IsSome}
 use Rattle.std.specs.List.{list_any}
 use Rattle.stx_base.specs.Course.{Begins}
 use Rattle.stx_host.specs.Before.{AtMainReads, since}

@@ -1,5 +1,5 @@
 -- What a run of the program does to the outside, before its last line is written.
-use Rattle.std.specs.Prelude.{◌≡◌, ℕ, ◌<◌, ◌⊎◌, ◌==◌, if◌then◌else◌, List, [], length, map, take, sum, Option, Some, None, IsSome}
+use Rattle.std.specs.Prelude.{◌≡◌, ℕ, ◌<◌, ◌⊎◌, ◌==◌, if◌then◌else◌, List, [], length, map, take, sum, Some, None, IsSome}
 use Rattle.stx_base.specs.Course.{Begins}
 use Rattle.stx_base.specs.StandardLimits.{standard_limits}
 use Rattle.stx_host.specs.Before.{AtMainReads, Between, Taken}

@@ -94,7 +94,11 @@ fn drive<H: Host>(alloc: Global, engine: Engine, host: &mut H) -> Outcome
     let mut pumped = engine.pump(Piece::Start, &mut settled);
     loop {
         if let Err(refused) = write(host, Lane::Out, settled.as_slice()) {
-            return failure(alloc, HostFault::Write, written.saturating_add(refused.taken as u64));
+            return failure(
+                alloc,
+                HostFault::Write,
+                written.saturating_add(refused.taken as u64),
+            );
         }
         written = written.saturating_add(settled.len() as u64);
         settled.clear();

@@ -13,7 +13,7 @@ abbrev pub invariant-loop-refused : goal.invariant-loop-refused
 invariant-loop-refused g l =
     (l.pumped ≡ pumped.Main → GoesOn l.engine.lexer × (l.read ≤ fed l.engine.lexer) × (l.engine.lexer.limits.input ≤ 2 ^ 50) × IsWaiting l.engine)
     × ((limits : Limits) (pass : Pass) → Means limits pass l.fn.engine
-       → Driving limits pass l.fn.engine (g.H.Host.outside l.initial.host) (g.H.Host.outside l.host) l.engine l.settled.items l.read l.written l.pumped)
+    → Driving limits pass l.fn.engine (g.H.Host.outside l.initial.host) (g.H.Host.outside l.host) l.engine l.settled.items l.read l.written l.pumped)
 
 -- what the limit leaves
 abbrev pub decreases-loop-refused : goal.decreases-loop-refused

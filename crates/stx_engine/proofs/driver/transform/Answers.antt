@@ -18,7 +18,7 @@ returns-in-Ok-clause-answer g c = λ docs main tells.
     let new = g.H.Host.outside c.report.new.host in
     gives_answer words old mid new c.run-outcome.result c.run-outcome.ensures c.report.result
     (subst (λ line. Reports mid line (status_of c.run-outcome.result) new c.report.result) (c.as_str.ensures.value ∙ c.in-Ok.ensures)
-     (subst (λ status. Reports mid c.as_str.result.now status new c.report.result) c.status.ensures c.report.ensures)) docs main tells
+    (subst (λ status. Reports mid c.as_str.result.now status new c.report.result) c.status.ensures c.report.ensures)) docs main tells
 
 pub returns-in-Ok-clause-reads : goal.returns-in-Ok-clause-reads
 returns-in-Ok-clause-reads g c = λ docs main tells.
@@ -28,7 +28,7 @@ returns-in-Ok-clause-reads g c = λ docs main tells.
     let new = g.H.Host.outside c.report.new.host in
     asks_settled words old mid new c.run-outcome.result c.run-outcome.ensures c.report.result
     (subst (λ line. Reports mid line (status_of c.run-outcome.result) new c.report.result) (c.as_str.ensures.value ∙ c.in-Ok.ensures)
-     (subst (λ status. Reports mid c.as_str.result.now status new c.report.result) c.status.ensures c.report.ensures)) docs main tells
+    (subst (λ status. Reports mid c.as_str.result.now status new c.report.result) c.status.ensures c.report.ensures)) docs main tells
 
 pub returns-in-Ok-clause-prefix : goal.returns-in-Ok-clause-prefix
 returns-in-Ok-clause-prefix g c = λ docs main tells.
@@ -38,7 +38,7 @@ returns-in-Ok-clause-prefix g c = λ docs main tells.
     let new = g.H.Host.outside c.report.new.host in
     begins_output words old mid new c.run-outcome.result c.run-outcome.ensures c.report.result
     (subst (λ line. Reports mid line (status_of c.run-outcome.result) new c.report.result) (c.as_str.ensures.value ∙ c.in-Ok.ensures)
-     (subst (λ status. Reports mid c.as_str.result.now status new c.report.result) c.status.ensures c.report.ensures)) docs main tells
+    (subst (λ status. Reports mid c.as_str.result.now status new c.report.result) c.status.ensures c.report.ensures)) docs main tells
 
 pub returns-in-Ok-clause-nested : goal.returns-in-Ok-clause-nested
 returns-in-Ok-clause-nested g c = λ docs main tells.
@@ -49,7 +49,7 @@ returns-in-Ok-clause-nested g c = λ docs main tells.
     answer-matches words docs main (since old.out new.out)
     (begins_output words old mid new c.run-outcome.result c.run-outcome.ensures c.report.result
     (subst (λ line. Reports mid line (status_of c.run-outcome.result) new c.report.result) (c.as_str.ensures.value ∙ c.in-Ok.ensures)
-     (subst (λ status. Reports mid c.as_str.result.now status new c.report.result) c.status.ensures c.report.ensures)) docs main tells)
+    (subst (λ status. Reports mid c.as_str.result.now status new c.report.result) c.status.ensures c.report.ensures)) docs main tells)
 
 pub returns-in-Ok-clause-opened : goal.returns-in-Ok-clause-opened
 returns-in-Ok-clause-opened g c = λ docs main tells.
@@ -59,7 +59,7 @@ returns-in-Ok-clause-opened g c = λ docs main tells.
     let new = g.H.Host.outside c.report.new.host in
     opens_first words old mid new c.run-outcome.result c.run-outcome.ensures c.report.result
     (subst (λ line. Reports mid line (status_of c.run-outcome.result) new c.report.result) (c.as_str.ensures.value ∙ c.in-Ok.ensures)
-     (subst (λ status. Reports mid c.as_str.result.now status new c.report.result) c.status.ensures c.report.ensures)) docs main tells
+    (subst (λ status. Reports mid c.as_str.result.now status new c.report.result) c.status.ensures c.report.ensures)) docs main tells
 
 pub returns-in-Ok-clause-failure : goal.returns-in-Ok-clause-failure
 returns-in-Ok-clause-failure g c = λ docs main tells.
@@ -69,7 +69,7 @@ returns-in-Ok-clause-failure g c = λ docs main tells.
     let new = g.H.Host.outside c.report.new.host in
     notes_failure words old mid new c.run-outcome.result c.run-outcome.ensures c.report.result
     (subst (λ line. Reports mid line (status_of c.run-outcome.result) new c.report.result) (c.as_str.ensures.value ∙ c.in-Ok.ensures)
-     (subst (λ status. Reports mid c.as_str.result.now status new c.report.result) c.status.ensures c.report.ensures)) docs main tells
+    (subst (λ status. Reports mid c.as_str.result.now status new c.report.result) c.status.ensures c.report.ensures)) docs main tells
 
 pub returns-in-Ok-clause-status : goal.returns-in-Ok-clause-status
 returns-in-Ok-clause-status g c =
@@ -79,7 +79,7 @@ returns-in-Ok-clause-status g c =
     let new = g.H.Host.outside c.report.new.host in
     is_status words old mid new c.run-outcome.result c.run-outcome.ensures c.report.result
     (subst (λ line. Reports mid line (status_of c.run-outcome.result) new c.report.result) (c.as_str.ensures.value ∙ c.in-Ok.ensures)
-     (subst (λ status. Reports mid c.as_str.result.now status new c.report.result) c.status.ensures c.report.ensures))
+    (subst (λ status. Reports mid c.as_str.result.now status new c.report.result) c.status.ensures c.report.ensures))
 
 pub returns-in-Ok-clause-words : goal.returns-in-Ok-clause-words
 returns-in-Ok-clause-words g c =
@@ -89,7 +89,7 @@ returns-in-Ok-clause-words g c =
     let new = g.H.Host.outside c.report.new.host in
     refuses_unnamed words old mid new c.run-outcome.result c.run-outcome.ensures c.report.result
     (subst (λ line. Reports mid line (status_of c.run-outcome.result) new c.report.result) (c.as_str.ensures.value ∙ c.in-Ok.ensures)
-     (subst (λ status. Reports mid c.as_str.result.now status new c.report.result) c.status.ensures c.report.ensures))
+    (subst (λ status. Reports mid c.as_str.result.now status new c.report.result) c.status.ensures c.report.ensures))
 
 -- the line of want of memory, where the run's own line couldn't be made
 

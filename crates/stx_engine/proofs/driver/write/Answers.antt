@@ -18,6 +18,7 @@ loop-taken-preserved g c =
     let rest : take (length bytes - taken) (drop taken bytes) ≡ drop taken bytes = take_all (length bytes - taken) (drop taken bytes) (omega (arith, length-drop taken bytes)) in
     let change = c.in-Took.ensures.change ∙ ap (λ bs. wrote (g.H.Host.outside c.loop-taken.host) c.args.lane (n ∷ []) (take n bs)) rest
     ∙ ap (λ o. wrote o c.args.lane (n ∷ []) (take n (drop taken bytes))) so_far.2
-    ∙ wrote_twice old c.args.lane lens (n ∷ []) (take taken bytes) (take n (drop taken bytes)) in
-    (omega (arith, c.in-Took.ensures.answer, ap length rest, length-drop taken bytes),
-     (lens ++ n ∷ [], total, change ∙ ap (wrote old c.args.lane (lens ++ n ∷ [])) (sym (take-add taken n bytes))))
+    ∙ wrote_twice old c.args.lane lens (n ∷ []) (take taken bytes) (take n (drop taken bytes)) in (
+      omega (arith, c.in-Took.ensures.answer, ap length rest, length-drop taken bytes),
+      (lens ++ n ∷ [], total, change ∙ ap (wrote old c.args.lane (lens ++ n ∷ [])) (sym (take-add taken n bytes))),
+    )
