@@ -4,7 +4,6 @@ use crate::row::{Given, HEAD, SHEET};
 use crate::table::{PASS_ALL, REFUSALS, ROWS};
 use std::alloc::Global;
 use std::test::Fail;
-use stx_host::Call;
 
 fn with_head(alloc: Global, content: &str) -> Result<String, Fail> {
     Ok(format!(in alloc; "{HEAD}{content}")?)
@@ -19,7 +18,6 @@ fn rows(rt: HostRuntime) -> Result<(), Fail> {
                 sheet: Some(row.sheet),
                 main: row.main,
                 in_bytes,
-                fails: &[],
             };
             let ran = given.run(rt.alloc())?;
             let main = row.main;
@@ -45,7 +43,6 @@ fn written_before_reads(rt: HostRuntime) -> Result<(), Fail> {
         sheet: Some(PASS_ALL),
         main: "<a b=\"1\">x</a>",
         in_bytes: true,
-        fails: &[],
     };
     let ran = given.run(rt.alloc())?;
     let before = ran.taken_before_reads(rt.alloc())?;
@@ -66,33 +63,11 @@ fn no_read_after_a_fault(rt: HostRuntime) -> Result<(), Fail> {
         sheet: Some(PASS_ALL),
         main: "<a></b><c></c>",
         in_bytes: true,
-        fails: &[],
     };
     let ran = given.run(rt.alloc())?;
     let before = ran.taken_before_reads(rt.alloc())?;
     assert_eq!(rt; ran.status, 4);
     assert_eq!(rt; before.len(), "<a></b>".len());
-    Ok(())
-}
-
-// A read of the main document that fails: what the reads before it settled was written.
-#[test]
-fn failing_read(rt: HostRuntime) -> Result<(), Fail> {
-    let fails = [stx_host::Fail {
-        call: Call::ReadMain,
-        nth: 3,
-    }];
-    let given = Given {
-        words: &[SHEET],
-        sheet: Some(PASS_ALL),
-        main: "<a b=\"1\">x</a>",
-        in_bytes: true,
-        fails: &fails,
-    };
-    let ran = given.run(rt.alloc())?;
-    assert_eq!(rt; ran.status, 5);
-    assert_eq!(rt; ran.host.out.as_slice(), HEAD.as_bytes());
-    assert_eq!(rt; ran.host.note.as_slice(), b"stx: -: Read at 2\n".as_slice());
     Ok(())
 }
 
@@ -105,7 +80,6 @@ fn refusals(rt: HostRuntime) -> Result<(), Fail> {
             sheet,
             main: "<a/>",
             in_bytes: false,
-            fails: &[],
         };
         let ran = given.run(rt.alloc())?;
         let before = ran.taken_before_reads(rt.alloc())?;

@@ -9,7 +9,7 @@ pub const HEAD: &str = "<?xml version=\"1.0\" encoding=\"UTF-8\"?>\n";
 /// The name of the sheet in the rows.
 pub const SHEET: &str = "s.stx";
 
-/// A run over a host in memory, with room enough.
+/// A run over a host in memory.
 #[derive(Drop)]
 pub struct Given<'a> {
     pub words: &'a [&'a str],
@@ -18,7 +18,6 @@ pub struct Given<'a> {
     pub main: &'a str,
     /// Whether the main document is read one byte at a time.
     pub in_bytes: bool,
-    pub fails: &'a [Fail],
 }
 
 /// What the run gave.
@@ -33,7 +32,13 @@ pub fn list<T: Copy>(alloc: Global, items: &[T]) -> Result<List<T>, AllocError> 
 }
 
 impl Given<'_> {
-    fn host(&self, alloc: Global) -> Result<MemHost, Memory> {
+    fn host(
+        &self,
+        alloc: Global,
+        fails: &[Fail],
+        acts: usize,
+        bytes: usize,
+    ) -> Result<MemHost, Memory> {
         let mut docs = List::new(alloc);
         if let Some(sheet) = self.sheet {
             let name = Text::of(alloc, SHEET)?;
@@ -47,12 +52,29 @@ impl Given<'_> {
             }
         }
         let main = list(alloc, self.main.as_bytes())?;
-        let fails = list(alloc, self.fails)?;
-        MemHost::new(alloc, main, docs, cuts, fails, 1000, 10_000)
+        let fails = list(alloc, fails)?;
+        MemHost::new(alloc, main, docs, cuts, fails, acts, bytes)
     }
 
+    /// Where nothing fails.
     pub fn run(&self, alloc: Global) -> Result<Ran, Memory> {
-        let mut host = self.host(alloc)?;
+        self.run_failing(alloc, &[])
+    }
+
+    /// Where these calls fail.
+    pub fn run_failing(&self, alloc: Global, fails: &[Fail]) -> Result<Ran, Memory> {
+        let host = self.host(alloc, fails, 1000, 10_000)?;
+        self.run_over(alloc, host)
+    }
+
+    /// With room for this many acts, and this many bytes in each lane.
+    pub fn run_in(&self, alloc: Global, acts: usize, bytes: usize) -> Result<Ran, Memory> {
+        let host = self.host(alloc, &[], acts, bytes)?;
+        self.run_over(alloc, host)
+    }
+
+    fn run_over(&self, alloc: Global, host: MemHost) -> Result<Ran, Memory> {
+        let mut host = host;
         let mut words = Vec::new(alloc);
         for word in self.words {
             words.push(String::from_str(alloc, word)?)?;
