@@ -14,7 +14,7 @@ use Rattle.stx_host.specs.declared.act.Act.TheVariants.{Open, Read, Close, Write
 use Rattle.stx_host.specs.declared.act.Got.TheVariants.{Bytes as Got', End as GotEnd, Failed as Unread}
 use Rattle.stx_host.specs.declared.act.Lane.{Lane}
 use Rattle.stx_host.specs.declared.act.Lane.TheVariants.{Out}
-use Rattle.stx_host.proofs.CopiedSoFar.{and_nothing_more}
+use Rattle.stx_host.proofs.CopiedSoFar.{and_nothing_more, fits_of, given_of, main_left, nothing_left, one_act}
 use Rattle.stx_host.proofs.Stretches.{between_joins, between_read, between_writes, between_fault, nothing_between, main_read-append, main_read-writes, main_reads_one, main_reads_writes}
 use Rattle.stx_engine.specs.Answer.{outcome_of, result_of, run_on}
 use Rattle.stx_engine.specs.Driving.{CountsBy, Drives, EndsAs, FailedAt, FailsBy, IsSettledAt, SameCounts, counted}
@@ -33,7 +33,8 @@ use Rattle.stx_engine.specs.declared.outcome.HostFault.TheVariants as fault
 use Rattle.stx_engine.specs.declared.outcome.Outcome.{Outcome}
 use Rattle.stx_engine.specs.declared.outcome.Outcome.TheVariants.{Done, Usage, Sheet, Xml, Host, Memory}
 use Rattle.stx_engine.specs.declared.pass.Pass.{Pass}
-use Rattle.stx_engine.proofs.Prefixes.{begins_after}
+use Rattle.stx_engine.proofs.Loading.{counts_join}
+use Rattle.stx_engine.proofs.Prefixes.{begins_after, begins_front}
 
 -- Acts and what they open
 
@@ -53,39 +54,17 @@ opens_more xs ys e f = opens-append xs ys ∙ ap (λ l. l ++ opens ys) e ∙ f
 
 -- Stretches of time
 
-one_act : (a b c : Outside) (acts : List Act) (act : Act) (out : List ℕ) → Between a b acts out [] → Between b c (act ∷ []) [] [] → Between a c (acts ++ act ∷ []) out []
-one_act a b c acts act out first second = subst (λ outs. Between a c (acts ++ act ∷ []) outs []) (append-nil out) (between_joins a b c acts (act ∷ []) out [] [] [] first second)
-
 -- some bytes more for `Out`
 wrote_more : (old now new : Outside) (acts : List Act) (out lens bytes : List ℕ) → Between old now acts out [] → sum lens ≡ length bytes → new ≡ wrote now Out lens bytes → Between old new (acts ++ writes Out lens) (out ++ bytes) []
 wrote_more old now new acts out lens bytes between total is = between_joins old now new acts (writes Out lens) out bytes [] [] between (between_writes now new Out lens bytes total is)
 
-main_left : (old now : Outside) (main : List ℕ) (acts : List Act) (out : List ℕ) → Between old now acts out [] → old.to_come 0 ≡ Some main → now.to_come 0 ≡ Some (drop (main_read acts) main)
-main_left old now main acts out between told = between.main ∙ ap (λ o. option_map (λ bytes. drop (main_read acts) bytes) o) told
-
-given_of : (to_come : Option (List ℕ)) (bytes room : List ℕ) (n : ℕ) → to_come ≡ Some bytes → GivesBytes to_come n room → bytes ≡ take n room ++ drop n bytes
-given_of to_come bytes room n e gives = let given : GivesBytes (Some bytes) n room = subst (λ o. GivesBytes o n room) e gives in given.next
-
-fits_of : (bytes room rest : List ℕ) (n : ℕ) → n ≤ length room → bytes ≡ take n room ++ rest → n ≤ length bytes
-fits_of bytes room rest n fits e = omega (arith, ap length e, length-append (take n room) rest, length-take n room)
-
-nothing_left : (to_come : Option (List ℕ)) (bytes : List ℕ) → to_come ≡ Some bytes → IfSome to_come (λ bs. bs ≡ []) → bytes ≡ []
-nothing_left to_come bytes e none = let at_bytes : IfSome (Some bytes) (λ bs. bs ≡ []) = subst (λ o. IfSome o (λ bs. bs ≡ [])) e none in at_bytes
-
 take-front : (n : ℕ) (room rest : List ℕ) → n ≤ length room → take n (take n room ++ rest) ≡ take n room
 take-front n room rest fits = take-append-le n (take n room) rest (omega (arith, length-take n room)) ∙ take_all n (take n room) (omega (arith, length-take n room))
-
--- a part of what begins is a beginning
-begins-front : (xs ys zs : List ℕ) → Begins (xs ++ ys) zs → Begins xs zs
-begins-front xs ys zs h = (ys ++ h.0, sym (append_assoc xs ys h.0) ∙ h.1)
 
 -- counts
 
 pub counted_more : (m n : ℕ) → counted (counted m + n) ≡ counted (m + n)
 counted_more m n = omega arith
-
-same_counts : (old now new : Outside) → SameCounts old now → SameCounts now new → SameCounts old new
-same_counts old now new a b = record { doc = b.doc ∙ a.doc; main = b.main ∙ a.main; out = b.out ∙ a.out; note = b.note ∙ a.note }
 
 wrote-counts : (now new : Outside) (lens bytes : List ℕ) → new ≡ wrote now Out lens bytes → SameCounts now new
 wrote-counts now new lens bytes is = record { doc = ap (λ o. o.doc_faults) is; main = ap (λ o. o.main_faults) is; out = ap (λ o. o.out_faults) is; note = ap (λ o. o.note_faults) is }
@@ -239,7 +218,7 @@ module _ (limits : Limits) (pass : Pass) (start : Engine) where
           out = d.out ++ next;
           between = wrote_more old now new d.acts d.out lens next d.between total is;
           opened = opens_more d.acts (writes Out lens) d.opened (opens-writes Out lens);
-          counts = same_counts old now new d.counts (wrote-counts now new lens next is);
+          counts = counts_join old now new d.counts (wrote-counts now new lens next is);
           read_is = d.read_is ∙ sym count;
           written_is = at ∙ ap (λ n. counted (n + length next)) d.written_is ∙ counted_more (length d.out) (length next) ∙ ap counted (sym (length-append d.out next));
           stop = d.stop;
@@ -267,7 +246,7 @@ module _ (limits : Limits) (pass : Pass) (start : Engine) where
           out = d.out;
           between = one_act old now new d.acts (Read 0 n) d.out d.between (between_read now new 0 (Got' n) change);
           opened = opens_more d.acts (Read 0 n ∷ []) d.opened refl;
-          counts = same_counts old now new d.counts (read-counts now new n change);
+          counts = counts_join old now new d.counts (read-counts now new n change);
           read_is = ap (λ m. m + n) d.read_is ∙ sym count;
           written_is = d.written_is;
           stop = stops-by given_on after pumps.0 p pumps.2;
@@ -306,7 +285,7 @@ module _ (limits : Limits) (pass : Pass) (start : Engine) where
           out = d.out;
           between = one_act old now new d.acts (Read 0 0) d.out d.between (between_read now new 0 GotEnd change);
           opened = opens_more d.acts (Read 0 0 ∷ []) d.opened refl;
-          counts = same_counts old now new d.counts (end-counts now new change);
+          counts = counts_join old now new d.counts (end-counts now new change);
           read_is = d.read_is ∙ sym count;
           written_is = d.written_is;
           stop = stops-by (more_of e End) after pumps.0 p pumps.2;
@@ -359,7 +338,7 @@ module _ (limits : Limits) (pass : Pass) (start : Engine) where
         let acts = d.acts ++ writes Out lens in
         let out = d.out ++ bytes in
         let fits : taken ≡ length bytes = omega (arith, length-take taken next, some) in
-        let counts = same_counts old now mid d.counts (wrote-counts now mid lens bytes refl) in
+        let counts = counts_join old now mid d.counts (wrote-counts now mid lens bytes refl) in
         let place : offset ≡ counted (length out) =
         at ∙ ap (λ n. counted (n + taken)) d.written_is ∙ counted_more (length d.out) taken ∙ ap (λ n. counted (length d.out + n)) fits ∙ ap counted (sym (length-append d.out bytes)) in
         let note = ap (λ x. x.note_faults) failed.alone ∙ counts.note in
@@ -383,7 +362,7 @@ module _ (limits : Limits) (pass : Pass) (start : Engine) where
               let so_far = d.told main told in
               record {
                 reads = main_reads_writes d.acts Out lens d.out bytes [] [] (λ taken. IsSettledAt limits pass (take taken.main_read main) taken) d.between.out_written d.between.note_written so_far.reads;
-                prefix = begins-front (d.out ++ bytes) (drop taken next) (result_of (run_on limits pass main true))
+                prefix = begins_front (d.out ++ bytes) (drop taken next) (result_of (run_on limits pass main true))
                     (subst (λ l. Begins l (result_of (run_on limits pass main true))) (ap (λ l. d.out ++ l) (sym (take-append-drop taken next)) ∙ sym (append_assoc d.out bytes (drop taken next)))
                     (begins-result main (main_read d.acts) (d.out ++ next) e p so_far.goes));
                 ends = fails.ends main;

@@ -24,6 +24,7 @@ use Rattle.stx_engine.specs.declared.outcome.HostFault.TheVariants as fault
 use Rattle.stx_engine.specs.declared.outcome.Outcome.{Outcome}
 use Rattle.stx_engine.specs.declared.outcome.Outcome.TheVariants.{Done, Usage, Sheet, Xml, Host, Memory}
 use Rattle.stx_engine.proofs.Driven.{opens-append, opens-writes}
+use Rattle.stx_engine.proofs.Prefixes.{begins_all}
 
 -- no message is written before the line
 note_same : (o : Outcome) (old new : Outside) → CountsBy o old new → new.note_faults ≡ old.note_faults
@@ -154,9 +155,6 @@ answered (Xml file fault) own P p = p
 -- an outcome is a failure, or the answer's
 abbrev IsEither : (failure : Type 0) → Outcome → Type 0
 IsEither failure o = failure ⊎ IsOwn o
-
-begins_all : {X : Type 0} (xs : List X) → Begins xs xs
-begins_all xs = ([], append-nil xs)
 
 module _ (words : List (List ℕ)) (old mid new : Outside) (o : Outcome) (r : Runs words old mid o) (result : ℕ) (reports : Reports mid (line_of o) (status_of o) new result) where
   abbrev line : Reported mid new (line_of o) (status_of o) result

@@ -22,21 +22,16 @@ use Rattle.stx_host.proofs.ToCome.{eq_self, with_here}
 use Rattle.stx_base.specs.declared.fault.SheetCode.TheVariants as code
 use Rattle.stx_base.specs.declared.fault.SheetFault.{SheetFault}
 use Rattle.stx_engine.specs.Answer.{answered, run_answer, sheet_answer}
+use Rattle.stx_engine.specs.Driving.{SameCounts}
 use Rattle.stx_engine.specs.Loading.{FailsAfter, IsLoaded, LoadActs, LoadAnswers, OpensSheet, ReadActs, accepted, is_write, loaded, opens, read_of, read_of_opened, reads, refusal}
 use Rattle.stx_engine.specs.Sheets.{pass_of}
 use Rattle.stx_engine.specs.declared.outcome.Outcome.{Outcome}
 use Rattle.stx_engine.specs.declared.outcome.Outcome.TheVariants.{Sheet}
 use Rattle.stx_engine.specs.declared.pass.Pass.{Pass}
 
--- no count changed
-pub record Unchanged (old new : Outside) : Type 0 where
-  pub doc : new.doc_faults ≡ old.doc_faults
-  pub main : new.main_faults ≡ old.main_faults
-  pub out : new.out_faults ≡ old.out_faults
-  pub note : new.note_faults ≡ old.note_faults
-
-unchanged_joins : (a b c : Outside) → Unchanged a b → Unchanged b c → Unchanged a c
-unchanged_joins a b c first second = record {
+-- what doesn't change over two stretches of time
+pub counts_join : (a b c : Outside) → SameCounts a b → SameCounts b c → SameCounts a c
+counts_join a b c first second = record {
   doc = second.doc ∙ first.doc;
   main = second.main ∙ first.main;
   out = second.out ∙ first.out;
@@ -50,7 +45,7 @@ pub record ReadSoFar (old now : Outside) (id : ℕ) (bytes : List ℕ) : Type 0 
   pub total : sum lens ≡ length bytes
   pub to_come : old.to_come id ≡ option_map (λ rest. bytes ++ rest) (now.to_come id)
   pub ids : now.open_ids ≡ old.open_ids
-  pub counts : Unchanged old now
+  pub counts : SameCounts old now
 
 one_read : (a b c : Outside) (id n : ℕ) (lens : List ℕ) → Between a b (reads id lens) [] [] → Between b c (Read id n ∷ []) [] [] → Between a c (reads id (lens ++ n ∷ [])) [] []
 one_read a b c id n lens first second =
@@ -77,7 +72,7 @@ read_more old now new id n bytes room more so_far gives change is = record {
       ∙ ap (λ b. option_map (λ rest. b ++ rest) (option_map (λ rest. drop n rest) (now.to_come id))) (sym is)
       ∙ ap (λ o. option_map (λ rest. more ++ rest) o) (sym (ap (λ o. o.to_come id) change ∙ with_here now.to_come id (option_map (λ rest. drop n rest) (now.to_come id))));
   ids = ap (λ o. o.open_ids) change ∙ so_far.ids;
-  counts = unchanged_joins old now new so_far.counts
+  counts = counts_join old now new so_far.counts
       (record { doc = ap (λ o. o.doc_faults) change; main = ap (λ o. o.main_faults) change; out = ap (λ o. o.out_faults) change; note = ap (λ o. o.note_faults) change });
 }
 
@@ -87,7 +82,7 @@ pub record ReadWhole (old new : Outside) (id : ℕ) (bytes : List ℕ) : Type 0 
   pub between : Between old new (reads id lens) [] []
   pub told : IfSome (option_map (λ all. Some all) (old.to_come id)) (λ is. Some bytes ≡ is)
   pub ids : new.open_ids ≡ old.open_ids
-  pub counts : Unchanged old new
+  pub counts : SameCounts old new
 
 nothing_more : (to_come : Option (List ℕ)) (bytes : List ℕ) → IfSome to_come (λ rest. rest ≡ []) → IfSome (option_map (λ all. Some all) (option_map (λ rest. bytes ++ rest) to_come)) (λ is. Some bytes ≡ is)
 nothing_more None bytes none = tt
@@ -99,7 +94,7 @@ read_end old now new id bytes so_far none change = record {
   between = one_read old now new id 0 so_far.lens so_far.between (between_read now new id End change);
   told = subst (λ o. IfSome (option_map (λ all. Some all) o) (λ is. Some bytes ≡ is)) (sym so_far.to_come) (nothing_more (now.to_come id) bytes none);
   ids = ap (λ o. o.open_ids) change ∙ so_far.ids;
-  counts = unchanged_joins old now new so_far.counts
+  counts = counts_join old now new so_far.counts
       (record { doc = ap (λ o. o.doc_faults) change; main = ap (λ o. o.main_faults) change; out = ap (λ o. o.out_faults) change; note = ap (λ o. o.note_faults) change });
 }
 

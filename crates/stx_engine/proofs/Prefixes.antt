@@ -1,5 +1,6 @@
 -- What the first bytes of a document settle stays so, whatever bytes follow.
 use Rattle.std.proofs.Common.{◌≡◌, ◌⊎◌, inl, inr, ℕ, Bool, true, false, List, [], ◌∷◌, ◌++◌, Option, Some, None, refl, sym, ap, ◌∙◌, subst, append_assoc}
+use Rattle.std.proofs.lemmas.List.{append-nil}
 use Rattle.std.specs.Prelude.{if◌then◌else◌}
 use Rattle.stx_base.specs.Course.{Begins}
 use Rattle.stx_base.specs.declared.fault.XmlKind.{XmlKind}
@@ -19,6 +20,13 @@ use Rattle.stx_engine.specs.Passed.{Passed, stopped, put, unless_stopped, then_p
 module _ {X : Type 0} where
   pub begins_nothing : (ys : List X) → Begins [] ys
   begins_nothing ys = (ys, refl)
+
+  pub begins_all : (xs : List X) → Begins xs xs
+  begins_all xs = ([], append-nil xs)
+
+  -- a part of what begins is a beginning
+  pub begins_front : (xs ys zs : List X) → Begins (xs ++ ys) zs → Begins xs zs
+  begins_front xs ys zs h = (ys ++ h.0, sym (append_assoc xs ys h.0) ∙ h.1)
 
   pub begins_after : (xs ys zs : List X) → Begins ys zs → Begins (xs ++ ys) (xs ++ zs)
   begins_after xs ys zs h = (h.0, append_assoc xs ys h.0 ∙ ap (λ l. xs ++ l) h.1)

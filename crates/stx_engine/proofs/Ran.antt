@@ -23,7 +23,7 @@ use Rattle.stx_engine.specs.declared.outcome.Outcome.TheVariants.{Done, Usage, S
 use Rattle.stx_engine.specs.declared.pass.Pass.{Pass}
 use Rattle.stx_engine.proofs.Driven.{opens-append}
 use Rattle.stx_engine.proofs.Loading.{accepted_answer, accepted_asks, no_main_reads, refused_answer}
-use Rattle.stx_engine.proofs.Prefixes.{begins_nothing}
+use Rattle.stx_engine.proofs.Prefixes.{begins_all, begins_nothing}
 
 no_counts : (o : Outside) → SameCounts o o
 no_counts o = record { doc = refl; main = refl; out = refl; note = refl }
@@ -65,9 +65,6 @@ module _ (words : List (List ℕ)) (o : Outside) where
       opened = ([], begins_nothing (answer words docs main).opened, refl, tt);
     };
   }
-
-begins_all : {X : Type 0} (xs : List X) → Begins xs xs
-begins_all xs = ([], append-nil xs)
 
 -- a run that stopped at the sheet of this name
 module _ (words : List (List ℕ)) (name : List ℕ) (named : sheet_named words ≡ Some name) (old new : Outside) where

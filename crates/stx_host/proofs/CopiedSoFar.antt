@@ -43,7 +43,7 @@ pub and_nothing_more : (a b c : Outside) (acts : List Act) (out : List ℕ) → 
 and_nothing_more a b c acts out first second =
     subst (λ outs. Between a c acts outs []) (append-nil out) (subst (λ all. Between a c all (out ++ []) []) (append-nil acts) (joined a b c acts [] out [] first second))
 
-one_act : (a b c : Outside) (acts : List Act) (act : Act) (out : List ℕ) → Between a b acts out [] → Between b c (act ∷ []) [] [] → Between a c (acts ++ act ∷ []) out []
+pub one_act : (a b c : Outside) (acts : List Act) (act : Act) (out : List ℕ) → Between a b acts out [] → Between b c (act ∷ []) [] [] → Between a c (acts ++ act ∷ []) out []
 one_act a b c acts act out first second = subst (λ outs. Between a c (acts ++ act ∷ []) outs []) (append-nil out) (joined a b c acts (act ∷ []) out [] first second)
 
 -- a read more, before its bytes are written
@@ -57,13 +57,13 @@ pub record ReadMore (old mid : Outside) (main room : List ℕ) (n rounds : ℕ) 
   pub within : at + n ≤ length main
   pub each : rounds + 1 ≤ at + n
 
-main_left : (old now : Outside) (main : List ℕ) (acts : List Act) (out : List ℕ) → Between old now acts out [] → old.to_come 0 ≡ Some main → now.to_come 0 ≡ Some (drop (main_read acts) main)
+pub main_left : (old now : Outside) (main : List ℕ) (acts : List Act) (out : List ℕ) → Between old now acts out [] → old.to_come 0 ≡ Some main → now.to_come 0 ≡ Some (drop (main_read acts) main)
 main_left old now main acts out between told = between.main ∙ ap (λ o. option_map (λ bytes. drop (main_read acts) bytes) o) told
 
-given_of : (to_come : Option (List ℕ)) (bytes room : List ℕ) (n : ℕ) → to_come ≡ Some bytes → GivesBytes to_come n room → bytes ≡ take n room ++ drop n bytes
+pub given_of : (to_come : Option (List ℕ)) (bytes room : List ℕ) (n : ℕ) → to_come ≡ Some bytes → GivesBytes to_come n room → bytes ≡ take n room ++ drop n bytes
 given_of to_come bytes room n e gives = let given : GivesBytes (Some bytes) n room = subst (λ o. GivesBytes o n room) e gives in given.next
 
-fits_of : (bytes room rest : List ℕ) (n : ℕ) → n ≤ length room → bytes ≡ take n room ++ rest → n ≤ length bytes
+pub fits_of : (bytes room rest : List ℕ) (n : ℕ) → n ≤ length room → bytes ≡ take n room ++ rest → n ≤ length bytes
 fits_of bytes room rest n fits e = omega (arith, ap length e, length-append (take n room) rest, length-take n room)
 
 pub read_more : (old now mid : Outside) (main room : List ℕ) (n rounds : ℕ) → Tells old main → CopySoFar old now main rounds → GivesBytes (now.to_come 0) n room → Reads now 0 (Bytes n) mid → ReadMore old mid main room n rounds
@@ -124,7 +124,7 @@ copy_goes_on old mid new main room lens n rounds fits read total is =
       each = omega (arith, count, read.each);
     }
 
-nothing_left : (to_come : Option (List ℕ)) (bytes : List ℕ) → to_come ≡ Some bytes → IfSome to_come (λ bs. bs ≡ []) → bytes ≡ []
+pub nothing_left : (to_come : Option (List ℕ)) (bytes : List ℕ) → to_come ≡ Some bytes → IfSome to_come (λ bs. bs ≡ []) → bytes ≡ []
 nothing_left to_come bytes e none = let at_bytes : IfSome (Some bytes) (λ bs. bs ≡ []) = subst (λ o. IfSome o (λ bs. bs ≡ [])) e none in at_bytes
 
 -- after a copy so far: what the copy's clauses say
