@@ -1,6 +1,5 @@
 -- How a main document is read through an engine.
 use Rattle.std.proofs.Common.{◌≡◌, ℕ, ◌+◌, ◌<◌, ◌≤◌, Bool, true, false, List, [], ◌∷◌, ◌++◌, length, take, drop, sum, Option, Some, None, IfSome, arith, refl, sym, ap, ◌∙◌, subst, append_assoc, length-append, length-drop, length-take, add-zero}
-use Rattle.std.specs.Option.{option_map}
 use Rattle.std.specs.Prelude.{codes, unwrap_or}
 use Rattle.std.proofs.lemmas.List.{append-nil, take-append-drop, take-append-le, take_all}
 use Rattle.std.proofs.lemmas.Bool.{false≢true}
@@ -165,6 +164,7 @@ module _ (limits : Limits) (pass : Pass) (start : Engine) where
     pub out : List ℕ
     pub between : Between old now acts out []
     pub opened : opens acts ≡ []
+    pub ids : now.open_ids ≡ old.open_ids
     pub counts : SameCounts old now
     pub read_is : read ≡ main_read acts
     pub written_is : written ≡ counted (length out)
@@ -194,6 +194,7 @@ module _ (limits : Limits) (pass : Pass) (start : Engine) where
       out = [];
       between = nothing_between old;
       opened = refl;
+      ids = refl;
       counts = record { doc = refl; main = refl; out = refl; note = refl };
       read_is = refl;
       written_is = refl;
@@ -218,6 +219,7 @@ module _ (limits : Limits) (pass : Pass) (start : Engine) where
           out = d.out ++ next;
           between = wrote_more old now new d.acts d.out lens next d.between total is;
           opened = opens_more d.acts (writes Out lens) d.opened (opens-writes Out lens);
+          ids = ap (λ o. o.open_ids) is ∙ d.ids;
           counts = counts_join old now new d.counts (wrote-counts now new lens next is);
           read_is = d.read_is ∙ sym count;
           written_is = at ∙ ap (λ n. counted (n + length next)) d.written_is ∙ counted_more (length d.out) (length next) ∙ ap counted (sym (length-append d.out next));
@@ -246,6 +248,7 @@ module _ (limits : Limits) (pass : Pass) (start : Engine) where
           out = d.out;
           between = one_act old now new d.acts (Read 0 n) d.out d.between (between_read now new 0 (Got' n) change);
           opened = opens_more d.acts (Read 0 n ∷ []) d.opened refl;
+          ids = ap (λ o. o.open_ids) change ∙ d.ids;
           counts = counts_join old now new d.counts (read-counts now new n change);
           read_is = ap (λ m. m + n) d.read_is ∙ sym count;
           written_is = d.written_is;
@@ -285,6 +288,7 @@ module _ (limits : Limits) (pass : Pass) (start : Engine) where
           out = d.out;
           between = one_act old now new d.acts (Read 0 0) d.out d.between (between_read now new 0 GotEnd change);
           opened = opens_more d.acts (Read 0 0 ∷ []) d.opened refl;
+          ids = ap (λ o. o.open_ids) change ∙ d.ids;
           counts = counts_join old now new d.counts (end-counts now new change);
           read_is = d.read_is ∙ sym count;
           written_is = d.written_is;
@@ -356,6 +360,7 @@ module _ (limits : Limits) (pass : Pass) (start : Engine) where
           out = out;
           between = and_nothing_more old mid new acts out (wrote_more old now mid d.acts d.out lens bytes d.between (total ∙ fits) refl) (between_fault mid new Out failed);
           opened = opens_more d.acts (writes Out lens) d.opened (opens-writes Out lens);
+          ids = ap (λ o. o.open_ids) failed.alone ∙ d.ids;
           counts = fails.counts;
           failed = fails.failed;
           told = λ main told.
@@ -388,6 +393,7 @@ module _ (limits : Limits) (pass : Pass) (start : Engine) where
           out = d.out;
           between = and_nothing_more old now new d.acts d.out d.between (between_read now new 0 Unread (record { main = λ is. failed; doc = λ above. absurd (omega (arith, above)) }));
           opened = d.opened;
+          ids = ap (λ o. o.open_ids) failed.alone ∙ d.ids;
           counts = fails.counts;
           failed = fails.failed;
           told = λ main told.
@@ -407,6 +413,7 @@ module _ (limits : Limits) (pass : Pass) (start : Engine) where
       out = d.out;
       between = d.between;
       opened = d.opened;
+      ids = d.ids;
       counts = subst (λ x. CountsBy x old now) (sym is) (by_stop p e.outcome d.stop last).0;
       failed = subst (λ x. FailedAt x d.acts d.out) (sym is) (by_stop p e.outcome d.stop last).1;
       told = λ main told.

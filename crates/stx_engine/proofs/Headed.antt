@@ -43,6 +43,7 @@ ran-wanting-line words old new o r = record {
   acts = r.acts;
   out = r.out;
   between = r.between;
+  ids = r.ids;
   counts = note_same o old new r.counts;
   failed = tt;
   refuses = tt;
@@ -56,6 +57,7 @@ pub record Reported (mid new : Outside) (line : List ℕ) (status result : ℕ) 
   pub lens : List ℕ
   pub note : List ℕ
   pub between : Between mid new (writes Note lens) [] note
+  pub ids : new.open_ids ≡ mid.open_ids
   pub doc : new.doc_faults ≡ mid.doc_faults
   pub main : new.main_faults ≡ mid.main_faults
   pub out : new.out_faults ≡ mid.out_faults
@@ -66,6 +68,7 @@ reported mid new line status result (inl wrote_all) = record {
   lens = wrote_all.0;
   note = line;
   between = between_writes mid new Note wrote_all.0 line wrote_all.1 wrote_all.2;
+  ids = ap (λ o. o.open_ids) wrote_all.2;
   doc = ap (λ o. o.doc_faults) wrote_all.2;
   main = ap (λ o. o.main_faults) wrote_all.2;
   out = ap (λ o. o.out_faults) wrote_all.2;
@@ -83,6 +86,7 @@ reported mid new line status result (inr cut) =
       note = bytes;
       between = subst (λ acts. Between mid new acts [] bytes) (append-nil (writes Note lens)) (subst (λ note. Between mid new (writes Note lens ++ []) [] note) (append-nil bytes)
           (between_joins mid some new (writes Note lens) [] [] [] bytes [] (between_writes mid some Note lens bytes total refl) (between_fault some new Note fault)));
+      ids = ap (λ o. o.open_ids) fault.alone;
       doc = ap (λ o. o.doc_faults) fault.alone;
       main = ap (λ o. o.main_faults) fault.alone;
       out = ap (λ o. o.out_faults) fault.alone;
@@ -166,6 +170,9 @@ module _ (words : List (List ℕ)) (old mid new : Outside) (o : Outcome) (r : Ru
   between : Between old new acts r.out line.note
   between = subst (λ out. Between old new acts out line.note) (append-nil r.out) (between_joins old mid new r.acts (writes Note line.lens) r.out [] [] line.note r.between line.between)
 
+  pub gives_ids_back : new.open_ids ≡ old.open_ids
+  gives_ids_back = line.ids ∙ r.ids
+
   note_mid : mid.note_faults ≡ old.note_faults
   note_mid = note_same o old mid r.counts
 
@@ -184,6 +191,18 @@ module _ (words : List (List ℕ)) (old mid new : Outside) (o : Outcome) (r : Ru
   -- the line is whole where `Note` didn't fail
   note_rose : Rose mid.note_faults new.note_faults → Rose old.note_faults new.note_faults
   note_rose rose = subst (λ n. Rose n new.note_faults) note_mid rose
+
+  status_is : (result ≡ status_of o) ⊎ (result ≡ unwritten_status (status_of o))
+  status_is = elim line.end [ inl whole ↦ inl whole.1 | inr cut ↦ inr cut.1 ]
+
+  -- a failure keeps its status where its line can't be written
+  failure_status : (x : Outcome) → IsFailure words old new acts r.out x → (result ≡ status_of x) ⊎ (result ≡ unwritten_status (status_of x)) → status_of x ≡ result
+  failure_status (Host file f offset) failure is = elim is [ inl e ↦ sym e | inr e ↦ sym e ]
+  failure_status Memory failure is = elim is [ inl e ↦ sym e | inr e ↦ sym e ]
+  failure_status Done failure is = absurd failure
+  failure_status Usage failure is = absurd failure
+  failure_status (Sheet reason) failure is = absurd failure
+  failure_status (Xml file fault) failure is = absurd failure
 
   -- where no count rose, the host didn't fail
   failure_rose : (x : Outcome) → IsFailure words old new acts r.out x → (SomeRose old new → ⊥) → status_of x ≡ 7
@@ -267,8 +286,8 @@ module _ (words : List (List ℕ)) (old mid new : Outside) (o : Outcome) (r : Ru
       cut = λ rose. by_line (elim line.end [ inl whole ↦ subst (λ note. Begins note (line_of o)) (sym whole.0) (begins_all (line_of o)) | inr cut ↦ cut.0 ]) is_either;
     } where
       by_line : Begins line.note (line_of o) → IsEither (IsFailure words old new acts r.out o) o
-          → Begins line.note (answer words docs main).note ⊎ ((x : Outcome) × IsFailure words old new acts r.out x × Begins line.note (line_of x))
-      by_line begins (inl failure) = inr (o, failure, begins)
+          → Begins line.note (answer words docs main).note ⊎ ((x : Outcome) × IsFailure words old new acts r.out x × (status_of x ≡ result) × Begins line.note (line_of x))
+      by_line begins (inl failure) = inr (o, failure, failure_status o failure status_is, begins)
       by_line begins (inr own) = inl (subst (Begins line.note) (answered o own (IsAnswered r.out o (answer words docs main)) told.ends).line begins)
 
     pub notes_failure : NotesAfterFailure old new words result (answer words docs main)
@@ -286,9 +305,6 @@ module _ (words : List (List ℕ)) (old mid new : Outside) (o : Outcome) (r : Ru
   is_among_statuses Usage status is = elim is [ inl e ↦ rw e refl | inr e ↦ rw e refl ]
   is_among_statuses (Sheet reason) status is = elim is [ inl e ↦ rw e refl | inr e ↦ rw e refl ]
   is_among_statuses (Xml file fault) status is = elim is [ inl e ↦ rw e refl | inr e ↦ rw e refl ]
-
-  status_is : (result ≡ status_of o) ⊎ (result ≡ unwritten_status (status_of o))
-  status_is = elim line.end [ inl whole ↦ inl whole.1 | inr cut ↦ inr cut.1 ]
 
   -- 5 comes only where a count rose
   five_rose : (x : Outcome) → IsEither (IsFailure words old new acts r.out x) x → result ≡ status_of x → result ≡ 5 → SomeRose old new

@@ -36,6 +36,7 @@ module _ (words : List (List ℕ)) (o : Outside) where
     acts = [];
     out = [];
     between = nothing_between o;
+    ids = refl;
     counts = no_counts o;
     failed = tt;
     refuses = none;
@@ -55,6 +56,7 @@ module _ (words : List (List ℕ)) (o : Outside) where
     acts = [];
     out = [];
     between = nothing_between o;
+    ids = refl;
     counts = refl;
     failed = tt;
     refuses = tt;
@@ -67,7 +69,7 @@ module _ (words : List (List ℕ)) (o : Outside) where
   }
 
 -- a run that stopped at the sheet of this name
-module _ (words : List (List ℕ)) (name : List ℕ) (named : sheet_named words ≡ Some name) (old new : Outside) where
+module _ (words : List (List ℕ)) (name : List ℕ) (named : sheet_named words ≡ Some name) (old new : Outside) (ids : new.open_ids ≡ old.open_ids) where
   answer-is : (docs : List Doc) (main : List ℕ) → answer words docs main ≡ sheet_answer name (document docs name) main
   answer-is docs main = ap (λ n. words_answer n docs main) named
 
@@ -101,6 +103,7 @@ module _ (words : List (List ℕ)) (name : List ℕ) (named : sheet_named words 
     acts = acts;
     out = [];
     between = did.between;
+    ids = ids;
     counts = record { doc = counts.doc; main = counts.main; out = counts.out; note = counts.note };
     failed = tt;
     refuses = subst IsSome (sym named) refl;
@@ -124,6 +127,7 @@ module _ (words : List (List ℕ)) (name : List ℕ) (named : sheet_named words 
     acts = acts;
     out = [];
     between = did.between;
+    ids = ids;
     counts = (counts.doc, record { doc = refl; main = counts.main; out = counts.out; note = counts.note });
     failed = (named ∙ ap Some (sym is), did.fails);
     refuses = subst IsSome (sym named) refl;
@@ -144,6 +148,7 @@ module _ (words : List (List ℕ)) (name : List ℕ) (named : sheet_named words 
     acts = acts;
     out = [];
     between = did.between;
+    ids = ids;
     counts = counts.note;
     failed = tt;
     refuses = tt;
@@ -211,6 +216,7 @@ module _ (words : List (List ℕ)) (name : List ℕ) (named : sheet_named words 
     acts = acts ++ d.acts;
     out = d.out;
     between = between_joins old mid new acts d.acts [] d.out [] [] did.between d.between;
+    ids = ids;
     counts = counts_after mid o (record { doc = counts.doc; main = counts.main; out = counts.out; note = counts.note }) d.counts;
     failed = failed_after o acts d.acts d.out did.main_read d.failed;
     refuses = not_refused o d.acts d.out d.failed;

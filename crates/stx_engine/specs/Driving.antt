@@ -94,6 +94,7 @@ pub record Drives (limits : Limits) (pass : Pass) (old new : Outside) (outcome :
   pub out : List ℕ
   pub between : Between old new acts out []
   pub opened : opens acts ≡ []
+  pub ids : new.open_ids ≡ old.open_ids
   pub counts : CountsBy outcome old new
   pub failed : FailedAt outcome acts out
   pub told : (main : List ℕ) → old.to_come 0 ≡ Some main → WritesResult limits pass main acts out outcome

@@ -70,11 +70,11 @@ IsFailure words old new acts out (Host file fault offset) = RoseFor fault old ne
 IsFailure words old new acts out Memory = Unit {0}
 IsFailure words old new acts out outcome = ⊥
 
--- What `Note` took where the status is 5 or 7: the line of such an outcome with this status; where `Note` itself failed, a
--- beginning of the answer's line or of such a line.
+-- What `Note` took where the status is 5 or 7: the line of such an outcome with this status; or, where `Note` itself failed,
+-- a beginning of the answer's line or of such a line.
 pub record NotesFailure (words : List (List ℕ)) (old new : Outside) (acts : List Act) (out note : List ℕ) (status : ℕ) (a : Answer) : Type 0 where
   pub whole : (Rose old.note_faults new.note_faults → ⊥) → (o : Outcome) × IsFailure words old new acts out o × (status_of o ≡ status) × (note ≡ line_of o)
-  pub cut : Rose old.note_faults new.note_faults → Begins note a.note ⊎ ((o : Outcome) × IsFailure words old new acts out o × Begins note (line_of o))
+  pub cut : Rose old.note_faults new.note_faults → Begins note a.note ⊎ ((o : Outcome) × IsFailure words old new acts out o × (status_of o ≡ status) × Begins note (line_of o))
 
 -- the same of what the host tells
 abbrev pub NotesAfterFailure : (old new : Outside) → (words : List (List ℕ)) → (status : ℕ) → Answer → Type 0

@@ -58,6 +58,7 @@ pub record Runs (words : List (List ℕ)) (old new : Outside) (outcome : Outcome
   pub acts : List Act
   pub out : List ℕ
   pub between : Between old new acts out []
+  pub ids : new.open_ids ≡ old.open_ids
   pub counts : CountsBy outcome old new
   pub failed : FailedIn words outcome acts out
   pub refuses : RefusesWords words outcome

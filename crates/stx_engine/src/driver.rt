@@ -1,4 +1,4 @@
-ghost use Rattle.std.specs.Prelude.{◌≤◌, ◌^◌, ℕ, List};
+ghost use Rattle.std.specs.Prelude.{◌≡◌, ◌≤◌, ◌^◌, ℕ, List};
 ghost use Rattle.stx_base.specs.Course.{Begins};
 ghost use Rattle.stx_base.specs.declared.limits.Limits.{Limits};
 ghost use Rattle.stx_host.specs.Before.{since};
@@ -44,9 +44,10 @@ pub fn transform<H: Host>(alloc: Global, words: &[String], host: &mut H) -> u8
     ensures opened { (docs : List Doc) (main : List ℕ) → Tells (H.outside host.old) docs main → OpensFirst docs (answer (characters words.now) docs main).opened result (since (H.outside host.old).log (H.outside host.new).log) }
     // Where the host failed or memory was wanting, the line says which and where.
     ensures failure { (docs : List Doc) (main : List ℕ) → Tells (H.outside host.old) docs main → NotesAfterFailure (H.outside host.old) (H.outside host.new) (characters words.now) result (answer (characters words.now) docs main) }
-    // For every host, whatever it tells: the statuses that there are, and when words are refused.
+    // For every host, whatever it tells: the statuses that there are, when words are refused, and that each id is given back.
     ensures status { IsStatus (H.outside host.old) (H.outside host.new) result }
     ensures words { RefusesUnnamed (H.outside host.old) (H.outside host.new) (characters words.now) result }
+    ensures ids { (H.outside host.new).open_ids ≡ (H.outside host.old).open_ids }
 {
     let outcome = run(alloc, words, host);
     match line(alloc, &outcome) {

@@ -4,7 +4,7 @@ use Rattle.stx_engine.specs.Line.{line_of, status_of}
 use Rattle.stx_engine.specs.Running.{Reports}
 use Rattle.stx_engine.specs.Words.{characters}
 use Rattle.stx_engine.specs.declared.outcome.Outcome.TheVariants.{Memory}
-use Rattle.stx_engine.proofs.Headed.{ran-wanting-line, gives_answer, asks_settled, begins_output, opens_first, notes_failure, is_status, refuses_unnamed}
+use Rattle.stx_engine.proofs.Headed.{ran-wanting-line, gives_answer, asks_settled, begins_output, opens_first, notes_failure, is_status, refuses_unnamed, gives_ids_back}
 use Rattle.stx_engine.proofs.Nesting.{answer-matches}
 use Rattle.stx_engine.proofs.driver.transform.Goals as goal
 
@@ -91,6 +91,16 @@ returns-in-Ok-clause-words g c =
     (subst (λ line. Reports mid line (status_of c.run-outcome.result) new c.report.result) (c.as_str.ensures.value ∙ c.in-Ok.ensures)
     (subst (λ status. Reports mid c.as_str.result.now status new c.report.result) c.status.ensures c.report.ensures))
 
+pub returns-in-Ok-clause-ids : goal.returns-in-Ok-clause-ids
+returns-in-Ok-clause-ids g c =
+    let words = characters c.args.words.now in
+    let old = g.H.Host.outside c.args.host.now in
+    let mid = g.H.Host.outside c.run-outcome.new.host in
+    let new = g.H.Host.outside c.report.new.host in
+    gives_ids_back words old mid new c.run-outcome.result c.run-outcome.ensures c.report.result
+    (subst (λ line. Reports mid line (status_of c.run-outcome.result) new c.report.result) (c.as_str.ensures.value ∙ c.in-Ok.ensures)
+    (subst (λ status. Reports mid c.as_str.result.now status new c.report.result) c.status.ensures c.report.ensures))
+
 -- the line of want of memory, where the run's own line couldn't be made
 
 pub returns-clause-answer : goal.returns-clause-answer
@@ -164,4 +174,13 @@ returns-clause-words g c =
     let mid = g.H.Host.outside c.run-outcome.new.host in
     let new = g.H.Host.outside c.report-in-Err.new.host in
     refuses_unnamed words old mid new Memory (ran-wanting-line words old mid c.run-outcome.result c.run-outcome.ensures) c.report-in-Err.result
+    (subst (λ status. Reports mid (line_of Memory) status new c.report-in-Err.result) c.status-in-Err.ensures c.report-in-Err.ensures)
+
+pub returns-clause-ids : goal.returns-clause-ids
+returns-clause-ids g c =
+    let words = characters c.args.words.now in
+    let old = g.H.Host.outside c.args.host.now in
+    let mid = g.H.Host.outside c.run-outcome.new.host in
+    let new = g.H.Host.outside c.report-in-Err.new.host in
+    gives_ids_back words old mid new Memory (ran-wanting-line words old mid c.run-outcome.result c.run-outcome.ensures) c.report-in-Err.result
     (subst (λ status. Reports mid (line_of Memory) status new c.report-in-Err.result) c.status-in-Err.ensures c.report-in-Err.ensures)
