@@ -1,8 +1,11 @@
 -- How a main document is read through an engine.
-use Rattle.std.proofs.Common.{◌≡◌, ℕ, ◌+◌, ◌<◌, ◌≤◌, Bool, true, false, List, [], ◌∷◌, ◌++◌, length, take, drop, sum, Option, Some, None, IfSome, arith, refl, sym, ap, ◌∙◌, subst, append_assoc, length-append, length-drop, length-take, add-zero}
-use Rattle.std.specs.Prelude.{codes, unwrap_or}
+use Rattle.std.proofs.Common.{◌≡◌, ℕ, ◌+◌, ◌<◌, ◌≤◌, ◌==◌, ◌||◌, Bool, true, false, List, [], ◌∷◌, ◌++◌, length, take, drop, sum, Option, Some, None, IfSome, arith, refl, sym, ap, ◌∙◌, subst, append_assoc, length-append, length-drop, length-take, add-zero}
+use Rattle.std.specs.List.{list_any}
+use Rattle.std.specs.Prelude.{codes, if◌then◌else◌, unwrap_or}
 use Rattle.std.proofs.lemmas.List.{append-nil, take-append-drop, take-append-le, take_all}
 use Rattle.std.proofs.lemmas.Bool.{false≢true}
+use Rattle.std.proofs.lemmas.Bool.Decides.{nat_tests}
+use Rattle.std.proofs.lemmas.List.Folds.{list_any-append}
 use Rattle.std.proofs.Math.Seq.{take-add}
 use Rattle.stx_base.specs.Course.{Begins}
 use Rattle.stx_base.specs.declared.limits.Limits.{Limits}
@@ -16,9 +19,9 @@ use Rattle.stx_host.specs.declared.act.Lane.TheVariants.{Out}
 use Rattle.stx_host.proofs.CopiedSoFar.{and_nothing_more, fits_of, given_of, main_left, nothing_left, one_act}
 use Rattle.stx_host.proofs.Stretches.{between_joins, between_read, between_writes, between_fault, nothing_between, main_read-append, main_read-writes, main_reads_one, main_reads_writes}
 use Rattle.stx_engine.specs.Answer.{outcome_of, result_of, run_on}
-use Rattle.stx_engine.specs.Driving.{CountsBy, Drives, EndsAs, FailedAt, FailsBy, IsSettledAt, SameCounts, counted}
+use Rattle.stx_engine.specs.Driving.{CountsBy, Drives, EndOnce, EndsAs, FailedAt, FailsBy, IsSettledAt, SameCounts, counted, main_gots}
 use Rattle.stx_engine.specs.Engine.{Appends, IsWaiting, Means, Pumps, StoppedBy, ahead, more, more_of}
-use Rattle.stx_engine.specs.Loading.{opens}
+use Rattle.stx_engine.specs.Loading.{is_doc_read, opens}
 use Rattle.stx_engine.specs.More.{Given}
 use Rattle.stx_engine.specs.Passed.{ending_of}
 use Rattle.stx_engine.specs.Result.{head}
@@ -32,6 +35,7 @@ use Rattle.stx_engine.specs.declared.outcome.HostFault.TheVariants as fault
 use Rattle.stx_engine.specs.declared.outcome.Outcome.{Outcome}
 use Rattle.stx_engine.specs.declared.outcome.Outcome.TheVariants.{Done, Usage, Sheet, Xml, Host, Memory}
 use Rattle.stx_engine.specs.declared.pass.Pass.{Pass}
+use Rattle.stx_engine.proofs.Ending.{beginning-open}
 use Rattle.stx_engine.proofs.Loading.{counts_join}
 use Rattle.stx_engine.proofs.Prefixes.{begins_after, begins_front}
 
@@ -50,6 +54,46 @@ opens-writes lane (n ∷ lens) = opens-writes lane lens
 
 opens_more : (xs ys : List Act) → opens xs ≡ [] → opens ys ≡ [] → opens (xs ++ ys) ≡ []
 opens_more xs ys e f = opens-append xs ys ∙ ap (λ l. l ++ opens ys) e ∙ f
+
+-- no document is read by acts, nor by more
+none_read : (xs ys : List Act) → list_any is_doc_read xs ≡ false → list_any is_doc_read ys ≡ false → list_any is_doc_read (xs ++ ys) ≡ false
+none_read xs ys e f = list_any-append is_doc_read xs ys ∙ ap (λ b. b || list_any is_doc_read ys) e ∙ f
+
+pub no_doc_read-writes : (lane : Lane) (lens : List ℕ) → list_any is_doc_read (writes lane lens) ≡ false
+no_doc_read-writes lane [] = refl
+no_doc_read-writes lane (n ∷ lens) = no_doc_read-writes lane lens
+
+-- What reads of the main document gave
+
+pub main_gots-append : (xs ys : List Act) → main_gots (xs ++ ys) ≡ main_gots xs ++ main_gots ys
+main_gots-append [] ys = refl
+main_gots-append (Open doc id ∷ xs) ys = main_gots-append xs ys
+main_gots-append (Read id got ∷ xs) ys =
+    let here : List ℕ = if id == 0 then got ∷ [] else [] in ap (λ l. here ++ l) (main_gots-append xs ys) ∙ sym (append_assoc here (main_gots xs) (main_gots ys))
+main_gots-append (Close id ∷ xs) ys = main_gots-append xs ys
+main_gots-append (Write lane len ∷ xs) ys = main_gots-append xs ys
+
+main_gots-writes : (lane : Lane) (lens : List ℕ) → main_gots (writes lane lens) ≡ []
+main_gots-writes lane [] = refl
+main_gots-writes lane (n ∷ lens) = main_gots-writes lane lens
+
+-- writes are no reads
+pub once-writes : (ended : Bool) (acts : List Act) (lane : Lane) (lens : List ℕ) → EndOnce ended (main_gots acts) → EndOnce ended (main_gots (acts ++ writes lane lens))
+once-writes ended acts lane lens once =
+    subst (EndOnce ended) (sym (main_gots-append acts (writes lane lens) ∙ ap (λ l. main_gots acts ++ l) (main_gots-writes lane lens) ∙ append-nil (main_gots acts))) once
+
+is_some : (n : ℕ) → 0 < n → (n == 0) ≡ false
+is_some n h = grind (arith, nat_tests)
+
+-- a read gave some bytes
+once-bytes : (acts : List Act) (n : ℕ) → 0 < n → EndOnce false (main_gots acts) → EndOnce false (main_gots (acts ++ Read 0 n ∷ []))
+once-bytes acts n some once =
+    ap (list_any (λ got. got == 0)) (main_gots-append acts (Read 0 n ∷ [])) ∙ list_any-append (λ got. got == 0) (main_gots acts) (n ∷ [])
+    ∙ ap (λ b. b || ((n == 0) || false)) once ∙ ap (λ b. b || false) (is_some n some)
+
+-- a read gave the end
+once-end : (acts : List Act) → EndOnce false (main_gots acts) → EndOnce true (main_gots (acts ++ Read 0 0 ∷ []))
+once-end acts once = (main_gots acts, once, main_gots-append acts (Read 0 0 ∷ []))
 
 -- Stretches of time
 
@@ -129,10 +173,12 @@ module _ (start : Engine) (main : List ℕ) where
 
 module _ (limits : Limits) (pass : Pass) (start : Engine) where
   -- what was written, and what is to be written next, where the main document is told
-  pub record Going (main : List ℕ) (acts : List Act) (out next : List ℕ) (e : Engine) (p : Pumped) : Type 0 where
+  pub record Going (main : List ℕ) (acts : List Act) (ended : Bool) (out next : List ℕ) (e : Engine) (p : Pumped) : Type 0 where
     pub reads : AtMainReads acts out [] (λ taken. IsSettledAt limits pass (take taken.main_read main) taken)
     pub within : main_read acts ≤ length main
     pub goes : Goes start main e (main_read acts) (out ++ next) p
+    pub all : ended ≡ true → main_read acts ≡ length main
+    pub done : p ≡ pumped.Done → ended ≡ true
 
   -- how an engine ended, by what it wants
   abbrev IsStop : Option Outcome → Type 0
@@ -164,16 +210,27 @@ module _ (limits : Limits) (pass : Pass) (start : Engine) where
     pub out : List ℕ
     pub between : Between old now acts out []
     pub opened : opens acts ≡ []
+    pub no_doc_read : list_any is_doc_read acts ≡ false
+    pub ended : Bool
+    pub once : EndOnce ended (main_gots acts)
+    pub unended : p ≡ pumped.Main → ended ≡ false
     pub ids : now.open_ids ≡ old.open_ids
     pub counts : SameCounts old now
     pub read_is : read ≡ main_read acts
     pub written_is : written ≡ counted (length out)
     pub stop : StopsBy p e.outcome
-    pub told : (main : List ℕ) → old.to_come 0 ≡ Some main → Going main acts out next e p
+    pub told : (main : List ℕ) → old.to_come 0 ≡ Some main → Going main acts ended out next e p
 
   module _ (means : Means limits pass start) where
     result_is : (bytes : List ℕ) (ended : Bool) → result_of (run_on limits pass bytes ended) ≡ (more_of start Start bytes ended).bytes
     result_is bytes ended = sym (ap (λ l. head ++ l) (means bytes ended).0)
+
+    -- a run on first bytes isn't done
+    not_done : (bytes front appended : List ℕ) (given : List ℕ → Bool → Given) (new : Engine) (rest : List ℕ) (p : Pumped)
+        → more_of start Start bytes false ≡ ahead front (given rest false) → Appends given new appended p → p ≡ pumped.Done → ⊥
+    not_done bytes front appended given new rest p all a is =
+        let done : Appends given new appended pumped.Done = subst (Appends given new appended) is a in
+        beginning-open limits pass bytes (sym (means bytes false).1 ∙ ap (λ g. ending_of g.stop) (all ∙ ap (ahead front) (done.1 rest false)))
 
     -- more is wanted, and all that is settled was written
     settled-at : (main : List ℕ) (n : ℕ) (out : List ℕ) (e : Engine) → IsWaiting e → Goes start main e n out pumped.Main
@@ -194,6 +251,10 @@ module _ (limits : Limits) (pass : Pass) (start : Engine) where
       out = [];
       between = nothing_between old;
       opened = refl;
+      no_doc_read = refl;
+      ended = false;
+      once = refl;
+      unended = λ is. refl;
       ids = refl;
       counts = record { doc = refl; main = refl; out = refl; note = refl };
       read_is = refl;
@@ -204,6 +265,8 @@ module _ (limits : Limits) (pass : Pass) (start : Engine) where
         within = omega arith;
         goes = subst (λ l. Goes start main e 0 l p) (sym pumps.1)
             (goes-piece start main (more_of start Start) e 0 [] pumps.0 p (λ bytes ended is. refl) main true refl pumps.2);
+        all = λ is. absurd (false≢true is);
+        done = λ is. absurd (not_done [] [] pumps.0 (more_of start Start) e [] p refl pumps.2 is);
       };
     }
 
@@ -219,6 +282,10 @@ module _ (limits : Limits) (pass : Pass) (start : Engine) where
           out = d.out ++ next;
           between = wrote_more old now new d.acts d.out lens next d.between total is;
           opened = opens_more d.acts (writes Out lens) d.opened (opens-writes Out lens);
+          no_doc_read = none_read d.acts (writes Out lens) d.no_doc_read (no_doc_read-writes Out lens);
+          ended = d.ended;
+          once = once-writes d.ended d.acts Out lens d.once;
+          unended = d.unended;
           ids = ap (λ o. o.open_ids) is ∙ d.ids;
           counts = counts_join old now new d.counts (wrote-counts now new lens next is);
           read_is = d.read_is ∙ sym count;
@@ -231,6 +298,8 @@ module _ (limits : Limits) (pass : Pass) (start : Engine) where
                 within = omega (arith, count, so_far.within);
                 goes = subst (λ l. Goes start main e (main_read (d.acts ++ writes Out lens)) l p) (sym (append-nil (d.out ++ next)))
                     (subst (λ n. Goes start main e n (d.out ++ next) p) (sym count) so_far.goes);
+                all = λ is. count ∙ so_far.all is;
+                done = so_far.done;
               };
         }
 
@@ -248,6 +317,10 @@ module _ (limits : Limits) (pass : Pass) (start : Engine) where
           out = d.out;
           between = one_act old now new d.acts (Read 0 n) d.out d.between (between_read now new 0 (Got' n) change);
           opened = opens_more d.acts (Read 0 n ∷ []) d.opened refl;
+          no_doc_read = none_read d.acts (Read 0 n ∷ []) d.no_doc_read refl;
+          ended = false;
+          once = once-bytes d.acts n gives.some (subst (λ b. EndOnce b (main_gots d.acts)) (d.unended refl) d.once);
+          unended = λ is. refl;
           ids = ap (λ o. o.open_ids) change ∙ d.ids;
           counts = counts_join old now new d.counts (read-counts now new n change);
           read_is = ap (λ m. m + n) d.read_is ∙ sym count;
@@ -273,6 +346,8 @@ module _ (limits : Limits) (pass : Pass) (start : Engine) where
                     (ap (λ l. more_of start Start l true) (sym (take-append-drop at main) ∙ ap (λ l. take at main ++ l) given)
                     ∙ goes (piece ++ drop n (drop at main)) true)
                     pumps.2));
+                all = λ is. absurd (false≢true is);
+                done = λ is. absurd (not_done (take at main ++ (piece ++ [])) d.out pumps.0 given_on after [] p (goes (piece ++ []) false) pumps.2 is);
               };
         }
 
@@ -288,6 +363,10 @@ module _ (limits : Limits) (pass : Pass) (start : Engine) where
           out = d.out;
           between = one_act old now new d.acts (Read 0 0) d.out d.between (between_read now new 0 GotEnd change);
           opened = opens_more d.acts (Read 0 0 ∷ []) d.opened refl;
+          no_doc_read = none_read d.acts (Read 0 0 ∷ []) d.no_doc_read refl;
+          ended = true;
+          once = once-end d.acts (subst (λ b. EndOnce b (main_gots d.acts)) (d.unended refl) d.once);
+          unended = λ is. absurd (last is);
           ids = ap (λ o. o.open_ids) change ∙ d.ids;
           counts = counts_join old now new d.counts (end-counts now new change);
           read_is = d.read_is ∙ sym count;
@@ -307,6 +386,8 @@ module _ (limits : Limits) (pass : Pass) (start : Engine) where
                     (λ bytes ended is. absurd (last is)) [] true
                     (ap (λ l. more_of start Start l true) (sym (take-append-drop at main) ∙ ap (λ l. take at main ++ l) none) ∙ goes [] true)
                     pumps.2);
+                all = λ is. omega (arith, count, so_far.within, length-drop at main, ap length none);
+                done = λ is. refl;
               };
         }
 
@@ -317,10 +398,11 @@ module _ (limits : Limits) (pass : Pass) (start : Engine) where
       pub counts : CountsBy o old new
       pub failed : FailedAt o acts out
       pub ends : (main : List ℕ) → EndsAs limits pass main out o
+      pub undone : o ≡ Done → ⊥
 
     fails-by : (f : HostFault) (offset : ℕ) (old new : Outside) (acts : List Act) (out : List ℕ) → new.note_faults ≡ old.note_faults → Fails old new acts out (Host (codes "-") f offset)
         → (o : Outcome) → FailsBy f offset o → Fails old new acts out o
-    fails-by f offset old new acts out note facts Memory told = record { counts = note; failed = tt; ends = λ main. tt }
+    fails-by f offset old new acts out note facts Memory told = record { counts = note; failed = tt; ends = λ main. tt; undone = λ is. cc }
     fails-by f offset old new acts out note facts Done e = subst (Fails old new acts out) (sym e) facts
     fails-by f offset old new acts out note facts Usage e = subst (Fails old new acts out) (sym e) facts
     fails-by f offset old new acts out note facts (Sheet fault) e = subst (Fails old new acts out) (sym e) facts
@@ -354,12 +436,16 @@ module _ (limits : Limits) (pass : Pass) (start : Engine) where
           );
           failed = (refl, place);
           ends = λ main. tt;
+          undone = λ is. cc;
         }) o told_by in
         record {
           acts = acts;
           out = out;
           between = and_nothing_more old mid new acts out (wrote_more old now mid d.acts d.out lens bytes d.between (total ∙ fits) refl) (between_fault mid new Out failed);
           opened = opens_more d.acts (writes Out lens) d.opened (opens-writes Out lens);
+          no_doc_read = none_read d.acts (writes Out lens) d.no_doc_read (no_doc_read-writes Out lens);
+          ended = d.ended;
+          once = once-writes d.ended d.acts Out lens d.once;
           ids = ap (λ o. o.open_ids) failed.alone ∙ d.ids;
           counts = fails.counts;
           failed = fails.failed;
@@ -371,6 +457,7 @@ module _ (limits : Limits) (pass : Pass) (start : Engine) where
                     (subst (λ l. Begins l (result_of (run_on limits pass main true))) (ap (λ l. d.out ++ l) (sym (take-append-drop taken next)) ∙ sym (append_assoc d.out bytes (drop taken next)))
                     (begins-result main (main_read d.acts) (d.out ++ next) e p so_far.goes));
                 ends = fails.ends main;
+                all = λ is. absurd (fails.undone is);
               };
         }
 
@@ -387,12 +474,16 @@ module _ (limits : Limits) (pass : Pass) (start : Engine) where
           );
           failed = (refl, d.read_is);
           ends = λ main. tt;
+          undone = λ is. cc;
         }) o told_by in
         record {
           acts = d.acts;
           out = d.out;
           between = and_nothing_more old now new d.acts d.out d.between (between_read now new 0 Unread (record { main = λ is. failed; doc = λ above. absurd (omega (arith, above)) }));
           opened = d.opened;
+          no_doc_read = d.no_doc_read;
+          ended = d.ended;
+          once = d.once;
           ids = ap (λ o. o.open_ids) failed.alone ∙ d.ids;
           counts = fails.counts;
           failed = fails.failed;
@@ -402,6 +493,7 @@ module _ (limits : Limits) (pass : Pass) (start : Engine) where
                 reads = so_far.reads;
                 prefix = begins-result main (main_read d.acts) d.out e p (subst (λ l. Goes start main e (main_read d.acts) l p) (append-nil d.out) so_far.goes);
                 ends = fails.ends main;
+                all = λ is. absurd (fails.undone is);
               };
         }
 
@@ -413,6 +505,9 @@ module _ (limits : Limits) (pass : Pass) (start : Engine) where
       out = d.out;
       between = d.between;
       opened = d.opened;
+      no_doc_read = d.no_doc_read;
+      ended = d.ended;
+      once = d.once;
       ids = d.ids;
       counts = subst (λ x. CountsBy x old now) (sym is) (by_stop p e.outcome d.stop last).0;
       failed = subst (λ x. FailedAt x d.acts d.out) (sym is) (by_stop p e.outcome d.stop last).1;
@@ -423,8 +518,20 @@ module _ (limits : Limits) (pass : Pass) (start : Engine) where
             reads = so_far.reads;
             prefix = begins-result main (main_read d.acts) d.out e p goes;
             ends = subst (EndsAs limits pass main d.out) (sym is) (by_end main p goes last);
+            all = λ done. let at_end = so_far.done (is_done p e.outcome d.stop last (sym is ∙ done)) in (at_end, so_far.all at_end);
           };
     } where
+      is_done : (p : Pumped) (x : Option Outcome) → StopsBy p x → (p ≡ pumped.Main → ⊥) → unwrap_or x Memory ≡ Done → p ≡ pumped.Done
+      is_done pumped.Main x s other done = absurd (other refl)
+      is_done pumped.Done x s other done = refl
+      is_done pumped.Stopped (Some (Xml file fault)) s other done = cc
+      is_done pumped.Stopped (Some Memory) s other done = cc
+      is_done pumped.Stopped (Some Done) s other done = absurd s
+      is_done pumped.Stopped (Some Usage) s other done = absurd s
+      is_done pumped.Stopped (Some (Sheet fault)) s other done = absurd s
+      is_done pumped.Stopped (Some (Host file fault offset)) s other done = absurd s
+      is_done pumped.Stopped None s other done = absurd s
+
       by_outcome : (o : Option Outcome) → IsStop o → CountsBy (unwrap_or o Memory) old now × FailedAt (unwrap_or o Memory) d.acts d.out
       by_outcome (Some (Xml file fault)) s = (d.counts, tt)
       by_outcome (Some Memory) s = (d.counts.note, tt)

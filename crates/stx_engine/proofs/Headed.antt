@@ -1,12 +1,13 @@
 -- What a whole call did, by what its run and its last line did.
-use Rattle.std.proofs.Common.{◌≡◌, ◌≢◌, ◌⊎◌, inl, inr, ℕ, ◌+◌, ◌==◌, if◌then◌else◌, List, [], ◌∷◌, ◌++◌, length, take, drop, sum, None, IsSome, arith, refl, sym, ap, ◌∙◌, subst, length-take}
+use Rattle.std.proofs.Common.{◌≡◌, ◌≢◌, ◌⊎◌, inl, inr, ℕ, ◌+◌, ◌==◌, if◌then◌else◌, List, [], ◌∷◌, ◌++◌, length, take, drop, sum, None, IsSome, IfSome, arith, refl, sym, ap, ◌∙◌, subst, length-take}
 use Rattle.std.specs.Bool.{IsTrue}
 use Rattle.std.specs.List.{list_any}
+use Rattle.std.specs.Option.{option_and_then}
 use Rattle.std.proofs.lemmas.Bool.{false≢true}
 use Rattle.std.proofs.lemmas.List.{append-nil, take-append-drop}
 use Rattle.stx_base.specs.Course.{Begins}
-use Rattle.stx_host.specs.Before.{AtMainReads, Between, since}
-use Rattle.stx_host.specs.Outside.{Outside, Rose, wrote, writes}
+use Rattle.stx_host.specs.Before.{AtMainReads, Between, main_read, since}
+use Rattle.stx_host.specs.Outside.{Outside, Rose, document, wrote, writes}
 use Rattle.stx_host.specs.declared.act.Act.{Act}
 use Rattle.stx_host.specs.declared.act.Act.TheVariants.{Open, Read, Close, Write}
 use Rattle.stx_host.specs.declared.act.Doc.{Doc}
@@ -14,16 +15,17 @@ use Rattle.stx_host.specs.declared.act.Lane.TheVariants.{Note}
 use Rattle.stx_host.proofs.CopiedSoFar.{since_told}
 use Rattle.stx_host.proofs.Stretches.{between_joins, between_writes, between_fault, main_reads_writes, main_read-append, main_read-writes}
 use Rattle.stx_engine.specs.Answer.{answer, sheet_named}
-use Rattle.stx_engine.specs.Driving.{CountsBy, SameCounts, UnlessFailed}
-use Rattle.stx_engine.specs.Headline.{AsksSettled, GivesAnswer, IsFailure, IsStatus, NotesAfterFailure, NotesFailure, OpensFirst, RefusesUnnamed, RoseFor, SomeGreater, SomeRose, Tells}
+use Rattle.stx_engine.specs.Driving.{CountsBy, EndOnce, SameCounts, UnlessFailed, main_gots}
+use Rattle.stx_engine.specs.Headline.{AsksSettled, DecidesSheet, GivesAnswer, IsFailure, IsStatus, NotesAfterFailure, NotesFailure, OpensFirst, ReadsToEnd, RefusesUnnamed, RoseFor, SomeGreater, SomeRose, Tells}
 use Rattle.stx_engine.specs.Line.{line_of, status_of}
-use Rattle.stx_engine.specs.Loading.{opens, read_of, read_of_opened}
+use Rattle.stx_engine.specs.Loading.{ReadsUndecided, opens, read_of, read_of_opened}
 use Rattle.stx_engine.specs.Running.{Asks, FailedIn, IsAnswered, RefusesWords, Reports, Runs, RunsTold, unwritten_status}
 use Rattle.stx_engine.specs.declared.outcome.HostFault.{HostFault}
 use Rattle.stx_engine.specs.declared.outcome.HostFault.TheVariants as fault
 use Rattle.stx_engine.specs.declared.outcome.Outcome.{Outcome}
 use Rattle.stx_engine.specs.declared.outcome.Outcome.TheVariants.{Done, Usage, Sheet, Xml, Host, Memory}
-use Rattle.stx_engine.proofs.Driven.{opens-append, opens-writes}
+use Rattle.stx_engine.proofs.Driven.{no_doc_read-writes, once-writes, opens-append, opens-writes}
+use Rattle.stx_engine.proofs.Loading.{map_some, undecided-then}
 use Rattle.stx_engine.proofs.Prefixes.{begins_all}
 
 -- no message is written before the line
@@ -43,13 +45,15 @@ ran-wanting-line words old new o r = record {
   acts = r.acts;
   out = r.out;
   between = r.between;
+  ended = r.ended;
+  once = r.once;
   ids = r.ids;
   counts = note_same o old new r.counts;
   failed = tt;
   refuses = tt;
   told = λ docs main documents told.
       let t = r.told docs main documents told in
-      record { reads = t.reads; prefix = t.prefix; ends = tt; opened = (t.opened.0, t.opened.1, t.opened.2, tt) };
+      record { reads = t.reads; prefix = t.prefix; ends = tt; sheet = t.sheet; opened = (t.opened.0, t.opened.1, t.opened.2, tt); all = λ is. cc };
 }
 
 -- the line, or its first bytes, on `Note`
@@ -214,7 +218,7 @@ module _ (words : List (List ℕ)) (old mid new : Outside) (o : Outcome) (r : Ru
   failure_rose (Xml file fault) failure none = absurd failure
 
   module _ (docs : List Doc) (main : List ℕ) (tells : Tells old docs main) where
-    told : RunsTold words docs main r.acts r.out o
+    told : RunsTold words docs main r.acts r.ended r.out o
     told = r.told docs main tells.documents tells.main_document
 
     log_is : since old.log new.log ≡ acts
@@ -248,6 +252,31 @@ module _ (words : List (List ℕ)) (old mid new : Outside) (o : Outcome) (r : Ru
     pub begins_output : Begins (since old.out new.out) (answer words docs main).out
     begins_output = subst (λ out. Begins out (answer words docs main).out) (sym out_is) told.prefix
 
+    -- the status 0 is that of a run that is done
+    zero_done : (x : Outcome) → (result ≡ status_of x) ⊎ (result ≡ unwritten_status (status_of x)) → result ≡ 0 → x ≡ Done
+    zero_done Done is zero = refl
+    zero_done Usage is zero = absurd (elim is [ inl e ↦ grind (arith, e, zero) | inr e ↦ grind (arith, e, zero) ])
+    zero_done (Sheet reason) is zero = absurd (elim is [ inl e ↦ grind (arith, e, zero) | inr e ↦ grind (arith, e, zero) ])
+    zero_done (Xml file fault) is zero = absurd (elim is [ inl e ↦ grind (arith, e, zero) | inr e ↦ grind (arith, e, zero) ])
+    zero_done (Host file f offset) is zero = absurd (elim is [ inl e ↦ grind (arith, e, zero) | inr e ↦ grind (arith, e, zero) ])
+    zero_done Memory is zero = absurd (elim is [ inl e ↦ grind (arith, e, zero) | inr e ↦ grind (arith, e, zero) ])
+
+    pub reads_to_end : ReadsToEnd old new main result
+    reads_to_end = (
+      r.ended,
+      subst (λ log. EndOnce r.ended (main_gots log)) (sym log_is) (once-writes r.ended r.acts Note line.lens r.once),
+      λ zero.
+          let all = told.all (zero_done o status_is zero) in
+          (all.0, ap main_read log_is ∙ omega (arith, main_read-append r.acts (writes Note line.lens), main_read-writes Note line.lens, all.1)),
+    )
+
+    pub decides_sheet : DecidesSheet old new words docs
+    decides_sheet =
+        let sheet = option_and_then (document docs) (sheet_named words) in
+        subst (λ log. IfSome sheet (λ bytes. ReadsUndecided bytes 0 log)) (sym log_is)
+        (map_some sheet (λ bytes. ReadsUndecided bytes 0 r.acts) (λ bytes. ReadsUndecided bytes 0 (r.acts ++ writes Note line.lens))
+        (λ bytes so_far. undecided-then bytes 0 r.acts (writes Note line.lens) so_far (no_doc_read-writes Note line.lens)) told.sheet)
+
     -- all names are opened, unless the status is that of a failure
     all_opened : (x : Outcome) → IsEither (IsFailure words old new acts r.out x) x → (P : Type 0) → UnlessFailed x P → ((result ≡ status_of x) ⊎ (result ≡ unwritten_status (status_of x))) → result ≢ 5 → result ≢ 7 → P
     all_opened x (inr own) P p is five seven = answered x own P p
@@ -277,6 +306,15 @@ module _ (words : List (List ℕ)) (old mid new : Outside) (o : Outcome) (r : Ru
     by_failure (Sheet reason) (inr own) is some = absurd (elim some [ inl e ↦ grind (arith, is, e) | inr e ↦ grind (arith, is, e) ])
     by_failure (Xml file fault) (inr own) is some = absurd (elim some [ inl e ↦ grind (arith, is, e) | inr e ↦ grind (arith, is, e) ])
 
+    -- an answer's line was cut
+    own_status : (x : Outcome) → IsOwn x → (result ≡ status_of x) ⊎ (result ≡ unwritten_status (status_of x)) → (result ≡ 5) ⊎ (result ≡ 7) → result ≡ 5
+    own_status Done own is some = elim is [ inl e ↦ absurd (elim some [ inl f ↦ grind (arith, e, f) | inr f ↦ grind (arith, e, f) ]) | inr e ↦ e ]
+    own_status Usage own is some = elim is [ inl e ↦ absurd (elim some [ inl f ↦ grind (arith, e, f) | inr f ↦ grind (arith, e, f) ]) | inr e ↦ e ]
+    own_status (Sheet reason) own is some = elim is [ inl e ↦ absurd (elim some [ inl f ↦ grind (arith, e, f) | inr f ↦ grind (arith, e, f) ]) | inr e ↦ e ]
+    own_status (Xml file fault) own is some = elim is [ inl e ↦ absurd (elim some [ inl f ↦ grind (arith, e, f) | inr f ↦ grind (arith, e, f) ]) | inr e ↦ e ]
+    own_status (Host file f offset) own is some = absurd own
+    own_status Memory own is some = absurd own
+
     notes : (result ≡ 5) ⊎ (result ≡ 7) → NotesFailure words old new acts r.out line.note result (answer words docs main)
     notes some = record {
       whole = λ kept. elim line.end [
@@ -286,9 +324,9 @@ module _ (words : List (List ℕ)) (old mid new : Outside) (o : Outcome) (r : Ru
       cut = λ rose. by_line (elim line.end [ inl whole ↦ subst (λ note. Begins note (line_of o)) (sym whole.0) (begins_all (line_of o)) | inr cut ↦ cut.0 ]) is_either;
     } where
       by_line : Begins line.note (line_of o) → IsEither (IsFailure words old new acts r.out o) o
-          → Begins line.note (answer words docs main).note ⊎ ((x : Outcome) × IsFailure words old new acts r.out x × (status_of x ≡ result) × Begins line.note (line_of x))
+          → ((result ≡ 5) × Begins line.note (answer words docs main).note) ⊎ ((x : Outcome) × IsFailure words old new acts r.out x × (status_of x ≡ result) × Begins line.note (line_of x))
       by_line begins (inl failure) = inr (o, failure, failure_status o failure status_is, begins)
-      by_line begins (inr own) = inl (subst (Begins line.note) (answered o own (IsAnswered r.out o (answer words docs main)) told.ends).line begins)
+      by_line begins (inr own) = inl (own_status o own status_is some, subst (Begins line.note) (answered o own (IsAnswered r.out o (answer words docs main)) told.ends).line begins)
 
     pub notes_failure : NotesAfterFailure old new words result (answer words docs main)
     notes_failure some =

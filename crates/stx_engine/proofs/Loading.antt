@@ -1,15 +1,16 @@
 -- What the loading of a sheet does to the outside, call by call.
 use Rattle.std.proofs.Common.{◌≡◌, ℕ, zero, suc, ◌+◌, ◌<◌, ◌==◌, ◌||◌, Bool, true, false, List, [], ◌∷◌, ◌++◌, sum, length, take, drop, Option, Some, None, slice_get, IsSome, IfSome, Ok, Err, refl, sym, ap, subst, ◌∙◌, inl, inr, arith, append_assoc, length-append, length-take}
-use Rattle.std.specs.Prelude.{if◌then◌else◌, bytes_eq}
+use Rattle.std.specs.Prelude.{if◌then◌else◌, bytes_eq, not}
 use Rattle.std.specs.List.{list_any, position}
 use Rattle.std.specs.Option.{option_map, option_and_then, option_map_or}
 use Rattle.std.specs.declared.result.Result.{Result}
 use Rattle.std.proofs.lemmas.Bool.{false≢true}
 use Rattle.std.proofs.lemmas.Bool.Decides.{nat_tests}
-use Rattle.std.proofs.lemmas.List.{append-nil, map-append}
+use Rattle.std.proofs.lemmas.List.{append-nil, map-append, take-append-le, take_all}
+use Rattle.std.proofs.lemmas.List.Folds.{list_any-append}
 use Rattle.std.proofs.lemmas.List.Quantifiers.{position-Some}
 use Rattle.std.proofs.lemmas.List.Recursion.{is_sum_by}
-use Rattle.std.proofs.lemmas.List.Sums.{sum_by_push}
+use Rattle.std.proofs.lemmas.List.Sums.{sum_by-cons, sum_by_push}
 use Rattle.std.proofs.lemmas.Option.{slice_get-get_or}
 use Rattle.stx_host.specs.declared.act.Act.{Act}
 use Rattle.stx_host.specs.declared.act.Act.TheVariants.{Open, Read, Close, Write}
@@ -22,8 +23,8 @@ use Rattle.stx_host.proofs.ToCome.{eq_self, with_here}
 use Rattle.stx_base.specs.declared.fault.SheetCode.TheVariants as code
 use Rattle.stx_base.specs.declared.fault.SheetFault.{SheetFault}
 use Rattle.stx_engine.specs.Answer.{answered, run_answer, sheet_answer}
-use Rattle.stx_engine.specs.Driving.{SameCounts}
-use Rattle.stx_engine.specs.Loading.{FailsAfter, IsLoaded, LoadActs, LoadAnswers, OpensSheet, ReadActs, accepted, is_write, loaded, opens, read_of, read_of_opened, reads, refusal}
+use Rattle.stx_engine.specs.Driving.{SameCounts, main_gots}
+use Rattle.stx_engine.specs.Loading.{BeginsSheet, FailsAfter, IsLoaded, LoadActs, LoadAnswers, OpensSheet, ReadActs, ReadsUndecided, accepted, is_doc_read, is_write, loaded, opens, read_of, read_of_opened, reads, refusal}
 use Rattle.stx_engine.specs.Sheets.{pass_of}
 use Rattle.stx_engine.specs.declared.outcome.Outcome.{Outcome}
 use Rattle.stx_engine.specs.declared.outcome.Outcome.TheVariants.{Sheet}
@@ -38,13 +39,84 @@ counts_join a b c first second = record {
   note = second.note ∙ first.note;
 }
 
+-- What is read of a sheet
+
+is_not_zero : (id : ℕ) → 0 < id → (id == 0) ≡ false
+is_not_zero id h = grind (arith, nat_tests)
+
+pub map_some : {X : Type 0} (o : Option X) (P Q : X → Type 0) → ((x : X) → P x → Q x) → IfSome o P → IfSome o Q
+map_some None P Q all some = tt
+map_some (Some x) P Q all some = all x some
+
+pub of_any : {X : Type 0} (o : Option X) (P : X → Type 0) → ((x : X) → P x) → IfSome o P
+of_any None P all = tt
+of_any (Some x) P all = all x
+
+or_first : (a b : Bool) → (a || b) ≡ false → a ≡ false
+or_first true b e = absurd (false≢true (sym e))
+or_first false b e = refl
+
+or_second : (a b : Bool) → (a || b) ≡ false → b ≡ false
+or_second true b e = absurd (false≢true (sym e))
+or_second false b e = e
+
+-- acts without a read of a document decide nothing
+none_undecided : (sheet : List ℕ) (read : ℕ) (acts : List Act) → list_any is_doc_read acts ≡ false → ReadsUndecided sheet read acts
+none_undecided sheet read [] e = tt
+none_undecided sheet read (Open doc id ∷ acts) e = none_undecided sheet read acts e
+none_undecided sheet read (Read id got ∷ acts) e = (
+  λ above. absurd (false≢true (sym (or_first (not (id == 0)) (list_any is_doc_read acts) e) ∙ ap not (is_not_zero id above))),
+  none_undecided sheet (read + (if id == 0 then 0 else got)) acts (or_second (not (id == 0)) (list_any is_doc_read acts) e),
+)
+none_undecided sheet read (Close id ∷ acts) e = none_undecided sheet read acts e
+none_undecided sheet read (Write lane len ∷ acts) e = none_undecided sheet read acts e
+
+-- acts that read no document, behind others
+pub undecided-then : (sheet : List ℕ) (read : ℕ) (xs ys : List Act) → ReadsUndecided sheet read xs → list_any is_doc_read ys ≡ false → ReadsUndecided sheet read (xs ++ ys)
+undecided-then sheet read [] ys before none = none_undecided sheet read ys none
+undecided-then sheet read (Open doc id ∷ xs) ys before none = undecided-then sheet read xs ys before none
+undecided-then sheet read (Read id got ∷ xs) ys before none = (
+  λ above. (
+    (before.0 above).0,
+    λ zero. list_any-append is_doc_read xs ys ∙ ap (λ b. b || list_any is_doc_read ys) ((before.0 above).1 zero) ∙ none,
+  ),
+  undecided-then sheet (read + (if id == 0 then 0 else got)) xs ys before.1 none,
+)
+undecided-then sheet read (Close id ∷ xs) ys before none = undecided-then sheet read xs ys before none
+undecided-then sheet read (Write lane len ∷ xs) ys before none = undecided-then sheet read xs ys before none
+
+-- a read more of what isn't decided
+undecided-read : (sheet : List ℕ) (id n read : ℕ) (lens : List ℕ) → 0 < id → list_any (λ len. len == 0) lens ≡ false → ReadsUndecided sheet read (reads id lens) → BeginsSheet (take (read + sum lens) sheet)
+    → ReadsUndecided sheet read (reads id (lens ++ n ∷ []))
+undecided-read sheet id n read [] above some so_far begins = (λ is. (subst (λ k. BeginsSheet (take k sheet)) (let e : read + 0 ≡ read = omega arith in e) begins, λ zero. refl), tt)
+undecided-read sheet id n read (m ∷ lens) above some so_far begins =
+    let rest : Bool = list_any (λ len. len == 0) lens in
+    let cons : sum (m ∷ lens) ≡ m + sum lens = sum_by-cons (λ n. n) m lens in
+    let more : read + sum (m ∷ lens) ≡ (read + (if id == 0 then 0 else m)) + sum lens =
+    (let e : read + sum (m ∷ lens) ≡ (read + m) + sum lens = omega (arith, cons) in e) ∙ ap (λ b. (read + (if b then 0 else m)) + sum lens) (sym (is_not_zero id above)) in (
+      λ is. ((so_far.0 is).0, λ zero. absurd (false≢true (sym (or_first (m == 0) rest some) ∙ ap (λ k. k == 0) zero))),
+      undecided-read sheet id n (read + (if id == 0 then 0 else m)) lens above (or_second (m == 0) rest some) so_far.1 (subst (λ k. BeginsSheet (take k sheet)) more begins),
+    )
+
+undecided_more : (id n : ℕ) (lens bytes : List ℕ) (told now : Option (List ℕ)) → 0 < id → list_any (λ len. len == 0) lens ≡ false → told ≡ option_map (λ rest. bytes ++ rest) now → sum lens ≡ length bytes → BeginsSheet bytes
+    → IfSome told (λ sheet. ReadsUndecided sheet 0 (reads id lens)) → IfSome told (λ sheet. ReadsUndecided sheet 0 (reads id (lens ++ n ∷ [])))
+undecided_more id n lens bytes None now above some is total begins so_far = tt
+undecided_more id n lens bytes (Some sheet) None above some is total begins so_far = cc
+undecided_more id n lens bytes (Some sheet) (Some rest) above some is total begins so_far =
+    let all : sheet ≡ bytes ++ rest = cc in
+    let front : take (0 + sum lens) sheet ≡ bytes =
+    ap (take (0 + sum lens)) all ∙ take-append-le (0 + sum lens) bytes rest (omega (arith, total)) ∙ take_all (0 + sum lens) bytes (omega (arith, total)) in
+    undecided-read sheet id n 0 lens above some so_far (subst BeginsSheet (sym front) begins)
+
 -- an open document of which these bytes were read
 pub record ReadSoFar (old now : Outside) (id : ℕ) (bytes : List ℕ) : Type 0 where
   pub lens : List ℕ
   pub between : Between old now (reads id lens) [] []
   pub total : sum lens ≡ length bytes
+  pub some : list_any (λ len. len == 0) lens ≡ false
   pub to_come : old.to_come id ≡ option_map (λ rest. bytes ++ rest) (now.to_come id)
   pub ids : now.open_ids ≡ old.open_ids
+  pub undecided : IfSome (old.to_come id) (λ sheet. ReadsUndecided sheet 0 (reads id lens))
   pub counts : SameCounts old now
 
 one_read : (a b c : Outside) (id n : ℕ) (lens : List ℕ) → Between a b (reads id lens) [] [] → Between b c (Read id n ∷ []) [] [] → Between a c (reads id (lens ++ n ∷ [])) [] []
@@ -62,10 +134,12 @@ moves None bytes room n next = refl
 moves (Some rest) bytes room n next = ap (λ all. Some (bytes ++ all)) next ∙ ap (λ all. Some all) (sym (append_assoc bytes (take n room) (drop n rest)))
 
 -- a read more
-pub read_more : (old now new : Outside) (id n : ℕ) (bytes room more : List ℕ) → ReadSoFar old now id bytes → GivesBytes (now.to_come id) n room → Reads now id (Bytes n) new → more ≡ bytes ++ take n room
+pub read_more : (old now new : Outside) (id n : ℕ) (bytes room more : List ℕ) → 0 < id → BeginsSheet bytes → ReadSoFar old now id bytes → GivesBytes (now.to_come id) n room → Reads now id (Bytes n) new → more ≡ bytes ++ take n room
     → ReadSoFar old new id more
-read_more old now new id n bytes room more so_far gives change is = record {
+read_more old now new id n bytes room more above begins so_far gives change is = record {
   lens = so_far.lens ++ n ∷ [];
+  some = list_any-append (λ len. len == 0) so_far.lens (n ∷ []) ∙ ap (λ b. b || ((n == 0) || false)) so_far.some ∙ ap (λ b. b || false) (is_not_zero n gives.some);
+  undecided = undecided_more id n so_far.lens bytes (old.to_come id) (now.to_come id) above so_far.some so_far.to_come so_far.total begins so_far.undecided;
   between = one_read old now new id n so_far.lens so_far.between (between_read now new id (Bytes n) change);
   total = one_more n (length bytes) so_far.lens so_far.total ∙ (let e : length bytes + n ≡ length more = omega (arith, ap length is, length-append bytes (take n room), length-take n room, gives.fits) in e);
   to_come = so_far.to_come ∙ moves (now.to_come id) bytes room n gives.next
@@ -80,6 +154,7 @@ read_more old now new id n bytes room more so_far gives change is = record {
 pub record ReadWhole (old new : Outside) (id : ℕ) (bytes : List ℕ) : Type 0 where
   pub lens : List ℕ
   pub between : Between old new (reads id lens) [] []
+  pub undecided : IfSome (old.to_come id) (λ sheet. ReadsUndecided sheet 0 (reads id lens))
   pub told : IfSome (option_map (λ all. Some all) (old.to_come id)) (λ is. Some bytes ≡ is)
   pub ids : new.open_ids ≡ old.open_ids
   pub counts : SameCounts old new
@@ -88,9 +163,10 @@ nothing_more : (to_come : Option (List ℕ)) (bytes : List ℕ) → IfSome to_co
 nothing_more None bytes none = tt
 nothing_more (Some rest) bytes none = ap (λ all. Some all) (sym (append-nil bytes) ∙ ap (λ r. bytes ++ r) (sym none))
 
-pub read_end : (old now new : Outside) (id : ℕ) (bytes : List ℕ) → ReadSoFar old now id bytes → IfSome (now.to_come id) (λ rest. rest ≡ []) → Reads now id End new → ReadWhole old new id bytes
-read_end old now new id bytes so_far none change = record {
+pub read_end : (old now new : Outside) (id : ℕ) (bytes : List ℕ) → 0 < id → BeginsSheet bytes → ReadSoFar old now id bytes → IfSome (now.to_come id) (λ rest. rest ≡ []) → Reads now id End new → ReadWhole old new id bytes
+read_end old now new id bytes above begins so_far none change = record {
   lens = so_far.lens ++ 0 ∷ [];
+  undecided = undecided_more id 0 so_far.lens bytes (old.to_come id) (now.to_come id) above so_far.some so_far.to_come so_far.total begins so_far.undecided;
   between = one_read old now new id 0 so_far.lens so_far.between (between_read now new id End change);
   told = subst (λ o. IfSome (option_map (λ all. Some all) o) (λ is. Some bytes ≡ is)) (sym so_far.to_come) (nothing_more (now.to_come id) bytes none);
   ids = ap (λ o. o.open_ids) change ∙ so_far.ids;
@@ -106,9 +182,6 @@ cut_short given None bytes name e none =
 cut_short given (Some rest) bytes name e none =
     subst (λ o. IsLoaded (option_map (λ all. Some all) o) name (accepted name None)) (sym e) (record { sheet = Some (bytes ++ rest); told_of = refl; gives = sym (ap (accepted name) (none rest)) })
 
-is_not_zero : (id : ℕ) → 0 < id → (id == 0) ≡ false
-is_not_zero id h = grind (arith, nat_tests)
-
 -- acts in which nothing of an id is read, and nothing is opened or written
 record AreIdle (id : ℕ) (acts : List Act) : Type 0 where
   pub no_write : list_any is_write acts ≡ false
@@ -116,12 +189,13 @@ record AreIdle (id : ℕ) (acts : List Act) : Type 0 where
   pub opens : opens acts ≡ []
   pub read : read_of id acts ≡ 0
   pub opened : read_of_opened acts ≡ 0
+  pub no_doc_read : list_any is_doc_read acts ≡ false
 
 nothing_idle : (id : ℕ) → AreIdle id []
-nothing_idle id = record { no_write = refl; no_main_read = refl; opens = refl; read = refl; opened = refl }
+nothing_idle id = record { no_write = refl; no_main_read = refl; opens = refl; read = refl; opened = refl; no_doc_read = refl }
 
 close_idle : (id k : ℕ) → AreIdle id (Close k ∷ [])
-close_idle id k = record { no_write = refl; no_main_read = refl; opens = refl; read = refl; opened = refl }
+close_idle id k = record { no_write = refl; no_main_read = refl; opens = refl; read = refl; opened = refl; no_doc_read = refl }
 
 module _ (id : ℕ) (last : List Act) (idle : AreIdle id last) where
   no_write_after : (lens : List ℕ) → list_any is_write (reads id lens ++ last) ≡ false
@@ -155,20 +229,25 @@ act_reads_nothing (Read id got) e = not_read (id == 0) got e
 act_reads_nothing (Close id) e = refl
 act_reads_nothing (Write lane len) e = refl
 
-or_first : (a b : Bool) → (a || b) ≡ false → a ≡ false
-or_first true b e = absurd (false≢true (sym e))
-or_first false b e = refl
-
-or_second : (a b : Bool) → (a || b) ≡ false → b ≡ false
-or_second true b e = absurd (false≢true (sym e))
-or_second false b e = e
-
 pub no_main_bytes : (acts : List Act) → list_any is_main_read acts ≡ false → main_read acts ≡ 0
 no_main_bytes [] e = refl
 no_main_bytes (act ∷ acts) e =
     let here : act_read act ≡ 0 = act_reads_nothing act (or_first (is_main_read act) (list_any is_main_read acts) e) in
     let rest : main_read acts ≡ 0 = no_main_bytes acts (or_second (is_main_read act) (list_any is_main_read acts) e) in
     omega arith
+
+not_gotten : (b : Bool) (got : ℕ) (rest : List ℕ) → b ≡ false → (if b then got ∷ [] else []) ++ rest ≡ rest
+not_gotten true got rest e = absurd (false≢true (sym e))
+not_gotten false got rest e = refl
+
+-- nor does it give anything
+pub no_main_gots : (acts : List Act) → list_any is_main_read acts ≡ false → main_gots acts ≡ []
+no_main_gots [] e = refl
+no_main_gots (Open doc id ∷ acts) e = no_main_gots acts e
+no_main_gots (Read id got ∷ acts) e =
+    not_gotten (id == 0) got (main_gots acts) (or_first (id == 0) (list_any is_main_read acts) e) ∙ no_main_gots acts (or_second (id == 0) (list_any is_main_read acts) e)
+no_main_gots (Close id ∷ acts) e = no_main_gots acts e
+no_main_gots (Write lane len ∷ acts) e = no_main_gots acts e
 
 no_read_at : (acts : List Act) (k : ℕ) → list_any is_main_read acts ≡ false → option_map_or is_main_read (slice_get acts k) false ≡ false
 no_read_at [] k e = refl
@@ -180,9 +259,9 @@ pub no_main_reads : (acts : List Act) (out note : List ℕ) (P : Taken → Type 
 no_main_reads acts out note P e k is_read = absurd (false≢true (sym (no_read_at acts k e) ∙ is_read))
 
 -- a sheet was opened, read, and given back, by an act or none
-acts_with : (old mid now new : Outside) (doc : Option ℕ) (id : ℕ) (answer : Result Pass Outcome) (lens : List ℕ) (last : List Act) → 0 < id → AreIdle id last
-    → Between old mid (Open doc id ∷ []) [] [] → ReadActs mid now id answer lens → Between now new last [] [] → (acts : List Act) × LoadActs old new doc answer acts
-acts_with old mid now new doc id answer lens last above idle first read end =
+acts_with : (old mid now new : Outside) (doc : Option ℕ) (sheet : Option (List ℕ)) (id : ℕ) (answer : Result Pass Outcome) (lens : List ℕ) (last : List Act) → 0 < id → mid.to_come id ≡ sheet → AreIdle id last
+    → Between old mid (Open doc id ∷ []) [] [] → ReadActs mid now id answer lens → Between now new last [] [] → (acts : List Act) × LoadActs old new doc sheet answer acts
+acts_with old mid now new doc sheet id answer lens last above told idle first read end =
     let acts : List Act = Open doc id ∷ (reads id lens ++ last) in
     let no_main : list_any is_main_read acts ≡ false = no_main_read_after id last idle above lens in
     let count : sum lens ≡ read_of_opened acts =
@@ -195,20 +274,23 @@ acts_with old mid now new doc id answer lens last above idle first read end =
         no_main_read = no_main;
         main_read = no_main_bytes acts no_main;
         opens = inl (ap (λ places. doc ∷ places) (opens_after id last idle lens));
+        undecided = subst (λ o. IfSome o (λ bytes. ReadsUndecided bytes 0 acts)) told
+            (map_some (mid.to_come id) (λ bytes. ReadsUndecided bytes 0 (reads id lens)) (λ bytes. ReadsUndecided bytes 0 (reads id lens ++ last))
+            (λ bytes so_far. undecided-then bytes 0 (reads id lens) last so_far idle.no_doc_read) read.undecided);
         fails = subst (FailsAfter answer) count read.fails;
       },
     )
 
-pub load_acts : (old mid now new : Outside) (doc : Option ℕ) (id : ℕ) (answer : Result Pass Outcome) (lens : List ℕ) → 0 < id
-    → Between old mid (Open doc id ∷ []) [] [] → ReadActs mid now id answer lens → Closes now id new → (acts : List Act) × LoadActs old new doc answer acts
-load_acts old mid now new doc id answer lens above first read closes = elim (between_close now new id above closes) [
-  | inl e ↦ acts_with old mid now new doc id answer lens (Close id ∷ []) above (close_idle id id) first read e
-  | inr e ↦ acts_with old mid now new doc id answer lens [] above (nothing_idle id) first read e
+pub load_acts : (old mid now new : Outside) (doc : Option ℕ) (sheet : Option (List ℕ)) (id : ℕ) (answer : Result Pass Outcome) (lens : List ℕ) → 0 < id → mid.to_come id ≡ sheet
+    → Between old mid (Open doc id ∷ []) [] [] → ReadActs mid now id answer lens → Closes now id new → (acts : List Act) × LoadActs old new doc sheet answer acts
+load_acts old mid now new doc sheet id answer lens above told first read closes = elim (between_close now new id above closes) [
+  | inl e ↦ acts_with old mid now new doc sheet id answer lens (Close id ∷ []) above told (close_idle id id) first read e
+  | inr e ↦ acts_with old mid now new doc sheet id answer lens [] above told (nothing_idle id) first read e
 ]
 
 -- nothing was opened
-pub no_acts : (old new : Outside) (doc : Option ℕ) (answer : Result Pass Outcome) → Between old new [] [] [] → OpensSheet doc answer [] → FailsAfter answer 0 → (acts : List Act) × LoadActs old new doc answer acts
-no_acts old new doc answer between opens fails = (
+pub no_acts : (old new : Outside) (doc : Option ℕ) (sheet : Option (List ℕ)) (answer : Result Pass Outcome) → Between old new [] [] [] → OpensSheet doc answer [] → FailsAfter answer 0 → (acts : List Act) × LoadActs old new doc sheet answer acts
+no_acts old new doc sheet answer between opens fails = (
   [],
   record {
     between = between;
@@ -216,6 +298,7 @@ no_acts old new doc answer between opens fails = (
     no_main_read = refl;
     main_read = refl;
     opens = opens;
+    undecided = of_any sheet (λ bytes. ReadsUndecided bytes 0 []) (λ bytes. tt);
     fails = fails;
   },
 )

@@ -1,32 +1,37 @@
 -- What a run of the program did, by where it ended.
-use Rattle.std.proofs.Common.{◌≡◌, inl, inr, ℕ, true, List, [], ◌∷◌, ◌++◌, take, drop, Option, Some, None, IsSome, Ok, Err, arith, refl, sym, ap, ◌∙◌, subst}
+use Rattle.std.proofs.Common.{◌≡◌, ◌==◌, inl, inr, ℕ, true, false, List, [], ◌∷◌, ◌++◌, take, drop, Option, Some, None, IsSome, IfSome, Ok, Err, arith, refl, sym, ap, ◌∙◌, subst}
+use Rattle.std.specs.List.{list_any}
 use Rattle.std.specs.Option.{option_map, option_and_then}
 use Rattle.std.proofs.lemmas.Bool.{false≢true}
 use Rattle.std.proofs.lemmas.List.{append-nil}
 use Rattle.stx_base.specs.Course.{Begins}
 use Rattle.stx_base.specs.StandardLimits.{standard_limits}
 use Rattle.stx_base.specs.declared.fault.SheetFault.{SheetFault}
-use Rattle.stx_host.specs.Before.{before, main_read}
+use Rattle.stx_host.specs.Before.{before, is_main_read, main_read}
 use Rattle.stx_host.specs.Outside.{Outside, Rose, document, place}
 use Rattle.stx_host.specs.declared.act.Act.{Act}
 use Rattle.stx_host.specs.declared.act.Doc.{Doc}
 use Rattle.stx_host.proofs.Stretches.{between_joins, main_reads_join, main_read-append, nothing_between}
 use Rattle.stx_engine.specs.Answer.{Answer, Run, answer, answered, asked, outcome_of, result_of, run_answer, run_on, sheet_answer, sheet_named, words_answer}
-use Rattle.stx_engine.specs.Driving.{CountsBy, Drives, FailedAt, IsSettledAt, SameCounts, UnlessFailed}
+use Rattle.stx_engine.specs.Driving.{CountsBy, Drives, EndOnce, FailedAt, IsSettledAt, SameCounts, UnlessFailed, main_gots}
 use Rattle.stx_engine.specs.Line.{line_of, status_of}
-use Rattle.stx_engine.specs.Loading.{LoadActs, LoadAnswers, LoadCounts, opens}
+use Rattle.stx_engine.specs.Loading.{LoadActs, LoadAnswers, LoadCounts, ReadsUndecided, opens}
 use Rattle.stx_engine.specs.Running.{Asks, FailedIn, IsAnswered, OpensNames, RefusesWords, Runs}
 use Rattle.stx_engine.specs.Sheets.{pass_of}
 use Rattle.stx_engine.specs.declared.outcome.HostFault.TheVariants as fault
 use Rattle.stx_engine.specs.declared.outcome.Outcome.{Outcome}
 use Rattle.stx_engine.specs.declared.outcome.Outcome.TheVariants.{Done, Usage, Sheet, Xml, Host, Memory}
 use Rattle.stx_engine.specs.declared.pass.Pass.{Pass}
-use Rattle.stx_engine.proofs.Driven.{opens-append}
-use Rattle.stx_engine.proofs.Loading.{accepted_answer, accepted_asks, no_main_reads, refused_answer}
+use Rattle.stx_engine.proofs.Driven.{main_gots-append, opens-append}
+use Rattle.stx_engine.proofs.Loading.{accepted_answer, accepted_asks, map_some, no_main_gots, no_main_reads, of_any, refused_answer, undecided-then}
 use Rattle.stx_engine.proofs.Prefixes.{begins_all, begins_nothing}
 
 no_counts : (o : Outside) → SameCounts o o
 no_counts o = record { doc = refl; main = refl; out = refl; note = refl }
+
+-- acts without a main read
+none_once : (acts : List Act) → list_any is_main_read acts ≡ false → EndOnce false (main_gots acts)
+none_once acts none = ap (list_any (λ got. got == 0)) (no_main_gots acts none)
 
 -- a run that did nothing
 module _ (words : List (List ℕ)) (o : Outside) where
@@ -36,6 +41,8 @@ module _ (words : List (List ℕ)) (o : Outside) where
     acts = [];
     out = [];
     between = nothing_between o;
+    ended = false;
+    once = refl;
     ids = refl;
     counts = no_counts o;
     failed = tt;
@@ -46,7 +53,9 @@ module _ (words : List (List ℕ)) (o : Outside) where
           reads = λ k is_read. absurd (false≢true is_read);
           prefix = begins_nothing (answer words docs main).out;
           ends = record { output = sym (ap (λ x. x.out) a); line = sym (ap (λ x. x.note) a); code = sym (ap (λ x. x.status) a) };
+          sheet = subst (λ name. IfSome (option_and_then (document docs) name) (λ sheet. ReadsUndecided sheet 0 [])) (sym none) tt;
           opened = ([], begins_nothing (answer words docs main).opened, refl, sym (ap (λ x. x.opened) a));
+          all = λ is. cc;
         };
   }
 
@@ -56,6 +65,8 @@ module _ (words : List (List ℕ)) (o : Outside) where
     acts = [];
     out = [];
     between = nothing_between o;
+    ended = false;
+    once = refl;
     ids = refl;
     counts = refl;
     failed = tt;
@@ -64,7 +75,9 @@ module _ (words : List (List ℕ)) (o : Outside) where
       reads = λ k is_read. absurd (false≢true is_read);
       prefix = begins_nothing (answer words docs main).out;
       ends = tt;
+      sheet = of_any (option_and_then (document docs) (sheet_named words)) (λ sheet. ReadsUndecided sheet 0 []) (λ sheet. tt);
       opened = ([], begins_nothing (answer words docs main).opened, refl, tt);
+      all = λ is. cc;
     };
   }
 
@@ -88,6 +101,15 @@ module _ (words : List (List ℕ)) (name : List ℕ) (named : sheet_named words 
   abbrev doc : Option ℕ
   doc = option_and_then (λ docs. place docs name) old.documents
 
+  -- its bytes
+  abbrev sheet : Option (List ℕ)
+  sheet = option_and_then (λ docs. document docs name) old.documents
+
+  -- what holds of its bytes, where the documents are told
+  of-sheet : (docs : List Doc) (P : List ℕ → Type 0) → old.documents ≡ Some docs → IfSome sheet P → IfSome (option_and_then (document docs) (sheet_named words)) P
+  of-sheet docs P documents holds =
+      subst (λ n. IfSome (option_and_then (document docs) n) P) (sym named) (subst (λ d. IfSome (option_and_then (λ docs. document docs name) d) P) documents holds)
+
   module _ (acts : List Act) where
     -- its document was opened
     opens-name : (o : Outcome) (docs : List Doc) (main : List ℕ) → old.documents ≡ Some docs → opens acts ≡ doc ∷ [] → (docs_is : (front : List (List ℕ)) → front ≡ (answer words docs main).opened → UnlessFailed o (front ≡ (answer words docs main).opened))
@@ -98,11 +120,13 @@ module _ (words : List (List ℕ)) (name : List ℕ) (named : sheet_named words 
 
   -- the sheet is refused
   pub ran-refused : (fault : SheetFault) (acts : List Act) → LoadAnswers (option_map (λ docs. document docs name) old.documents) name (Err (Sheet fault))
-      → LoadActs old new doc (Err (Sheet fault)) acts → LoadCounts old new (Err (Sheet fault)) → Runs words old new (Sheet fault)
+      → LoadActs old new doc sheet (Err (Sheet fault)) acts → LoadCounts old new (Err (Sheet fault)) → Runs words old new (Sheet fault)
   ran-refused fault acts answers did counts = record {
     acts = acts;
     out = [];
     between = did.between;
+    ended = false;
+    once = none_once acts did.no_main_read;
     ids = ids;
     counts = record { doc = counts.doc; main = counts.main; out = counts.out; note = counts.note };
     failed = tt;
@@ -113,20 +137,24 @@ module _ (words : List (List ℕ)) (name : List ℕ) (named : sheet_named words 
           reads = no_main_reads acts [] [] (Asks words docs main) did.no_main_read;
           prefix = begins_nothing (answer words docs main).out;
           ends = record { output = sym (ap (λ x. x.out) a); line = sym (ap (λ x. x.note) a); code = sym (ap (λ x. x.status) a) };
+          sheet = of-sheet docs (λ sheet. ReadsUndecided sheet 0 acts) documents did.undecided;
           opened = elim did.opens [
             | inl is ↦ opens-name acts (Sheet fault) docs main documents is (λ front same. same)
             | inr other ↦ absurd other.1
           ];
+          all = λ is. cc;
         };
   }
 
   -- the host failed on the sheet
   pub ran-unread : (file : List ℕ) (offset : ℕ) (acts : List Act) → file ≡ name
-      → LoadActs old new doc (Err (Host file fault.Doc offset)) acts → LoadCounts old new (Err (Host file fault.Doc offset)) → Runs words old new (Host file fault.Doc offset)
+      → LoadActs old new doc sheet (Err (Host file fault.Doc offset)) acts → LoadCounts old new (Err (Host file fault.Doc offset)) → Runs words old new (Host file fault.Doc offset)
   ran-unread file offset acts is did counts = record {
     acts = acts;
     out = [];
     between = did.between;
+    ended = false;
+    once = none_once acts did.no_main_read;
     ids = ids;
     counts = (counts.doc, record { doc = refl; main = counts.main; out = counts.out; note = counts.note });
     failed = (named ∙ ap Some (sym is), did.fails);
@@ -135,19 +163,23 @@ module _ (words : List (List ℕ)) (name : List ℕ) (named : sheet_named words 
       reads = no_main_reads acts [] [] (Asks words docs main) did.no_main_read;
       prefix = begins_nothing (answer words docs main).out;
       ends = tt;
+      sheet = of-sheet docs (λ sheet. ReadsUndecided sheet 0 acts) documents did.undecided;
       opened = elim did.opens [
         | inl opened ↦ opens-name acts (Host file fault.Doc offset) docs main documents opened (λ front same. tt)
         | inr other ↦ ([], begins_nothing (answer words docs main).opened, other.0, tt)
       ];
+      all = λ is. cc;
     };
   }
 
   -- memory was wanting
-  pub ran-wanting : (acts : List Act) → LoadActs old new doc (Err Memory) acts → LoadCounts old new (Err Memory) → Runs words old new Memory
+  pub ran-wanting : (acts : List Act) → LoadActs old new doc sheet (Err Memory) acts → LoadCounts old new (Err Memory) → Runs words old new Memory
   ran-wanting acts did counts = record {
     acts = acts;
     out = [];
     between = did.between;
+    ended = false;
+    once = none_once acts did.no_main_read;
     ids = ids;
     counts = counts.note;
     failed = tt;
@@ -156,16 +188,18 @@ module _ (words : List (List ℕ)) (name : List ℕ) (named : sheet_named words 
       reads = no_main_reads acts [] [] (Asks words docs main) did.no_main_read;
       prefix = begins_nothing (answer words docs main).out;
       ends = tt;
+      sheet = of-sheet docs (λ sheet. ReadsUndecided sheet 0 acts) documents did.undecided;
       opened = elim did.opens [
         | inl opened ↦ opens-name acts Memory docs main documents opened (λ front same. tt)
         | inr other ↦ ([], begins_nothing (answer words docs main).opened, other.0, tt)
       ];
+      all = λ is. cc;
     };
   }
 
   -- it stopped there
   pub ran-stopped : (o : Outcome) (acts : List Act) → LoadAnswers (option_map (λ docs. document docs name) old.documents) name (Err o)
-      → LoadActs old new doc (Err o) acts → LoadCounts old new (Err o) → Runs words old new o
+      → LoadActs old new doc sheet (Err o) acts → LoadCounts old new (Err o) → Runs words old new o
   ran-stopped (Sheet fault) acts answers did counts = ran-refused fault acts answers did counts
   ran-stopped (Host file fault.Doc offset) acts answers did counts = ran-unread file offset acts answers did counts
   ran-stopped Memory acts answers did counts = ran-wanting acts did counts
@@ -211,11 +245,13 @@ module _ (words : List (List ℕ)) (name : List ℕ) (named : sheet_named words 
 
   -- the document was read through the engine
   pub ran-driven : (mid : Outside) (pass : Pass) (o : Outcome) (acts : List Act) → LoadAnswers (option_map (λ docs. document docs name) old.documents) name (Ok pass)
-      → LoadActs old mid doc (Ok pass) acts → LoadCounts old mid (Ok pass) → Drives standard_limits pass mid new o → Runs words old new o
+      → LoadActs old mid doc sheet (Ok pass) acts → LoadCounts old mid (Ok pass) → Drives standard_limits pass mid new o → Runs words old new o
   ran-driven mid pass o acts answers did counts d = record {
     acts = acts ++ d.acts;
     out = d.out;
     between = between_joins old mid new acts d.acts [] d.out [] [] did.between d.between;
+    ended = d.ended;
+    once = subst (EndOnce d.ended) (sym (main_gots-append acts d.acts ∙ ap (λ l. l ++ main_gots d.acts) (no_main_gots acts did.no_main_read))) d.once;
     ids = ids;
     counts = counts_after mid o (record { doc = counts.doc; main = counts.main; out = counts.out; note = counts.note }) d.counts;
     failed = failed_after o acts d.acts d.out did.main_read d.failed;
@@ -238,10 +274,14 @@ module _ (words : List (List ℕ)) (name : List ℕ) (named : sheet_named words 
               ));
           prefix = subst (Begins d.out) (sym (ap (λ x. x.out) a)) result.prefix;
           ends = answered-by o (answer words docs main) run d.out a result.ends;
+          sheet = of-sheet docs (λ sheet. ReadsUndecided sheet 0 (acts ++ d.acts)) documents
+              (map_some sheet (λ sheet. ReadsUndecided sheet 0 acts) (λ sheet. ReadsUndecided sheet 0 (acts ++ d.acts))
+              (λ bytes so_far. undecided-then bytes 0 acts d.acts so_far d.no_doc_read) did.undecided);
           opened = elim did.opens [
             | inl is ↦ opens-name (acts ++ d.acts) o docs main documents (opens-append acts d.acts ∙ ap (λ l. opens acts ++ l) d.opened ∙ append-nil (opens acts) ∙ is) (λ front same. unless o (front ≡ (answer words docs main).opened) same)
             | inr other ↦ absurd other.1
           ];
+          all = λ done. let to_end = result.all done in (to_end.0, omega (arith, main_read-append acts d.acts, did.main_read, to_end.1));
         };
   } where
     unless : (o : Outcome) (P : Type 0) → P → UnlessFailed o P

@@ -1,21 +1,23 @@
 -- What reading a main document through an engine does to the outside.
-use Rattle.std.specs.Prelude.{◌≡◌, ℕ, ◌-◌, ◌^◌, ◌<◌, min, true, false, List, [], length, take, sum, Some, codes, Ok, Err}
+use Rattle.std.specs.Prelude.{◌≡◌, ℕ, ◌-◌, ◌^◌, ◌<◌, ◌==◌, min, Bool, true, false, if◌then◌else◌, List, [], ◌∷◌, ◌++◌, length, take, sum, Some, codes, Ok, Err}
+use Rattle.std.specs.List.{list_any}
 use Rattle.std.specs.declared.result.Result.{Result}
 use Rattle.stx_base.specs.Course.{Begins}
 use Rattle.stx_base.specs.declared.limits.Limits.{Limits}
 use Rattle.stx_host.specs.Before.{AtMainReads, Between, Taken, main_read}
 use Rattle.stx_host.specs.Outside.{Outside, LaneFault, Rose, wrote}
 use Rattle.stx_host.specs.declared.act.Act.{Act}
+use Rattle.stx_host.specs.declared.act.Act.TheVariants.{Read}
 use Rattle.stx_host.specs.declared.act.Lane.{Lane}
 use Rattle.stx_engine.specs.Answer.{outcome_of, result_of, run_on, settled}
-use Rattle.stx_engine.specs.Loading.{opens}
+use Rattle.stx_engine.specs.Loading.{is_doc_read, opens}
 use Rattle.stx_engine.specs.Meaning.{Unready}
 use Rattle.stx_engine.specs.Tree.{Need}
 use Rattle.stx_engine.specs.declared.driver.Refused.{Refused}
 use Rattle.stx_engine.specs.declared.outcome.HostFault.{HostFault}
 use Rattle.stx_engine.specs.declared.outcome.HostFault.TheVariants as fault
 use Rattle.stx_engine.specs.declared.outcome.Outcome.{Outcome}
-use Rattle.stx_engine.specs.declared.outcome.Outcome.TheVariants.{Usage, Sheet, Host, Memory}
+use Rattle.stx_engine.specs.declared.outcome.Outcome.TheVariants.{Done, Usage, Sheet, Host, Memory}
 use Rattle.stx_engine.specs.declared.pass.Pass.{Pass}
 
 -- a number of bytes, as it is counted: up to the last value of u64
@@ -82,11 +84,27 @@ EndsAs limits pass main out outcome =
     let run = run_on limits pass main true in
     UnlessFailed outcome ((out ≡ result_of run) × (outcome ≡ outcome_of run.ending))
 
+-- how many bytes each read of the main document gave, in order; none at its end
+abbrev pub main_gots : List Act → List ℕ
+main_gots [] = []
+main_gots (Read id got ∷ acts) = (if id == 0 then got ∷ [] else []) ++ main_gots acts
+main_gots (act ∷ acts) = main_gots acts
+
+-- reads that gave some bytes each, and then, where the document has ended, its end, once
+abbrev pub EndOnce : (ended : Bool) → (gots : List ℕ) → Type 0
+EndOnce false gots = list_any (λ got. got == 0) gots ≡ false
+EndOnce true gots = (front : List ℕ) × (list_any (λ got. got == 0) front ≡ false) × (gots ≡ front ++ 0 ∷ [])
+
+-- a run that is done has read the main document to its end
+abbrev pub ReadsAll : (main : List ℕ) → List Act → (ended : Bool) → Outcome → Type 0
+ReadsAll main acts ended outcome = outcome ≡ Done → (ended ≡ true) × (main_read acts ≡ length main)
+
 -- what was written of a main document's result, at each read and in the end
-pub record WritesResult (limits : Limits) (pass : Pass) (main : List ℕ) (acts : List Act) (out : List ℕ) (outcome : Outcome) : Type 0 where
+pub record WritesResult (limits : Limits) (pass : Pass) (main : List ℕ) (acts : List Act) (ended : Bool) (out : List ℕ) (outcome : Outcome) : Type 0 where
   pub reads : AtMainReads acts out [] (λ taken. IsSettledAt limits pass (take taken.main_read main) taken)
   pub prefix : Begins out (result_of (run_on limits pass main true))
   pub ends : EndsAs limits pass main out outcome
+  pub all : ReadsAll main acts ended outcome
 
 -- what a run did with the main document and to `Out`, and how it ended
 pub record Drives (limits : Limits) (pass : Pass) (old new : Outside) (outcome : Outcome) : Type 0 where
@@ -94,7 +112,10 @@ pub record Drives (limits : Limits) (pass : Pass) (old new : Outside) (outcome :
   pub out : List ℕ
   pub between : Between old new acts out []
   pub opened : opens acts ≡ []
+  pub no_doc_read : list_any is_doc_read acts ≡ false
+  pub ended : Bool
+  pub once : EndOnce ended (main_gots acts)
   pub ids : new.open_ids ≡ old.open_ids
   pub counts : CountsBy outcome old new
   pub failed : FailedAt outcome acts out
-  pub told : (main : List ℕ) → old.to_come 0 ≡ Some main → WritesResult limits pass main acts out outcome
+  pub told : (main : List ℕ) → old.to_come 0 ≡ Some main → WritesResult limits pass main acts ended out outcome

@@ -1,5 +1,5 @@
 -- What the loading of a sheet answers, and what it does to the outside.
-use Rattle.std.specs.Prelude.{◌≡◌, ℕ, ◌+◌, Bool, true, false, ◌==◌, ◌⊎◌, if◌then◌else◌, List, [], ◌∷◌, ◌++◌, map, sum, Option, Some, None, IsSome, IfSome, Ok, Err}
+use Rattle.std.specs.Prelude.{◌≡◌, ℕ, ◌+◌, ◌<◌, Bool, true, false, not, ◌==◌, ◌⊎◌, if◌then◌else◌, List, [], ◌∷◌, ◌++◌, map, sum, take, Option, Some, None, IsSome, IfSome, Ok, Err}
 use Rattle.std.specs.List.{list_any}
 use Rattle.std.specs.declared.result.Result.{Result}
 use Rattle.stx_base.specs.declared.fault.SheetCode.{SheetCode}
@@ -74,6 +74,20 @@ abbrev pub is_write : Act → Bool
 is_write (Write lane len) = true
 is_write act = false
 
+-- whether an act is a read of a document, other than the main one
+abbrev pub is_doc_read : Act → Bool
+is_doc_read (Read id got) = not (id == 0)
+is_doc_read act = false
+
+-- Each read of a sheet comes where it isn't decided yet: the bytes read of it before begin one that is accepted, and its end
+-- isn't known. So many bytes were read before all of these acts.
+abbrev pub ReadsUndecided : (sheet : List ℕ) → (read : ℕ) → List Act → Type 0
+ReadsUndecided sheet read [] = Unit {0}
+ReadsUndecided sheet read (Read id got ∷ acts) =
+    (0 < id → BeginsSheet (take read sheet) × (got ≡ 0 → list_any is_doc_read acts ≡ false))
+    × ReadsUndecided sheet (read + (if id == 0 then 0 else got)) acts
+ReadsUndecided sheet read (act ∷ acts) = ReadsUndecided sheet read acts
+
 -- a failure of the host is told to have come after this many bytes
 abbrev pub FailsAfter : Result Pass Outcome → ℕ → Type 0
 FailsAfter (Err (Host file fault offset)) n = offset ≡ n
@@ -89,19 +103,21 @@ ComesFirst answer = ⊥
 abbrev pub OpensSheet : Option ℕ → Result Pass Outcome → List (Option ℕ) → Type 0
 OpensSheet place answer opened = (opened ≡ place ∷ []) ⊎ ((opened ≡ []) × ComesFirst answer)
 
--- What loading does, where this is the place of the sheet's document: it opens no other, reads nothing of the main
--- document, and gives the lanes nothing.
-pub record LoadActs (old new : Outside) (place : Option ℕ) (answer : Result Pass Outcome) (acts : List Act) : Type 0 where
+-- What loading does, where these are the place of the sheet's document and its bytes: it opens no other, reads no further than
+-- it takes to decide, reads nothing of the main document, and gives the lanes nothing.
+pub record LoadActs (old new : Outside) (place : Option ℕ) (sheet : Option (List ℕ)) (answer : Result Pass Outcome) (acts : List Act) : Type 0 where
   pub between : Between old new acts [] []
   pub no_write : list_any is_write acts ≡ false
   pub no_main_read : list_any is_main_read acts ≡ false
   pub main_read : main_read acts ≡ 0
   pub opens : OpensSheet place answer (opens acts)
+  pub undecided : IfSome sheet (λ bytes. ReadsUndecided bytes 0 acts)
   pub fails : FailsAfter answer (read_of_opened acts)
 
--- what reading an open document does: reads of it alone, of these lengths
+-- what reading an open document does: reads of it alone, of these lengths, and no more than it takes to decide
 pub record ReadActs (old new : Outside) (id : ℕ) (answer : Result Pass Outcome) (lens : List ℕ) : Type 0 where
   pub between : Between old new (reads id lens) [] []
+  pub undecided : IfSome (old.to_come id) (λ bytes. ReadsUndecided bytes 0 (reads id lens))
   pub fails : FailsAfter answer (sum lens)
 
 -- the count of documents rises where the answer is a failure of the host, and else stays

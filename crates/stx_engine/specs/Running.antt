@@ -1,16 +1,17 @@
 -- What a run of the program does to the outside, before its last line is written.
-use Rattle.std.specs.Prelude.{◌≡◌, ℕ, ◌<◌, ◌⊎◌, ◌==◌, if◌then◌else◌, List, [], length, map, take, sum, Some, None, IsSome}
+use Rattle.std.specs.Prelude.{◌≡◌, ℕ, ◌<◌, ◌⊎◌, ◌==◌, Bool, if◌then◌else◌, List, [], length, map, take, sum, Some, None, IsSome, IfSome}
+use Rattle.std.specs.Option.{option_and_then}
 use Rattle.stx_base.specs.Course.{Begins}
 use Rattle.stx_base.specs.StandardLimits.{standard_limits}
 use Rattle.stx_host.specs.Before.{AtMainReads, Between, Taken}
-use Rattle.stx_host.specs.Outside.{Outside, NoteFault, place, wrote}
+use Rattle.stx_host.specs.Outside.{Outside, NoteFault, document, place, wrote}
 use Rattle.stx_host.specs.declared.act.Act.{Act}
 use Rattle.stx_host.specs.declared.act.Doc.{Doc}
 use Rattle.stx_host.specs.declared.act.Lane.TheVariants.{Note}
 use Rattle.stx_engine.specs.Answer.{Answer, answer, asked, sheet_named}
-use Rattle.stx_engine.specs.Driving.{CountsBy, FailedAt, IsSettledAt, UnlessFailed}
+use Rattle.stx_engine.specs.Driving.{CountsBy, EndOnce, FailedAt, IsSettledAt, ReadsAll, UnlessFailed, main_gots}
 use Rattle.stx_engine.specs.Line.{line_of, status_of}
-use Rattle.stx_engine.specs.Loading.{opens, read_of_opened}
+use Rattle.stx_engine.specs.Loading.{ReadsUndecided, opens, read_of_opened}
 use Rattle.stx_engine.specs.declared.outcome.HostFault.TheVariants as fault
 use Rattle.stx_engine.specs.declared.outcome.Outcome.{Outcome}
 use Rattle.stx_engine.specs.declared.outcome.Outcome.TheVariants.{Usage, Sheet, Host, Memory}
@@ -46,23 +47,31 @@ abbrev pub OpensNames : List Doc → (names : List (List ℕ)) → Outcome → L
 OpensNames docs names outcome acts =
     (front : List (List ℕ)) × Begins front names × (opens acts ≡ map (place docs) front) × UnlessFailed outcome (front ≡ names)
 
+-- the sheet that the words name is read no further than it takes to decide
+abbrev pub ReadsSheet : (words : List (List ℕ)) → List Doc → List Act → Type 0
+ReadsSheet words docs acts = IfSome (option_and_then (document docs) (sheet_named words)) (λ sheet. ReadsUndecided sheet 0 acts)
+
 -- what a run did where the host tells the documents and the main document
-pub record RunsTold (words : List (List ℕ)) (docs : List Doc) (main : List ℕ) (acts : List Act) (out : List ℕ) (outcome : Outcome) : Type 0 where
+pub record RunsTold (words : List (List ℕ)) (docs : List Doc) (main : List ℕ) (acts : List Act) (ended : Bool) (out : List ℕ) (outcome : Outcome) : Type 0 where
   pub reads : AtMainReads acts out [] (Asks words docs main)
   pub prefix : Begins out (answer words docs main).out
   pub ends : UnlessFailed outcome (IsAnswered out outcome (answer words docs main))
+  pub sheet : ReadsSheet words docs acts
   pub opened : OpensNames docs (answer words docs main).opened outcome acts
+  pub all : ReadsAll main acts ended outcome
 
 -- what a run did, and how it ended
 pub record Runs (words : List (List ℕ)) (old new : Outside) (outcome : Outcome) : Type 0 where
   pub acts : List Act
   pub out : List ℕ
   pub between : Between old new acts out []
+  pub ended : Bool
+  pub once : EndOnce ended (main_gots acts)
   pub ids : new.open_ids ≡ old.open_ids
   pub counts : CountsBy outcome old new
   pub failed : FailedIn words outcome acts out
   pub refuses : RefusesWords words outcome
-  pub told : (docs : List Doc) (main : List ℕ) → old.documents ≡ Some docs → old.to_come 0 ≡ Some main → RunsTold words docs main acts out outcome
+  pub told : (docs : List Doc) (main : List ℕ) → old.documents ≡ Some docs → old.to_come 0 ≡ Some main → RunsTold words docs main acts ended out outcome
 
 -- the status where the line couldn't be written: want of memory stays
 abbrev pub unwritten_status : ℕ → ℕ

@@ -6,7 +6,7 @@ ghost use Rattle.stx_host.specs.declared.act.Doc.{Doc};
 ghost use Rattle.stx_engine.specs.Answer.{answer};
 ghost use Rattle.stx_engine.specs.Driving.{Drives, FailsBy, WritesOn};
 ghost use Rattle.stx_engine.specs.Engine.{GoesOn, IsWaiting, Means};
-ghost use Rattle.stx_engine.specs.Headline.{AsksSettled, GivesAnswer, IsStatus, NotesAfterFailure, OpensFirst, RefusesUnnamed, Tells};
+ghost use Rattle.stx_engine.specs.Headline.{AsksSettled, DecidesSheet, GivesAnswer, IsStatus, NotesAfterFailure, OpensFirst, ReadsToEnd, RefusesUnnamed, Tells};
 ghost use Rattle.stx_engine.specs.Nesting.{EndsHaveStarts};
 ghost use Rattle.stx_engine.specs.Running.{Reports, Runs};
 ghost use Rattle.stx_engine.specs.Words.{characters};
@@ -32,16 +32,20 @@ const MEMORY_WANTING: u8 = 7;
 /// document has a fault, 5 where the host failed, 7 where memory was wanting. What stopped the run stands in one line
 /// on the lane `Note`.
 pub fn transform<H: Host>(alloc: Global, words: &[String], host: &mut H) -> u8
-    // Where no call of the host failed and memory sufficed, the lanes and the status are exactly the answer.
+    // Where no count of faults rose and memory sufficed, the lanes and the status are exactly the answer.
     ensures answer { (docs : List Doc) (main : List ℕ) → Tells (H.outside host.old) docs main → GivesAnswer (H.outside host.old) (H.outside host.new) result (answer (characters words.now) docs main) }
     // Whenever the main document is read, exactly what the bytes read so far settle was written, and more is needed.
     ensures reads { (docs : List Doc) (main : List ℕ) → Tells (H.outside host.old) docs main → AsksSettled (H.outside host.old) (H.outside host.new) (characters words.now) docs main }
+    // Where the status is 0 the main document was read to its end; once its end is known it isn't read any more.
+    ensures ends { (docs : List Doc) (main : List ℕ) → Tells (H.outside host.old) docs main → ReadsToEnd (H.outside host.old) (H.outside host.new) main result }
     // After any stop the output is a beginning of the answer's.
     ensures prefix { (docs : List Doc) (main : List ℕ) → Tells (H.outside host.old) docs main → Begins (since (H.outside host.old).out (H.outside host.new).out) (answer (characters words.now) docs main).out }
     // No end tag in it lacks its start tag.
     ensures nested { (docs : List Doc) (main : List ℕ) → Tells (H.outside host.old) docs main → EndsHaveStarts (since (H.outside host.old).out (H.outside host.new).out) }
     // Only documents that the answer opens are opened, in its order.
     ensures opened { (docs : List Doc) (main : List ℕ) → Tells (H.outside host.old) docs main → OpensFirst docs (answer (characters words.now) docs main).opened result (since (H.outside host.old).log (H.outside host.new).log) }
+    // The sheet is read no further than it takes to decide whether it is accepted.
+    ensures sheet { (docs : List Doc) (main : List ℕ) → Tells (H.outside host.old) docs main → DecidesSheet (H.outside host.old) (H.outside host.new) (characters words.now) docs }
     // Where the host failed or memory was wanting, the line says which and where.
     ensures failure { (docs : List Doc) (main : List ℕ) → Tells (H.outside host.old) docs main → NotesAfterFailure (H.outside host.old) (H.outside host.new) (characters words.now) result (answer (characters words.now) docs main) }
     // For every host, whatever it tells: the statuses that there are, when words are refused, and that each id is given back.

@@ -68,7 +68,7 @@ fn begins_sheet(bytes: &[u8]) -> bool
 /// takes to decide.
 pub fn load_sheet<H: Host>(alloc: Global, host: &mut H, name: &Text) -> Result<Pass, Outcome>
     ensures answer { LoadAnswers (option_map (λ docs. document docs name.now) (H.outside host.old).documents) name.now result }
-    ensures acts { (acts : List Act) × LoadActs (H.outside host.old) (H.outside host.new) (option_and_then (λ docs. place docs name.now) (H.outside host.old).documents) result acts }
+    ensures acts { (acts : List Act) × LoadActs (H.outside host.old) (H.outside host.new) (option_and_then (λ docs. place docs name.now) (H.outside host.old).documents) (option_and_then (λ docs. document docs name.now) (H.outside host.old).documents) result acts }
     ensures counts { LoadCounts (H.outside host.old) (H.outside host.new) result }
     ensures ids { (H.outside host.new).open_ids ≡ (H.outside host.old).open_ids }
 {

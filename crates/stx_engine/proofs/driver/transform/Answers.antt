@@ -4,7 +4,7 @@ use Rattle.stx_engine.specs.Line.{line_of, status_of}
 use Rattle.stx_engine.specs.Running.{Reports}
 use Rattle.stx_engine.specs.Words.{characters}
 use Rattle.stx_engine.specs.declared.outcome.Outcome.TheVariants.{Memory}
-use Rattle.stx_engine.proofs.Headed.{ran-wanting-line, gives_answer, asks_settled, begins_output, opens_first, notes_failure, is_status, refuses_unnamed, gives_ids_back}
+use Rattle.stx_engine.proofs.Headed.{ran-wanting-line, gives_answer, reads_to_end, decides_sheet, asks_settled, begins_output, opens_first, notes_failure, is_status, refuses_unnamed, gives_ids_back}
 use Rattle.stx_engine.proofs.Nesting.{answer-matches}
 use Rattle.stx_engine.proofs.driver.transform.Goals as goal
 
@@ -27,6 +27,16 @@ returns-in-Ok-clause-reads g c = λ docs main tells.
     let mid = g.H.Host.outside c.run-outcome.new.host in
     let new = g.H.Host.outside c.report.new.host in
     asks_settled words old mid new c.run-outcome.result c.run-outcome.ensures c.report.result
+    (subst (λ line. Reports mid line (status_of c.run-outcome.result) new c.report.result) (c.as_str.ensures.value ∙ c.in-Ok.ensures)
+    (subst (λ status. Reports mid c.as_str.result.now status new c.report.result) c.status.ensures c.report.ensures)) docs main tells
+
+pub returns-in-Ok-clause-ends : goal.returns-in-Ok-clause-ends
+returns-in-Ok-clause-ends g c = λ docs main tells.
+    let words = characters c.args.words.now in
+    let old = g.H.Host.outside c.args.host.now in
+    let mid = g.H.Host.outside c.run-outcome.new.host in
+    let new = g.H.Host.outside c.report.new.host in
+    reads_to_end words old mid new c.run-outcome.result c.run-outcome.ensures c.report.result
     (subst (λ line. Reports mid line (status_of c.run-outcome.result) new c.report.result) (c.as_str.ensures.value ∙ c.in-Ok.ensures)
     (subst (λ status. Reports mid c.as_str.result.now status new c.report.result) c.status.ensures c.report.ensures)) docs main tells
 
@@ -58,6 +68,16 @@ returns-in-Ok-clause-opened g c = λ docs main tells.
     let mid = g.H.Host.outside c.run-outcome.new.host in
     let new = g.H.Host.outside c.report.new.host in
     opens_first words old mid new c.run-outcome.result c.run-outcome.ensures c.report.result
+    (subst (λ line. Reports mid line (status_of c.run-outcome.result) new c.report.result) (c.as_str.ensures.value ∙ c.in-Ok.ensures)
+    (subst (λ status. Reports mid c.as_str.result.now status new c.report.result) c.status.ensures c.report.ensures)) docs main tells
+
+pub returns-in-Ok-clause-sheet : goal.returns-in-Ok-clause-sheet
+returns-in-Ok-clause-sheet g c = λ docs main tells.
+    let words = characters c.args.words.now in
+    let old = g.H.Host.outside c.args.host.now in
+    let mid = g.H.Host.outside c.run-outcome.new.host in
+    let new = g.H.Host.outside c.report.new.host in
+    decides_sheet words old mid new c.run-outcome.result c.run-outcome.ensures c.report.result
     (subst (λ line. Reports mid line (status_of c.run-outcome.result) new c.report.result) (c.as_str.ensures.value ∙ c.in-Ok.ensures)
     (subst (λ status. Reports mid c.as_str.result.now status new c.report.result) c.status.ensures c.report.ensures)) docs main tells
 
@@ -121,6 +141,15 @@ returns-clause-reads g c = λ docs main tells.
     asks_settled words old mid new Memory (ran-wanting-line words old mid c.run-outcome.result c.run-outcome.ensures) c.report-in-Err.result
     (subst (λ status. Reports mid (line_of Memory) status new c.report-in-Err.result) c.status-in-Err.ensures c.report-in-Err.ensures) docs main tells
 
+pub returns-clause-ends : goal.returns-clause-ends
+returns-clause-ends g c = λ docs main tells.
+    let words = characters c.args.words.now in
+    let old = g.H.Host.outside c.args.host.now in
+    let mid = g.H.Host.outside c.run-outcome.new.host in
+    let new = g.H.Host.outside c.report-in-Err.new.host in
+    reads_to_end words old mid new Memory (ran-wanting-line words old mid c.run-outcome.result c.run-outcome.ensures) c.report-in-Err.result
+    (subst (λ status. Reports mid (line_of Memory) status new c.report-in-Err.result) c.status-in-Err.ensures c.report-in-Err.ensures) docs main tells
+
 pub returns-clause-prefix : goal.returns-clause-prefix
 returns-clause-prefix g c = λ docs main tells.
     let words = characters c.args.words.now in
@@ -147,6 +176,15 @@ returns-clause-opened g c = λ docs main tells.
     let mid = g.H.Host.outside c.run-outcome.new.host in
     let new = g.H.Host.outside c.report-in-Err.new.host in
     opens_first words old mid new Memory (ran-wanting-line words old mid c.run-outcome.result c.run-outcome.ensures) c.report-in-Err.result
+    (subst (λ status. Reports mid (line_of Memory) status new c.report-in-Err.result) c.status-in-Err.ensures c.report-in-Err.ensures) docs main tells
+
+pub returns-clause-sheet : goal.returns-clause-sheet
+returns-clause-sheet g c = λ docs main tells.
+    let words = characters c.args.words.now in
+    let old = g.H.Host.outside c.args.host.now in
+    let mid = g.H.Host.outside c.run-outcome.new.host in
+    let new = g.H.Host.outside c.report-in-Err.new.host in
+    decides_sheet words old mid new Memory (ran-wanting-line words old mid c.run-outcome.result c.run-outcome.ensures) c.report-in-Err.result
     (subst (λ status. Reports mid (line_of Memory) status new c.report-in-Err.result) c.status-in-Err.ensures c.report-in-Err.ensures) docs main tells
 
 pub returns-clause-failure : goal.returns-clause-failure

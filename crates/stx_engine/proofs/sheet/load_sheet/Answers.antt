@@ -29,7 +29,9 @@ returns-in-Id-clause-acts g c =
     let new = g.H.Host.outside c.close.new.self in
     let name = c.args.name.now in
     let acts = c.read_sheet-sheet.ensures.acts in
-    load_acts old mid now new (option_and_then (λ docs. place docs name) old.documents) c.in-Id.id c.read_sheet-sheet.result acts.0 c.in-Id.ensures.answer.above_zero
+    let here = ap (λ o. o.to_come c.in-Id.id) c.in-Id.ensures.change ∙ with_here old.to_come c.in-Id.id (option_and_then (λ docs. document docs name) old.documents) in
+    load_acts old mid now new (option_and_then (λ docs. place docs name) old.documents) (option_and_then (λ docs. document docs name) old.documents) c.in-Id.id c.read_sheet-sheet.result acts.0
+    c.in-Id.ensures.answer.above_zero here
     (between_open old mid name (Id c.in-Id.id) c.in-Id.ensures.answer c.in-Id.ensures.change) acts.1 c.close.ensures
 
 pub returns-in-Id-clause-ids : goal.returns-in-Id-clause-ids
@@ -43,8 +45,9 @@ returns-in-Failed-clause-acts g c =
     let new = g.H.Host.outside c.open.new.self in
     let name = c.args.name.now in
     let at = option_and_then (λ docs. place docs name) old.documents in
-    subst (λ (o : Outcome). (acts : List Act) × LoadActs old new at (Err o) acts) (sym c.failure.ensures)
-    (no_acts old new at (Err (Host c.in-Ok.file Doc 0)) (between_open old new name Failed tt c.in-Failed.ensures.change) (inr (refl, refl)) refl)
+    let sheet = option_and_then (λ docs. document docs name) old.documents in
+    subst (λ (o : Outcome). (acts : List Act) × LoadActs old new at sheet (Err o) acts) (sym c.failure.ensures)
+    (no_acts old new at sheet (Err (Host c.in-Ok.file Doc 0)) (between_open old new name Failed tt c.in-Failed.ensures.change) (inr (refl, refl)) refl)
 
 pub returns-in-Memory-clause-acts : goal.returns-in-Memory-clause-acts
 returns-in-Memory-clause-acts g c =
@@ -52,4 +55,4 @@ returns-in-Memory-clause-acts g c =
     let new = g.H.Host.outside c.open.new.self in
     let name = c.args.name.now in
     let at = option_and_then (λ docs. place docs name) old.documents in
-    no_acts old new at (Err Memory) (between_open old new name NoRoom tt c.in-Memory.ensures.change) (inr (refl, tt)) tt
+    no_acts old new at (option_and_then (λ docs. document docs name) old.documents) (Err Memory) (between_open old new name NoRoom tt c.in-Memory.ensures.change) (inr (refl, tt)) tt

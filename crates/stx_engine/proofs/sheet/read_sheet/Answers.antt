@@ -2,7 +2,7 @@ use Rattle.std.proofs.Common.{◌≡◌, ℕ, List, ◌++◌, take, Some, None, 
 use Rattle.std.specs.Prelude.{if◌then◌else◌}
 use Rattle.std.specs.Option.{option_map}
 use Rattle.stx_base.specs.declared.fault.SheetCode.TheVariants as code
-use Rattle.stx_engine.specs.Loading.{LoadAnswers, ReadActs, accepted, refusal}
+use Rattle.stx_engine.specs.Loading.{BeginsSheet, LoadAnswers, ReadActs, accepted, refusal}
 use Rattle.stx_engine.specs.Sheets.{pass_of}
 use Rattle.stx_engine.specs.declared.outcome.Outcome.{Outcome}
 use Rattle.stx_engine.proofs.Forms.{none_begins}
@@ -17,7 +17,8 @@ loop-room-preserved g c =
     let more : c.extend_from_slice.new.self.items ≡ read ++ take c.in-Bytes.got c.read.new.room =
     c.extend_from_slice.ensures.items ∙ ap (λ b. if b then read ++ take c.in-Bytes.got c.read.new.room else read) c.if-is_err.ensures.negation in
     record {
-      read = read_more (g.H.Host.outside c.args.host.now) now new c.args.id c.in-Bytes.got read c.read.new.room c.extend_from_slice.new.self.items c.loop-room.invariant.read c.in-Bytes.ensures.answer c.in-Bytes.ensures.change more;
+      read = read_more (g.H.Host.outside c.args.host.now) now new c.args.id c.in-Bytes.got read c.read.new.room c.extend_from_slice.new.self.items c.requires.above_zero
+          (subst BeginsSheet c.as_slice.ensures.value (c.begins_sheet.ensures.begins.0 c.loop-room-test.true)) c.loop-room.invariant.read c.in-Bytes.ensures.answer c.in-Bytes.ensures.change more;
       file = c.loop-room.invariant.file;
     }
 
@@ -26,26 +27,27 @@ returns-then-is_err-clause-acts g c =
     let now = g.H.Host.outside c.loop-room.host in
     let new = g.H.Host.outside c.read.new.self in
     let read = c.loop-room.bytes.items in
-    let more = read_more (g.H.Host.outside c.args.host.now) now new c.args.id c.in-Bytes.got read c.read.new.room (read ++ take c.in-Bytes.got c.read.new.room) c.loop-room.invariant.read c.in-Bytes.ensures.answer c.in-Bytes.ensures.change refl in
-    (more.lens, record { between = more.between; fails = tt })
+    let more = read_more (g.H.Host.outside c.args.host.now) now new c.args.id c.in-Bytes.got read c.read.new.room (read ++ take c.in-Bytes.got c.read.new.room) c.requires.above_zero
+    (subst BeginsSheet c.as_slice.ensures.value (c.begins_sheet.ensures.begins.0 c.loop-room-test.true)) c.loop-room.invariant.read c.in-Bytes.ensures.answer c.in-Bytes.ensures.change refl in
+    (more.lens, record { between = more.between; undecided = more.undecided; fails = tt })
 
 pub returns-in-Some-clause-answer : goal.returns-in-Some-clause-answer
 returns-in-Some-clause-answer g c =
     let bytes = c.loop-room.bytes.items in
-    let whole = read_end (g.H.Host.outside c.args.host.now) (g.H.Host.outside c.loop-room.host) (g.H.Host.outside c.read.new.self) c.args.id bytes c.loop-room.invariant.read c.in-End.ensures.answer c.in-End.ensures.change in
+    let whole = read_end (g.H.Host.outside c.args.host.now) (g.H.Host.outside c.loop-room.host) (g.H.Host.outside c.read.new.self) c.args.id bytes c.requires.above_zero (subst BeginsSheet c.as_slice.ensures.value (c.begins_sheet.ensures.begins.0 c.loop-room-test.true)) c.loop-room.invariant.read c.in-End.ensures.answer c.in-End.ensures.change in
     let gives : pass_of bytes ≡ Some c.in-Some.pass = ap pass_of (sym c.as_slice-in-End.ensures.value) ∙ sym c.pass_of.ensures ∙ c.in-Some.is in
     record { sheet = Some bytes; told_of = whole.told; gives = sym (ap (accepted c.args.file) gives) }
 
 pub returns-in-Some-clause-acts : goal.returns-in-Some-clause-acts
 returns-in-Some-clause-acts g c =
-    let whole = read_end (g.H.Host.outside c.args.host.now) (g.H.Host.outside c.loop-room.host) (g.H.Host.outside c.read.new.self) c.args.id c.loop-room.bytes.items c.loop-room.invariant.read c.in-End.ensures.answer c.in-End.ensures.change in
-    (whole.lens, record { between = whole.between; fails = tt })
+    let whole = read_end (g.H.Host.outside c.args.host.now) (g.H.Host.outside c.loop-room.host) (g.H.Host.outside c.read.new.self) c.args.id c.loop-room.bytes.items c.requires.above_zero (subst BeginsSheet c.as_slice.ensures.value (c.begins_sheet.ensures.begins.0 c.loop-room-test.true)) c.loop-room.invariant.read c.in-End.ensures.answer c.in-End.ensures.change in
+    (whole.lens, record { between = whole.between; undecided = whole.undecided; fails = tt })
 
 pub returns-in-None-clause-answer : goal.returns-in-None-clause-answer
 returns-in-None-clause-answer g c =
     let old = g.H.Host.outside c.args.host.now in
     let bytes = c.loop-room.bytes.items in
-    let whole = read_end old (g.H.Host.outside c.loop-room.host) (g.H.Host.outside c.read.new.self) c.args.id bytes c.loop-room.invariant.read c.in-End.ensures.answer c.in-End.ensures.change in
+    let whole = read_end old (g.H.Host.outside c.loop-room.host) (g.H.Host.outside c.read.new.self) c.args.id bytes c.requires.above_zero (subst BeginsSheet c.as_slice.ensures.value (c.begins_sheet.ensures.begins.0 c.loop-room-test.true)) c.loop-room.invariant.read c.in-End.ensures.answer c.in-End.ensures.change in
     let gives : pass_of bytes ≡ None = ap pass_of (sym c.as_slice-in-End.ensures.value) ∙ sym c.pass_of.ensures ∙ c.in-None.is in
     let is : c.refusal.result ≡ refusal c.args.file code.NotBuilt = c.refusal.ensures ∙ ap (λ f. refusal f code.NotBuilt) c.loop-room.invariant.file in
     subst (λ (o : Outcome). LoadAnswers (option_map (λ all. Some all) (old.to_come c.args.id)) c.args.file (Err o)) (sym is)
@@ -55,8 +57,8 @@ pub returns-in-None-clause-acts : goal.returns-in-None-clause-acts
 returns-in-None-clause-acts g c =
     let old = g.H.Host.outside c.args.host.now in
     let new = g.H.Host.outside c.read.new.self in
-    let whole = read_end old (g.H.Host.outside c.loop-room.host) new c.args.id c.loop-room.bytes.items c.loop-room.invariant.read c.in-End.ensures.answer c.in-End.ensures.change in
-    subst (λ (o : Outcome). (lens : List ℕ) × ReadActs old new c.args.id (Err o) lens) (sym c.refusal.ensures) (whole.lens, record { between = whole.between; fails = tt })
+    let whole = read_end old (g.H.Host.outside c.loop-room.host) new c.args.id c.loop-room.bytes.items c.requires.above_zero (subst BeginsSheet c.as_slice.ensures.value (c.begins_sheet.ensures.begins.0 c.loop-room-test.true)) c.loop-room.invariant.read c.in-End.ensures.answer c.in-End.ensures.change in
+    subst (λ (o : Outcome). (lens : List ℕ) × ReadActs old new c.args.id (Err o) lens) (sym c.refusal.ensures) (whole.lens, record { between = whole.between; undecided = whole.undecided; fails = tt })
 
 pub returns-clause-answer : goal.returns-clause-answer
 returns-clause-answer g c =
