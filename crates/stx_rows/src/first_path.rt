@@ -4,6 +4,7 @@ use crate::row::{Given, HEAD, SHEET};
 use crate::table::{PASS_ALL, REFUSALS, ROWS};
 use std::alloc::Global;
 use std::test::Fail;
+use stx_host::Act;
 
 fn with_head(alloc: Global, content: &str) -> Result<String, Fail> {
     Ok(format!(in alloc; "{HEAD}{content}")?)
@@ -88,5 +89,32 @@ fn refusals(rt: HostRuntime) -> Result<(), Fail> {
         assert!(rt; ran.host.out.is_empty(), "{note}");
         assert!(rt; before.is_empty(), "{note}");
     }
+    Ok(())
+}
+
+// A document is asked for in pieces of at most 4,096 bytes.
+#[test]
+fn pieces(rt: HostRuntime) -> Result<(), Fail> {
+    let alloc = rt.alloc();
+    let mut main = String::from_str(alloc, "<a>")?;
+    for _ in 0..5000 {
+        main.push('x')?;
+    }
+    main.push_str("</a>")?;
+    let given = Given {
+        words: &[SHEET],
+        sheet: Some(PASS_ALL),
+        main: main.as_str(),
+        in_bytes: false,
+    };
+    let ran = given.run(alloc)?;
+    let mut gots = Vec::new(alloc);
+    for act in &ran.host.log {
+        if let Act::Read { id: 0, got } = act {
+            gots.push(*got)?;
+        }
+    }
+    assert_eq!(rt; ran.status, 0);
+    assert_eq!(rt; gots.as_slice(), [4096, 911, 0].as_slice());
     Ok(())
 }

@@ -11,3 +11,5 @@ mod plain_rows;
 mod row;
 #[cfg(test)]
 mod table;
+#[cfg(test)]
+mod wanting;
