@@ -1,5 +1,5 @@
 -- What a host in memory tells, and where its calls fail.
-use Rattle.std.specs.Prelude.{◌≡◌, ◌≢◌, ◌+◌, ◌-◌, ◌^◌, ◌<◌, ◌≤◌, ◌⊎◌, max, IsSome, Contains, vec_len, vec_capacity, [], ◌∷◌, ◌++◌, length, ℕ, ◌==◌, List, take, drop, find, min, IfSome, slice_get, Option, Some, None, option_map, if◌then◌else◌}
+use Rattle.std.specs.Prelude.{◌≡◌, ◌≢◌, ◌+◌, ◌-◌, ◌<◌, ◌≤◌, ◌⊎◌, max, IsSome, Contains, vec_len, vec_capacity, [], ◌∷◌, ◌++◌, length, ℕ, ◌==◌, List, take, drop, find, min, IfSome, slice_get, Option, Some, None, option_map, if◌then◌else◌}
 use Rattle.std.specs.Option.{option_and_then, option_map_or}
 use Rattle.stx_host.specs.declared.act.Act.{Act}
 use Rattle.stx_host.specs.declared.act.Act.TheVariants.{Close, Write}
@@ -17,7 +17,7 @@ use Rattle.stx_host.specs.declared.mem_host.Reading.{Reading}
 use Rattle.stx_host.specs.declared.mem_host.MemHost.{MemHost}
 use Rattle.std.specs.declared.alloc.Global.{Global}
 use Rattle.std.specs.declared.vec.Vec.{Vec}
-use Rattle.stx_host.specs.Outside.{Outside, Raises, place}
+use Rattle.stx_host.specs.Outside.{Outside, Raises, one_more, place}
 use Rattle.stx_host.specs.Table.{ids_of, IsEachOpen}
 
 -- the bytes that an open document has left
@@ -76,7 +76,7 @@ calls_so_far host WriteCall = host.calls.write
 
 -- the number of the next call, counted from 1
 abbrev pub next_call : ℕ → ℕ
-next_call so_far = min (so_far + 1) (2 ^ 64 - 1)
+next_call so_far = one_more so_far
 
 -- the next call of this kind is one that is to fail
 abbrev pub IsListed : MemHost → Call → Type 0
@@ -91,12 +91,12 @@ abbrev pub lane_room : MemHost → Lane → ℕ
 lane_room host Out = vec_capacity host.out - vec_len host.out
 lane_room host Note = vec_capacity host.note - vec_len host.note
 
--- room for this many acts, as many ids, and this many bytes in each lane
+-- room for exactly this many acts, as many ids, and this many bytes in each lane
 pub record HasRoom (host : MemHost) (acts bytes : ℕ) : Type 0 where
-  pub for_acts : vec_len host.log + acts ≤ vec_capacity host.log
-  pub for_ids : vec_len host.table.slots + acts ≤ vec_capacity host.table.slots
-  pub for_out : bytes ≤ lane_room host Out
-  pub for_note : bytes ≤ lane_room host Note
+  pub for_acts : vec_capacity host.log ≡ vec_len host.log + acts
+  pub for_ids : vec_capacity host.table.slots ≡ vec_len host.table.slots + acts
+  pub for_out : lane_room host Out ≡ bytes
+  pub for_note : lane_room host Note ≡ bytes
 
 -- no id can be given: there is no room for one more, or every number above 0 is open
 abbrev pub LacksId : MemHost → Type 0
@@ -121,6 +121,15 @@ ReadFails host id = CallFails host (read_call id)
 -- where `write` fails: also where the lane has too little room
 abbrev pub WriteFails : MemHost → Lane → List ℕ → Type 0
 WriteFails host lane bytes = CallFails host WriteCall ⊎ (lane_room host lane < length bytes)
+
+-- how often a read of this id failed: of the main document, or of the others
+abbrev pub read_faults : Outside → ℕ → ℕ
+read_faults o id = if id == 0 then o.main_faults else o.doc_faults
+
+-- how often a write to this lane failed
+abbrev pub write_faults : Outside → Lane → ℕ
+write_faults o Out = o.out_faults
+write_faults o Note = o.note_faults
 
 -- the most that the nth read of the main document gives, where this much fits
 abbrev pub cut_at : List ℕ → ℕ → ℕ → ℕ
@@ -157,4 +166,4 @@ IsCounted call old new = (calls_so_far new call ≡ next_call (calls_so_far old 
 -- what a write to a lane does to the log, the lane and its count, by its answer
 abbrev pub Puts : List Act → List ℕ → ℕ → Lane → List ℕ → Put → List Act → List ℕ → ℕ → Type 0
 Puts log taken faults lane bytes (Took n) log' taken' faults' = (n ≡ length bytes) × (log' ≡ log ++ Write lane n ∷ []) × (taken' ≡ taken ++ bytes) × (faults' ≡ faults)
-Puts log taken faults lane bytes Failed log' taken' faults' = (log' ≡ log) × (taken' ≡ taken) × Raises faults faults'
+Puts log taken faults lane bytes Failed log' taken' faults' = (log' ≡ log) × (taken' ≡ taken) × (faults' ≡ one_more faults) × Raises faults faults'

@@ -1,5 +1,5 @@
 -- What a host tells of the outside, and what its four calls do to that.
-use Rattle.std.specs.Prelude.{◌≡◌, ℕ, ◌-◌, ◌^◌, ◌<◌, ◌≤◌, Bool, false, not, ◌==◌, IsTrue, ◌⊎◌, List, [], ◌∷◌, ◌++◌, length, map, take, drop, filter, position, bytes_eq, slice_get, Option, None, IsSome, IfSome, option_map, if◌then◌else◌}
+use Rattle.std.specs.Prelude.{◌≡◌, ℕ, ◌+◌, ◌-◌, ◌^◌, ◌<◌, ◌≤◌, min, Bool, false, not, ◌==◌, IsTrue, ◌⊎◌, List, [], ◌∷◌, ◌++◌, length, map, take, drop, filter, position, bytes_eq, slice_get, Option, None, IsSome, IfSome, option_map, if◌then◌else◌}
 use Rattle.std.specs.List.{list_any}
 use Rattle.std.specs.Option.{option_and_then}
 use Rattle.stx_host.specs.declared.act.Act.{Act}
@@ -64,6 +64,10 @@ with_bytes to_come id bytes k = if k == id then bytes else to_come k
 -- a count rose: it is greater, or stands at the last value of u64
 abbrev pub Rose : ℕ → ℕ → Type 0
 Rose before now = (before < now) ⊎ (now ≡ 2 ^ 64 - 1)
+
+-- one more, up to the last value of u64
+abbrev pub one_more : ℕ → ℕ
+one_more count = min (count + 1) (2 ^ 64 - 1)
 
 -- what a failing call does to its count
 pub record Raises (before now : ℕ) : Type 0 where

@@ -11,8 +11,13 @@ ids_of slots = map (λ slot. slot.id) slots
 abbrev pub IsEachOpen : List ℕ → Type 0
 IsEachOpen ids = (id : ℕ) → 0 < id → id < 2 ^ 32 → is_among ids id ≡ true
 
--- a slot more, of an id above 0 that wasn't open
-pub record Adds {T : Type 0} (old : List (Slot T)) (id : ℕ) (held : T) (new : List (Slot T)) : Type 0 where
+-- the least number above 0 that isn't open
+pub record IsLeastFree (ids : List ℕ) (id : ℕ) : Type 0 where
   pub above_zero : 0 < id
-  pub not_open : is_among (ids_of old) id ≡ false
+  pub not_open : is_among ids id ≡ false
+  pub lower : (k : ℕ) → 0 < k → k < id → is_among ids k ≡ true
+
+-- a slot more, of the least id that may be given
+pub record Adds {T : Type 0} (old : List (Slot T)) (id : ℕ) (held : T) (new : List (Slot T)) : Type 0 where
+  pub least : IsLeastFree (ids_of old) id
   pub added : new ≡ old ++ record { id = id; held = held } ∷ []

@@ -1,4 +1,5 @@
-ghost use Rattle.stx_host.specs.Outside.{Raises};
+ghost use Rattle.std.specs.Prelude.{◌≡◌};
+ghost use Rattle.stx_host.specs.Outside.{Raises, one_more};
 
 /// How often a host failed, up to the last value of u64.
 #[derive(Clone, Copy, Debug)]
@@ -20,7 +21,8 @@ impl Faults {
 
 /// A count after one more failure.
 pub(crate) fn raised(count: u64) -> u64
-    ensures { Raises count result }
+    ensures raises { Raises count result }
+    ensures exact { result ≡ one_more count }
 {
     count.saturating_add(1)
 }

@@ -1,7 +1,7 @@
 ghost use Rattle.std.specs.Prelude.{◌≡◌, ◌≢◌, ◌-◌, ◌⊎◌, ℕ, ◌+◌, ◌<◌, ◌≤◌, ◌∷◌, [], ◌++◌, length, take, drop, min, ◌==◌, true, false, IfOk, IfSome, IfNone, Some, None, position, bytes_eq, vec_len, vec_capacity, ◌↔◌, IsTrue, option_map, Contains};
-ghost use Rattle.stx_host.specs.Outside.{with_bytes, IsOpen, IsReadable, MayOpen, Opens, MayRead, Reads, Closes, MayWrite, Writes, place};
-ghost use Rattle.stx_host.specs.MemHost.{start_of, calls_so_far, HasRoom, next_call, read_call, cut_at, outside_of, rest_of, rest_of_id, Gives, Puts, GivesMost, IsFull, CallFails, OpenFails, ReadFails, WriteFails, LeavesAct, KeepsPlan, IsCounted};
-ghost use Rattle.stx_host.specs.Table.{ids_of};
+ghost use Rattle.stx_host.specs.Outside.{one_more, with_bytes, IsOpen, IsReadable, MayOpen, Opens, MayRead, Reads, Closes, MayWrite, Writes, place};
+ghost use Rattle.stx_host.specs.MemHost.{start_of, calls_so_far, HasRoom, next_call, read_faults, write_faults, read_call, cut_at, outside_of, rest_of, rest_of_id, Gives, Puts, GivesMost, IsFull, CallFails, OpenFails, ReadFails, WriteFails, LeavesAct, KeepsPlan, IsCounted};
+ghost use Rattle.stx_host.specs.Table.{ids_of, IsLeastFree};
 
 use crate::act::{Act, Call, Doc, Fail, Got, Lane, Opened, Put};
 use crate::faults::{Faults, raised};
@@ -53,7 +53,7 @@ pub struct MemHost {
 }
 
 impl MemHost {
-    /// A host with room for this many acts, as many open ids, and this many bytes in each lane.
+    /// A host with room for exactly this many acts, as many open ids, and this many bytes in each lane.
     pub fn new(
         alloc: Global,
         main: List<u8>,
@@ -203,6 +203,7 @@ impl MemHost {
         ensures answer { MayRead (outside_of self.old) 0 result room.new }
         ensures change { Reads (outside_of self.old) 0 result (outside_of self.new) }
         ensures fails { (result ≡ Got.Failed) ↔ CallFails self.old Call.ReadMain }
+        ensures raised { result ≡ Got.Failed → (outside_of self.new).main_faults ≡ one_more (outside_of self.old).main_faults }
         ensures most { GivesMost self.old 0 result (length room.old) }
         ensures plan { KeepsPlan self.old self.new }
         ensures counted { IsCounted Call.ReadMain self.old self.new }
@@ -233,6 +234,7 @@ impl MemHost {
         ensures answer { MayRead (outside_of self.old) id result room.new }
         ensures change { Reads (outside_of self.old) id result (outside_of self.new) }
         ensures fails { (result ≡ Got.Failed) ↔ CallFails self.old Call.ReadDoc }
+        ensures raised { result ≡ Got.Failed → (outside_of self.new).doc_faults ≡ one_more (outside_of self.old).doc_faults }
         ensures most { GivesMost self.old id result (length room.old) }
         ensures plan { KeepsPlan self.old self.new }
         ensures counted { IsCounted Call.ReadDoc self.old self.new }
@@ -266,6 +268,8 @@ impl Host for MemHost {
         ensures change { Opens (outside_of self.old) name.now result (outside_of self.new) }
         ensures fails { (result ≡ Opened.Failed) ↔ OpenFails self.old name.now }
         ensures no_memory { result ≢ Opened.Memory }
+        ensures raised { result ≡ Opened.Failed → (outside_of self.new).doc_faults ≡ one_more (outside_of self.old).doc_faults }
+        ensures least { (id : ℕ) → result ≡ Opened.Id id → IfSome (outside_of self.old).open_ids (λ ids. IsLeastFree ids id) }
         ensures plan { KeepsPlan self.old self.new }
         ensures counted { IsCounted Call.Open self.old self.new }
     {
@@ -293,6 +297,7 @@ impl Host for MemHost {
         ensures answer { MayRead (outside_of self.old) id result room.new }
         ensures change { Reads (outside_of self.old) id result (outside_of self.new) }
         ensures fails { (result ≡ Got.Failed) ↔ ReadFails self.old id }
+        ensures raised { result ≡ Got.Failed → read_faults (outside_of self.new) id ≡ one_more (read_faults (outside_of self.old) id) }
         ensures most { GivesMost self.old id result (length room.old) }
         ensures plan { KeepsPlan self.old self.new }
         ensures counted { IsCounted (read_call id) self.old self.new }
@@ -325,6 +330,7 @@ impl Host for MemHost {
         ensures answer { MayWrite bytes.now result }
         ensures change { Writes (outside_of self.old) lane bytes.now result (outside_of self.new) }
         ensures fails { (result ≡ Put.Failed) ↔ WriteFails self.old lane bytes.now }
+        ensures raised { result ≡ Put.Failed → write_faults (outside_of self.new) lane ≡ one_more (write_faults (outside_of self.old) lane) }
         ensures all { (result ≡ Put.Failed) ⊎ (result ≡ Put.Took (length bytes.now)) }
         ensures plan { KeepsPlan self.old self.new }
         ensures counted { IsCounted Call.Write self.old self.new }

@@ -1,6 +1,6 @@
 ghost use Rattle.std.specs.Prelude.{◌≡◌, ℕ, ◌^◌, ◌<◌, ◌∷◌, [], ◌++◌, filter, position, not, true, false, ◌==◌, IfSome, IfOk, IfNone, OnSome, ◌⊎◌, ◌≤◌, OnOk, OnErr, IsOk, vec_len, vec_capacity};
 ghost use Rattle.stx_host.specs.Outside.{is_among};
-ghost use Rattle.stx_host.specs.Table.{ids_of, IsEachOpen, Adds};
+ghost use Rattle.stx_host.specs.Table.{ids_of, IsEachOpen, IsLeastFree, Adds};
 
 use std::alloc::{AllocError, Global};
 
@@ -59,7 +59,7 @@ impl<T: Drop> Table<T> {
 
     /// The least number above 0 that isn't open.
     pub(crate) fn free_id(&self) -> Option<u32>
-        ensures free { IfSome result (λ id. (0 < id) × (is_among (ids_of self.now.slots.items) id ≡ false)) }
+        ensures least { IfSome result (λ id. IsLeastFree (ids_of self.now.slots.items) id) }
         ensures none { IfNone result (IsEachOpen (ids_of self.now.slots.items)) }
     {
         for id in 1..u32::MAX {

@@ -16,7 +16,7 @@ returns-clause-change c =
     let added = c.in-Some-take.ensures.taken in
     let place = sym c.in-Some.is ∙ c.find_doc.ensures in
     let rest = ap (all_to_come host.main host.main_at host.docs) added.added
-    ∙ to_come-added host.main host.main_at host.docs slots id (record { doc = c.in-Some.doc; at = 0 }) added.above_zero added.not_open
+    ∙ to_come-added host.main host.main_at host.docs slots id (record { doc = c.in-Some.doc; at = 0 }) added.least.above_zero added.least.not_open
     ∙ ap (λ o. with_bytes (all_to_come host.main host.main_at host.docs slots) id (option_and_then (λ at. option_map (λ doc. doc.bytes) (slice_get host.docs at)) o)) place in
     let ids = ap ids_of added.added ∙ map-append (λ slot. slot.id) slots (record { id = id; held = record { doc = c.in-Some.doc; at = 0 } } ∷ []) in
     let log = c.add_act-2.ensures.added ∙ ap (λ doc. host.log.items ++ Open doc id ∷ []) place in
