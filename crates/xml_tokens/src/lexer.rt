@@ -1,4 +1,4 @@
-ghost use Rattle.std.specs.Prelude.{◌≡◌, ◌+◌, ◌++◌, ◌≤◌, ◌<◌, ◌^◌, false, true, not, ◌&&◌, if◌then◌else◌, length, take, drop, vec_len, OnOk, OnErr};
+ghost use Rattle.std.specs.Prelude.{◌≡◌, ◌+◌, ◌-◌, ◌++◌, ◌≤◌, ◌<◌, ◌^◌, min, false, true, not, ◌&&◌, if◌then◌else◌, length, take, drop, vec_len, OnOk, OnErr};
 ghost use Rattle.xml_tokens.specs.Reader as spec;
 ghost use Rattle.xml_tokens.specs.Reader.{after, begun, fed, mark_len_of, is_undecided_at, IsAnswer, MayWant, Shrinks};
 ghost use Rattle.xml_tokens.specs.Look.{begun_scan, reader, rest_ending, GoesOn, IsDue, IsShapeDue};
@@ -94,7 +94,7 @@ impl Lexer {
 
     /// How many bytes of the document were fed, up to the last value of u64.
     pub fn fed(&self) -> u64
-        ensures { fed self.now < 2 ^ 64 → result ≡ fed self.now }
+        ensures { result ≡ min (fed self.now) (2 ^ 64 - 1) }
     {
         let unread = self.buffer.len() - self.start;
         self.offset.saturating_add(unread as u64)
