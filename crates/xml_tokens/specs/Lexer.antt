@@ -1,5 +1,5 @@
 -- What the lexer's fields mean.
-use Rattle.std.specs.Prelude.{◌≤◌, length, drop}
+use Rattle.std.specs.Prelude.{◌+◌, ◌≤◌, length, drop}
 use Rattle.xml_tokens.specs.Reader.{Reader}
 use Rattle.xml_tokens.specs.Look.{GoesOn}
 use Rattle.xml_tokens.specs.declared.lexer.Lexer.TheInside.{Inside}
@@ -13,9 +13,9 @@ reader_of l = record {
   over = l.over;
 }
 
--- the unread bytes lie in the buffer, within the limit on the input, and the search for the next lexeme's end can
+-- the unread bytes lie in the buffer, behind no more bytes that were read than they are, within the limit on the input, and the search for the next lexeme's end can
 -- go on from where it stopped, whatever bytes follow
 pub record IsSound (l : Inside) : Type 0 where
-  pub start : l.start ≤ length l.buffer.items
+  pub start : l.start + l.start ≤ length l.buffer.items
   pub offset : l.offset ≤ l.limits.input
   pub scan : GoesOn l.scan (reader_of l)

@@ -69,20 +69,8 @@ impl Lexer {
         ensures ok { OnOk result (self.new ≡ record self.old { unread = self.old.unread ++ piece.now }) }
         ensures err { OnErr result (self.new ≡ self.old) }
     {
-        self.drop_read();
         self.buffer.extend_from_slice(piece)?;
         Ok(())
-    }
-
-    /// Lets the bytes that were read go, if they are at least half of the buffer: so that each byte is moved once on
-    /// the average.
-    fn drop_read(&mut self)
-        ensures { self.new ≡ self.old }
-    {
-        if self.start >= self.buffer.len() - self.start {
-            drop_front(&mut self.buffer, self.start);
-            self.start = 0;
-        }
     }
 
     /// Says that the document ends here.
@@ -132,7 +120,8 @@ impl Lexer {
         );
         match due {
             Due::Lexeme(body, offset, size) => {
-                self.start += size;
+                let kept = let_go(&mut self.buffer, self.start + size);
+                self.start = kept;
                 self.offset += size as u64;
                 self.scan = Scan::START;
                 Step::Lexeme(Lexeme { offset, body })
@@ -147,6 +136,20 @@ impl Lexer {
             }
         }
     }
+}
+
+/// Lets the first `read` bytes go where they are more than the others, so that each byte is moved once on the average;
+/// says how many of them stay.
+fn let_go(buffer: &mut Vec<u8>, read: usize) -> usize
+    requires { read ≤ vec_len buffer.old }
+    ensures unread { drop result buffer.new.items ≡ drop read buffer.old.items }
+    ensures held { result + result ≤ length buffer.new.items }
+{
+    if read <= buffer.len() - read {
+        return read;
+    }
+    drop_front(buffer, read);
+    0
 }
 
 fn drop_front(buffer: &mut Vec<u8>, len: usize)

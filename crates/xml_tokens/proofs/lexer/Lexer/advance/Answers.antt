@@ -1,4 +1,4 @@
-use Rattle.std.proofs.Common.{◌≡◌, sym, ap, ◌∙◌, drop, subst, ◌+◌, Some}
+use Rattle.std.proofs.Common.{◌≡◌, sym, ap, ◌∙◌, drop, subst, Some}
 use Rattle.std.proofs.lemmas.List.{drop-drop}
 use Rattle.xml_tokens.specs.Reader.{Reader, IsAnswer, after}
 use Rattle.xml_tokens.specs.Lexer.{reader_of}
@@ -23,7 +23,7 @@ returns-in-Lexeme-clause-after c =
     let l = c.self.inside in
     let lexeme : Lexeme = record { offset = c.in-Lexeme.offset; body = c.in-Lexeme.body } in
     let unread : c.tail.result.now ≡ drop l.start l.buffer.items = c.tail.ensures ∙ ap (drop l.start) c.deref.ensures.value in
-    next-lexeme (reader_of l) c.tail.result.now (drop (l.start + c.in-Lexeme.size) l.buffer.items) c.in-Lexeme.size lexeme unread c.in-Lexeme.ensures.1 (sym (drop-drop c.in-Lexeme.size l.start l.buffer.items))
+    next-lexeme (reader_of l) c.tail.result.now (drop c.let_go-kept.result c.let_go-kept.new.buffer.items) c.in-Lexeme.size lexeme unread c.in-Lexeme.ensures.1 (c.let_go-kept.ensures.unread ∙ sym (drop-drop c.in-Lexeme.size l.start l.buffer.items))
     ∙ ap (λ (r : Reader). after r (step.Lexeme lexeme)) c.self.view_is
 
 pub returns-in-Wait-clause-after : goal.returns-in-Wait-clause-after

@@ -10,7 +10,7 @@ invariant_of-self-2 c =
     let l = c.self.inside in
     let items = c.in_ok-extend_from_slice.ensures.items in
     let unread : drop l.start c.extend_from_slice.new.self.items ≡ drop l.start l.buffer.items ++ c.args.piece.now =
-    ap (drop l.start) items ∙ drop-append-le l.start l.buffer.items c.args.piece.now c.self.invariant.start in
+    ap (drop l.start) items ∙ drop-append-le l.start l.buffer.items c.args.piece.now (omega (arith, c.self.invariant.start)) in
     record {
       start = omega (arith, c.self.invariant.start, ap length items, length-append l.buffer.items c.args.piece.now);
       offset = c.self.invariant.offset;
