@@ -97,6 +97,7 @@ module _ (word : List ℕ) (from to : ℕ) (bytes : List ℕ)
         low,
         high,
         same,
+        omega (arith, short),
       )
 
   pub word-found : 0 < length word → length word ≤ length bytes - to → begins (drop to bytes) word ≡ true → behind (length word) (first_word word from (drop from bytes)) ≡ Some (to + length word)

@@ -1,5 +1,5 @@
 -- A search for a shape's end that goes on where an earlier one stopped.
-use Rattle.std.specs.Prelude.{◌≡◌, ◌≤◌, ℕ, Bool, true, false, List, ◌++◌, Option, Some, None, length, drop, max, codes}
+use Rattle.std.specs.Prelude.{◌≡◌, ◌≤◌, ◌<◌, ◌+◌, ℕ, Bool, true, false, List, ◌++◌, Option, Some, None, length, drop, max, codes}
 use Rattle.xml_tokens.specs.Places.{first_byte, first_word, first_outside}
 use Rattle.xml_tokens.specs.Shape.{form, is_less, ends_tag, ends_declaration, behind, text_end, shape_len}
 use Rattle.xml_tokens.specs.declared.form.Form.{Form}
@@ -34,12 +34,13 @@ IsTextFound at ended bytes (Unended next) =
     (text_end ended bytes (first_byte is_less at (drop at bytes)) ≡ None) × (next.searched ≡ length bytes)
     × ((more : List ℕ) → first_byte is_less at (drop at (bytes ++ more)) ≡ first_byte is_less (length bytes) more)
 
--- a search for a word from a place on found this
+-- a search for a word from a place on found this; where it found none, it leaves fewer bytes than the word has to be searched again
 abbrev pub IsWordFound : List ℕ → ℕ → List ℕ → Found → Type 0
 IsWordFound word at bytes (Whole len) = behind (length word) (first_word word at (drop at bytes)) ≡ Some len
 IsWordFound word at bytes (Unended next) =
     (first_word word at (drop at bytes) ≡ None) × (at ≤ next.searched) × (next.searched ≤ length bytes)
     × ((more : List ℕ) → first_word word at (drop at (bytes ++ more)) ≡ first_word word next.searched (drop next.searched (bytes ++ more)))
+    × (length bytes < next.searched + length word)
 
 -- what ends a shape outside quotes, with `[` or without it
 abbrev pub ending_test : Bool → ℕ → Bool
