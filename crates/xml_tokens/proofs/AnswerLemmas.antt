@@ -1,10 +1,9 @@
 -- What an answer tells of the bytes before it.
-use Rattle.std.proofs.Common.{◌≡◌, ℕ, ◌+◌, ◌-◌, ◌<◌, ◌≤◌, Bool, true, false, not, ◌&&◌, ◌==◌, nat_lt, List, Option, Some, None, length, take, drop, refl, sym, ap, ◌∙◌, arith, length-drop, if◌then◌else◌, ltb-false}
+use Rattle.std.proofs.Common.{◌≡◌, ℕ, ◌+◌, ◌-◌, ◌<◌, ◌≤◌, Bool, true, false, not, ◌&&◌, ◌==◌, nat_lt, List, Option, Some, None, length, take, refl, ap, ◌∙◌, arith, length-drop, if◌then◌else◌, ltb-false}
 use Rattle.std.specs.Prelude.{unwrap_or}
-use Rattle.std.proofs.lemmas.Bool.Decides.{nat_tests}
 use Rattle.xml_tokens.specs.Shape.{shape_len}
 use Rattle.xml_tokens.specs.Plain.{judged}
-use Rattle.xml_tokens.specs.Reader.{Reader, mark_len, seen, is_cut, is_last, is_open, coming, place, size, due, after, at_shape, at_rest, at_shape_or_rest, lexeme_or_fault, step_or_need, repeated_or, step_of, bad, IsAnswer, Shrinks, MayWant, fed}
+use Rattle.xml_tokens.specs.Reader.{Reader, is_cut, is_last, is_open, coming, place, size, due, after, at_shape, at_rest, at_shape_or_rest, lexeme_or_fault, step_or_need, repeated_or, step_of, bad, IsAnswer, Shrinks, MayWant, fed}
 use Rattle.stx_base.specs.declared.limits.Limits.{Limits}
 use Rattle.stx_base.specs.declared.fault.XmlKind.TheVariants.{LexemeTooLong, Truncated, InputTooLong}
 use Rattle.xml_tokens.specs.declared.lexeme.Body.{Body}

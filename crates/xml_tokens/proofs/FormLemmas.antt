@@ -7,7 +7,7 @@ use Rattle.xml_tokens.specs.declared.form.Form.{Form}
 use Rattle.xml_tokens.specs.declared.form.Form.TheVariants.{Text, Comment, CData, Instruction, Declaration, Tag, Undecided}
 use Rattle.xml_tokens.proofs.PlaceLemmas.{begins-more, is_part-more, begins-length}
 
-abbrev chosen : Bool → Bool → Bool → Bool → Bool → Bool → Form
+abbrev pub chosen : Bool → Bool → Bool → Bool → Bool → Bool → Form
 chosen u c d i m t = cond u Undecided (cond c Comment (cond d CData (cond i Instruction (cond m Declaration (cond t Tag Text)))))
 
 comment_of : (u c d i m t : Bool) → chosen u c d i m t ≡ Comment → c ≡ true

@@ -6,6 +6,8 @@ pub mod ReaderLemmas
 pub mod WholeLemmas
 pub mod AnswerLemmas
 pub mod RunLemmas
+pub mod BoundLemmas
 pub mod CutLemmas
 pub mod SpellingLemmas
+pub mod TagLemmas
 pub mod SaysLemmas

@@ -10,7 +10,8 @@ use Rattle.xml_tokens.specs.Places.{begins}
 use Rattle.xml_tokens.specs.Shape.{shape_len}
 use Rattle.xml_tokens.specs.Reader.{Reader, mark, mark_len, mark_len_of, seen, is_cut, is_last, is_open, coming, place, size, due, after, at_shape, at_shape_or_rest, lexeme_or_fault, step_or_need, step_of}
 use Rattle.xml_tokens.specs.Plain.{judged}
-use Rattle.xml_tokens.specs.Run.{Taken, document, Says, ShapesSayLexemes}
+use Rattle.xml_tokens.specs.Run.{Taken, document, Says, AreWithin, ShapesSayLexemes, SayingShapesAreRead}
+use Rattle.std.proofs.Math.Seq.{take-append_seam, drop-append_seam}
 use Rattle.xml_tokens.specs.Cuts.{Cuts}
 use Rattle.xml_tokens.proofs.RunLemmas.{due-fresh, lexeme-shape, size-within}
 use Rattle.stx_base.specs.declared.fault.XmlFault.{XmlFault}
@@ -18,6 +19,7 @@ use Rattle.xml_tokens.specs.declared.lexeme.Body.{Body}
 use Rattle.xml_tokens.specs.declared.lexeme.Ending.{Ending}
 use Rattle.xml_tokens.specs.declared.lexeme.Ending.TheVariants as ending
 use Rattle.xml_tokens.specs.declared.lexeme.Lexeme.{Lexeme}
+use Rattle.xml_tokens.specs.declared.lexeme.Step.{Step}
 use Rattle.xml_tokens.specs.declared.lexeme.Step.TheVariants as step
 use Rattle.xml_tokens.proofs.WholeLemmas.{whole-within}
 use Rattle.xml_tokens.proofs.ReaderLemmas.{after-lexeme, ending_at}
@@ -129,3 +131,58 @@ shapes-say limits bytes lexemes short h =
     let comes : coming r ≡ drop (mark_len_of 0 bytes) bytes = ap (λ l. drop (mark_len_of 0 l) l) seen_bytes in
     let at : place r ≡ mark_len_of 0 bytes = omega (arith, ap (mark_len_of 0) seen_bytes) in
     (all.0, subst (λ (l : List ℕ). Cuts true l all.0 []) comes all.1, subst (λ n. Says n all.0 lexemes) at all.2)
+
+-- a shape that isn't too long and says a lexeme is given
+given : (limits : Limits) (shape : List ℕ) (at : ℕ) (l : Lexeme) → length shape ≤ limits.lexeme → l.offset ≡ at → judged shape ≡ Some l.body → at_shape limits shape at ≡ step.Lexeme l
+given limits shape at l short offset body =
+    let long : nat_lt limits.lexeme (length shape) ≡ false = within short in
+    ap (λ t. cond t (step.Bad (record { kind = LexemeTooLong; offset = at })) (lexeme_or_fault (judged shape) at)) long
+    ∙ (ap (λ o. lexeme_or_fault o at) body ∙ ap (λ n. step.Lexeme (record { offset = n; body = l.body })) (sym offset)) where
+      within : {n m : ℕ} → n ≤ m → nat_lt m n ≡ false
+      within {n} {m} h = grind (arith, nat_tests)
+
+-- where nothing is left is the end
+empty-end : (r : Reader) → Within r → coming r ≡ [] → due r ≡ step.End
+empty-end r w h =
+    let none : shape_len (is_last r) (coming r) ≡ None = ap (shape_len (is_last r)) h in
+    let long : (not (is_open r) && nat_lt r.limits.lexeme (length (coming r))) ≡ false = never (not (is_open r)) _ (within (omega (arith, ap length h))) in
+    let cut : is_cut r ≡ false = within w.uncut in
+    let zero_left : (length (coming r) == 0) ≡ true = ap (λ l. length l == 0) h in
+    due-fresh r w.fresh ∙ (ap (at_shape_or_rest r) none ∙ (ap (λ t. at_end t (is_cut r) r.ended (length (coming r) == 0)) long
+    ∙ (ap (λ t. at_end false t r.ended (length (coming r) == 0)) cut ∙ (ap (λ t. at_end false false t (length (coming r) == 0)) w.ended ∙ ap (at_end false false true) zero_left)))) where
+      at_end : (long cut ended none : Bool) → Step
+      at_end long cut ended none = step_or_need (ending_at long cut ended none (Some (ending.Bad (record { kind = LexemeTooLong; offset = place r }))) (Some (ending.Bad (record { kind = InputTooLong; offset = r.limits.input }))) (r.offset + length r.unread))
+
+      never : (a b : Bool) → b ≡ false → (a && b) ≡ false
+      never true b h = h
+      never false b h = refl
+
+      within : {n m : ℕ} → n ≤ m → nat_lt m n ≡ false
+      within {n} {m} h = grind (arith, nat_tests)
+
+read-from : (r : Reader) (shapes : List (List ℕ)) (lexemes : List Lexeme) → Within r → Cuts true (coming r) shapes [] → Says (place r) shapes lexemes → AreWithin r.limits.lexeme shapes →
+    (rest : Reader) × Taken r lexemes rest × (due rest ≡ step.End)
+read-from r [] [] w c s short = (r, refl, empty-end r w c.0)
+read-from r [] (l ∷ ls) w c s short = absurd s
+read-from r (shape ∷ shapes) [] w c s short = absurd s
+read-from r (shape ∷ shapes) (l ∷ ls) w c s short =
+    let whole : shape_len (is_last r) (coming r) ≡ Some (length shape) = ap (λ t. shape_len t (coming r)) (is-last r w) ∙ (ap (shape_len true) c.1 ∙ c.2) in
+    let front : take (length shape) (coming r) ≡ shape = ap (take (length shape)) c.1 ∙ take-append_seam shape c.0 in
+    let here : due r ≡ step.Lexeme l =
+    due-fresh r w.fresh ∙ (ap (at_shape_or_rest r) whole ∙ (ap (λ b. at_shape r.limits b (place r)) front ∙ given r.limits shape (place r) l short.0 s.0 s.1)) in
+    let b = behind-lexeme r l (length shape) w here whole in
+    let comes : coming (after r (step.Lexeme l)) ≡ c.0 = b.1 ∙ (ap (drop (length shape)) c.1 ∙ drop-append_seam shape c.0) in
+    let later = read-from (after r (step.Lexeme l)) shapes ls b.0
+    (subst (λ (x : List ℕ). Cuts true x shapes []) (sym comes) c.3)
+    (subst (λ n. Says n shapes ls) (sym b.2) s.2)
+    (subst (λ (x : Reader). AreWithin x.limits.lexeme shapes) (sym (after-lexeme r l)) short.1) in
+    (later.0, (here, later.1), later.2)
+
+pub saying-read : SayingShapesAreRead
+saying-read limits bytes shapes lexemes short c s within =
+    let r = document limits bytes in
+    let w : Within r = record { fresh = refl; ended = refl; uncut = omega (arith, short) } in
+    let seen_bytes : seen r ≡ bytes = seen-all r w in
+    let comes : coming r ≡ drop (mark_len_of 0 bytes) bytes = ap (λ l. drop (mark_len_of 0 l) l) seen_bytes in
+    let at : place r ≡ mark_len_of 0 bytes = omega (arith, ap (mark_len_of 0) seen_bytes) in
+    read-from r shapes lexemes w (subst (λ (l : List ℕ). Cuts true l shapes []) (sym comes) c) (subst (λ n. Says n shapes lexemes) (sym at) s) within

@@ -58,3 +58,19 @@ LexemesStay = (r : Reader) (rest : List ℕ) (ended : Bool) (lexeme : Lexeme) �
 -- one document has one run
 abbrev pub OneRun : Type 0
 OneRun = (r : Reader) (lexemes others : List Lexeme) (over other : Ending) → Lexes r lexemes over → Lexes r others other → (lexemes ≡ others) × (over ≡ other)
+
+-- where more bytes are wanted, those that wait are no more than a lexeme may have, and a mark and the longest front that
+-- doesn't say yet what it begins
+abbrev pub FewUnread : Type 0
+FewUnread = (r : Reader) → r.over ≡ None → due r ≡ step.Need → length r.unread ≤ r.limits.lexeme + 11
+
+-- none of the shapes is longer than this
+abbrev pub AreWithin : ℕ → List (List ℕ) → Type 0
+AreWithin limit [] = Unit {0}
+AreWithin limit (shape ∷ shapes) = (length shape ≤ limit) × AreWithin limit shapes
+
+-- where a document's shapes, none of them too long, say lexemes, it is read to its end as these
+abbrev pub SayingShapesAreRead : Type 0
+SayingShapesAreRead = (limits : Limits) (bytes : List ℕ) (shapes : List (List ℕ)) (lexemes : List Lexeme) → length bytes ≤ limits.input →
+    Cuts true (drop (mark_len_of 0 bytes) bytes) shapes [] → Says (mark_len_of 0 bytes) shapes lexemes → AreWithin limits.lexeme shapes →
+    Lexes (document limits bytes) lexemes ending.End

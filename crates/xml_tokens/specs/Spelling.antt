@@ -1,8 +1,9 @@
 -- What bytes spell a tag, so far as tags are read (XML 1.0, 2.3 and 3.1).
-use Rattle.std.specs.Prelude.{◌≡◌, ℕ, Bool, true, false, ◌==◌, List, [], ◌∷◌, ◌++◌, Some, map, if◌then◌else◌}
+use Rattle.std.specs.Prelude.{◌≡◌, ℕ, ◌+◌, Bool, true, false, ◌==◌, List, [], ◌∷◌, ◌++◌, Some, length, map, if◌then◌else◌}
 use Rattle.std.specs.List.{list_all, list_any}
 use Rattle.stx_base.specs.Character.{is_space, is_name_char}
 use Rattle.xml_tokens.specs.Places.{is_quote}
+use Rattle.xml_tokens.specs.Shape.{shape_len}
 use Rattle.xml_tokens.specs.Plain.{is_plain_name, as_space, tag}
 use Rattle.xml_tokens.specs.declared.lexeme.RawAttr.{RawAttr}
 use Rattle.xml_tokens.specs.declared.lexeme.Body.{Body}
@@ -67,3 +68,7 @@ ReadIsSpelled = (bytes : List ℕ) (body : Body) → tag bytes ≡ Some body →
 -- what is spelled so is read
 abbrev pub SpelledIsRead : Type 0
 SpelledIsRead = (bytes : List ℕ) (body : Body) → SpellsTag body bytes → tag bytes ≡ Some body
+
+-- a tag that is spelled so is cut out of the document, whatever follows its `>`
+abbrev pub SpelledIsShape : Type 0
+SpelledIsShape = (ended : Bool) (inside more : List ℕ) (body : Body) → SpellsTag body inside → shape_len ended (60 ∷ (inside ++ 62 ∷ more)) ≡ Some (length inside + 2)

@@ -1,7 +1,7 @@
 //! Laws about the definitions that the lexer's contract cites. They do nothing.
 ghost use Rattle.xml_tokens.specs.Cuts.{JoinedAgain, OneCut, RestUnended, SomeCut};
-ghost use Rattle.xml_tokens.specs.Run.{AnswersStay, LexemesStay, OneRun, ShapesSayLexemes};
-ghost use Rattle.xml_tokens.specs.Spelling.{ReadIsSpelled, SpelledIsRead};
+ghost use Rattle.xml_tokens.specs.Run.{AnswersStay, FewUnread, LexemesStay, OneRun, SayingShapesAreRead, ShapesSayLexemes};
+ghost use Rattle.xml_tokens.specs.Spelling.{ReadIsSpelled, SpelledIsRead, SpelledIsShape};
 
 /// Each list of bytes is cut into shapes and a rest, and in one way.
 pub fn cuts()
@@ -11,9 +11,16 @@ pub fn cuts()
     ensures one { OneCut }
 {}
 
-/// A document that is read to its end is the shapes that say its lexemes.
+/// A document that is read to its end is the shapes that say its lexemes; and one whose shapes, none of them too long, say
+/// lexemes, is read to its end as these.
 pub fn lexemes()
-    ensures { ShapesSayLexemes }
+    ensures said { ShapesSayLexemes }
+    ensures read { SayingShapesAreRead }
+{}
+
+/// Where more bytes are wanted, few wait.
+pub fn waiting()
+    ensures { FewUnread }
 {}
 
 /// An answer other than `Need` stays, whatever bytes follow, and a document has one run.
@@ -27,4 +34,5 @@ pub fn answers()
 pub fn tags()
     ensures spelled { ReadIsSpelled }
     ensures read { SpelledIsRead }
+    ensures shape { SpelledIsShape }
 {}
