@@ -1,0 +1,6 @@
+pub mod OutcomeLemmas
+pub mod NumeralLemmas
+pub mod PlacesLemmas
+pub mod OccurrenceLemmas
+pub mod WordsLemmas
+pub mod NumberTextLemmas

@@ -1,0 +1,11 @@
+use Rattle.std.proofs.Common.{◌≡◌, drop, length, nat_lt, is_none, Ok}
+use Rattle.std.specs.List.{concat}
+use Rattle.stxpath_values.specs.Outcome.{and_then, each}
+use Rattle.stxpath_values.specs.Conversion.{as_text}
+use Rattle.stxpath_values.specs.Words.{less}
+use Rattle.stxpath_values.proofs.texts.is_concat_longer.Given as goal
+
+abbrev pub invariant-loop-list : goal.invariant-loop-list
+invariant-loop-list l =
+    and_then (each as_text (drop l.list-index l.lists)) (λ parts. Ok (is_none (less l.room (length (concat parts)))))
+    ≡ and_then (each as_text l.lists) (λ parts. Ok (nat_lt l.limit (length (concat parts))))

@@ -1,0 +1,9 @@
+pub mod Outcome
+pub mod Numeral
+pub mod Conversion
+pub mod Arithmetic
+pub mod Comparison
+pub mod Places
+pub mod Words
+pub mod Functions
+pub mod Laws

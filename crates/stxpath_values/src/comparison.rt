@@ -1,0 +1,112 @@
+ghost use Rattle.std.specs.Prelude.{◌≡◌};
+ghost use Rattle.std.specs.Ordering.{nat_cmp};
+ghost use Rattle.std.specs.Cmp.Lexicographic.{slice_cmp};
+ghost use Rattle.std.specs.Str.{chars};
+ghost use Rattle.stxpath_values.specs.Outcome.{some_holds, stopped};
+ghost use Rattle.stxpath_values.specs.Comparison as spec;
+ghost use Rattle.stxpath_values.specs.Comparison.{comparison, order_of_number};
+
+use crate::convert::atom_truth;
+use crate::fault::{EvalFault, EvalStop};
+use crate::numeral::text_number;
+use crate::value::Atom;
+use std::cmp::Ordering;
+use stx_base::{Cmp, List};
+
+/// Whether a comparison holds of some item on the left and some item on the right. The pairs are tried in order, the left
+/// item outermost, until one holds or faults. Allocates nothing.
+pub fn compare(cmp: Cmp, left: &List<Atom>, right: &List<Atom>) -> Result<bool, EvalStop>
+    ensures { result ≡ stopped (comparison cmp left.now right.now) }
+{
+    let holds = compare_all(cmp, left.as_slice(), right.as_slice())?;
+    Ok(holds)
+}
+
+fn compare_all(cmp: Cmp, left: &[Atom], right: &[Atom]) -> Result<bool, EvalFault>
+    ensures { result ≡ comparison cmp left.now right.now }
+{
+    for x in left {
+        if compare_one(cmp, x, right)? {
+            return Ok(true);
+        }
+    }
+    Ok(false)
+}
+
+fn compare_one(cmp: Cmp, x: &Atom, right: &[Atom]) -> Result<bool, EvalFault>
+    ensures { result ≡ some_holds (spec.pair_holds cmp x.now) right.now }
+{
+    for y in right {
+        if pair_holds(cmp, x, y)? {
+            return Ok(true);
+        }
+    }
+    Ok(false)
+}
+
+/// Whether a comparison holds of two atoms.
+pub fn pair_holds(cmp: Cmp, x: &Atom, y: &Atom) -> Result<bool, EvalFault>
+    ensures { result ≡ spec.pair_holds cmp x.now y.now }
+{
+    let order = order(x, y)?;
+    Ok(admits(cmp, order))
+}
+
+/// How two atoms stand to each other; `None` where they are unequal and neither is less.
+fn order(x: &Atom, y: &Atom) -> Result<Option<Ordering>, EvalFault>
+    ensures { result ≡ spec.order x.now y.now }
+{
+    match x {
+        Atom::Truth(a) => Ok(Some(a.cmp(&atom_truth(y)))),
+        Atom::Whole(a) => match y {
+            Atom::Truth(b) => Ok(Some(atom_truth(x).cmp(b))),
+            Atom::Whole(b) => Ok(Some(a.cmp(b))),
+            Atom::Chars(text) => {
+                let order = order_of_number(*a, text.as_str())?;
+                Ok(order)
+            }
+        },
+        Atom::Chars(text) => match y {
+            Atom::Truth(b) => Ok(Some(atom_truth(x).cmp(b))),
+            Atom::Whole(b) => {
+                let order = order_of_number(*b, text.as_str())?;
+                Ok(order.map(|o| o.reverse()))
+            }
+            Atom::Chars(other) => Ok(Some(order_of_texts(text.as_str(), other.as_str()))),
+        },
+    }
+}
+
+/// How a number stands to a text; `None` where that is no numeral.
+fn order_of_number(number: i64, text: &str) -> Result<Option<Ordering>, EvalFault>
+    ensures { result ≡ spec.order_of_number number (chars text.now) }
+{
+    match text_number(text)? {
+        Some(n) => Ok(Some(number.cmp(&n))),
+        None => Ok(None),
+    }
+}
+
+/// By the numbers of the characters.
+fn order_of_texts(left: &str, right: &str) -> Ordering
+    ensures { result ≡ slice_cmp nat_cmp (chars left.now) (chars right.now) }
+{
+    left.chars().cmp(right.chars())
+}
+
+/// Which comparisons hold of two that stand so.
+fn admits(cmp: Cmp, order: Option<Ordering>) -> bool
+    ensures { result ≡ spec.admits cmp order }
+{
+    match order {
+        None => matches!(cmp, Cmp::Ne),
+        Some(order) => match cmp {
+            Cmp::Eq => order.is_eq(),
+            Cmp::Ne => order.is_ne(),
+            Cmp::Lt => order.is_lt(),
+            Cmp::Le => order.is_le(),
+            Cmp::Gt => order.is_gt(),
+            Cmp::Ge => order.is_ge(),
+        },
+    }
+}
