@@ -10,6 +10,8 @@ pub mod laws;
 mod lists;
 mod numeral;
 mod places;
+#[cfg(test)]
+mod tests;
 mod texts;
 mod value;
 
