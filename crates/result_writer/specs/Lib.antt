@@ -1,0 +1,5 @@
+pub mod Allowed
+pub mod Escape
+pub mod Table
+pub mod Tag
+pub mod Target

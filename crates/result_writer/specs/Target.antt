@@ -1,0 +1,167 @@
+-- What parts leave of a target, which parts it accepts, and what it writes of them.
+use Rattle.std.specs.Prelude.{◌≡◌, ℕ, ◌+◌, Bool, true, false, ◌&&◌, nat_lt, if◌then◌else◌, List, [], ◌∷◌, ◌++◌, Option, Some, None, is_some, length, codes, encode_utf8_all}
+use Rattle.stx_base.specs.declared.name.Attr.{Attr}
+use Rattle.stx_base.specs.declared.name.Binding.{Binding}
+use Rattle.stx_base.specs.declared.name.Name.{Name}
+use Rattle.stx_base.specs.declared.part.Part.{Part}
+use Rattle.stx_base.specs.declared.part.Part.TheVariants as part
+use Rattle.result_writer.specs.Allowed.{is_good_attribute, is_good_comment, is_good_data, is_good_name, is_good_target, are_chars, same}
+use Rattle.result_writer.specs.Escape.{escaped}
+use Rattle.result_writer.specs.Tag.{dressed, end_tag, open_tag}
+use Rattle.result_writer.specs.declared.escape.Context.TheVariants.{Content}
+use Rattle.result_writer.specs.declared.fault.ResultFault.{ResultFault}
+use Rattle.result_writer.specs.declared.fault.ResultFault.TheVariants.{BadName, BadChar, BadComment, BadPi, LateAttribute, UnmatchedEnd, WrongEnd, ResultDepth}
+use Rattle.result_writer.specs.declared.fault.WriteStop.{WriteStop}
+use Rattle.result_writer.specs.declared.fault.WriteStop.TheVariants.{Fault, Memory}
+use Rattle.result_writer.specs.declared.tag.HeldTag.{HeldTag}
+use Rattle.result_writer.specs.declared.tag.Dressed.{Dressed}
+
+-- an open element: its name, and what its tag declared
+pub record Element : Type 0 where
+  pub name : Name
+  pub declared : List Binding
+
+-- what parts leave: the open elements, the innermost first, and within them a start tag that is held back
+pub record Left : Type 0 where
+  pub elements : List Element
+  pub held : Option HeldTag
+
+-- no parts leave nothing
+abbrev pub nothing : Left
+nothing = record { elements = []; held = None }
+
+-- what the open elements declared, the innermost last
+abbrev pub in_force : List Element → List Binding
+in_force [] = []
+in_force (e ∷ outer) = in_force outer ++ e.declared
+
+-- What a part changes.
+
+-- the open elements, once a tag that was held back is settled
+abbrev pub settled : List Element → Option HeldTag → List Element
+settled outer None = outer
+settled outer (Some tag) = record { name = tag.name; declared = (dressed (in_force outer) tag).declared } ∷ outer
+
+-- the open elements behind the end of the innermost one
+abbrev pub closed : List Element → Option HeldTag → List Element
+closed outer (Some tag) = outer
+closed [] None = []
+closed (e ∷ outer) None = outer
+
+-- two names have one URI and one local part
+abbrev pub same_name : Name → Name → Bool
+same_name m n = same m.uri n.uri && same m.local n.local
+
+-- an attribute of the same name as an earlier one only changes that one's value
+abbrev pub with_attribute : List Attr → Name → List ℕ → List Attr
+with_attribute [] name value = record { name = name; value = value } ∷ []
+with_attribute (a ∷ attrs) name value =
+    if same_name a.name name then record a { value = value } ∷ attrs else a ∷ with_attribute attrs name value
+
+abbrev pub added : Option HeldTag → Name → List ℕ → Option HeldTag
+added None name value = None
+added (Some tag) name value = Some (record tag { attrs = with_attribute tag.attrs name value })
+
+abbrev pub next : Left → Part → Left
+next l (part.Start name scope) =
+    record { elements = settled l.elements l.held; held = Some (record { name = name; scope = scope; attrs = [] }) }
+next l (part.Attribute name value) = record { elements = l.elements; held = added l.held name value }
+next l (part.End name) = record { elements = closed l.elements l.held; held = None }
+next l (part.Chars text) = record { elements = settled l.elements l.held; held = None }
+next l (part.Comment text) = record { elements = settled l.elements l.held; held = None }
+next l (part.Pi target text) = record { elements = settled l.elements l.held; held = None }
+
+-- Which parts are accepted.
+
+-- a fault, unless the test holds, and then the next one
+abbrev pub unless : Bool → ResultFault → Option ResultFault → Option ResultFault
+unless test fault others = if test then others else Some fault
+
+abbrev pub depth : List Element → Option HeldTag → ℕ
+depth elements None = length elements
+depth elements (Some tag) = length elements + 1
+
+abbrev pub innermost : List Element → Option HeldTag → Option Name
+innermost elements (Some tag) = Some tag.name
+innermost [] None = None
+innermost (e ∷ outer) None = Some e.name
+
+abbrev pub end_fault : (innermost : Option Name) → Name → Option ResultFault
+end_fault None name = Some UnmatchedEnd
+end_fault (Some n) name = unless (same_name n name) WrongEnd None
+
+-- the first fault of a part
+abbrev pub fault : (limit : ℕ) → Left → Part → Option ResultFault
+fault limit l (part.Start name scope) =
+    unless (is_good_name name) BadName (unless (nat_lt (depth l.elements l.held) limit) ResultDepth None)
+fault limit l (part.Attribute name value) =
+    unless (is_good_attribute name) BadName (unless (are_chars value) BadChar (unless (is_some l.held) LateAttribute None))
+fault limit l (part.End name) = unless (is_good_name name) BadName (end_fault (innermost l.elements l.held) name)
+fault limit l (part.Chars text) = unless (are_chars text) BadChar None
+fault limit l (part.Comment text) = unless (are_chars text) BadChar (unless (is_good_comment text) BadComment None)
+fault limit l (part.Pi target text) =
+    unless (are_chars text) BadChar (unless (is_good_target target && is_good_data text) BadPi None)
+
+-- What is written.
+
+-- a tag that was held back, with its end
+abbrev pub tag_text : List Element → Option HeldTag → (end : List ℕ) → List ℕ
+tag_text outer None end = []
+tag_text outer (Some tag) end = open_tag tag (dressed (in_force outer) tag) ++ end
+
+-- the end of the innermost element: of its start tag, where that was held back, or else its end tag, with the name as
+-- its start tag has it
+abbrev pub end_text : List Element → Option HeldTag → List ℕ
+end_text outer (Some tag) = tag_text outer (Some tag) (codes "/>")
+end_text [] None = []
+end_text (e ∷ outer) None = end_tag e.name.prefix e.name.local
+
+-- a space and the data of an instruction, where it has some (XML 1.0, 2.6)
+abbrev pub data_text : List ℕ → List ℕ
+data_text [] = []
+data_text (c ∷ cs) = codes " " ++ encode_utf8_all (c ∷ cs)
+
+-- the bytes that a part settles
+abbrev pub settles : Left → Part → List ℕ
+settles l (part.Start name scope) = tag_text l.elements l.held (codes ">")
+settles l (part.Attribute name value) = []
+settles l (part.End name) = end_text l.elements l.held
+settles l (part.Chars text) = tag_text l.elements l.held (codes ">") ++ escaped Content (encode_utf8_all text)
+settles l (part.Comment text) =
+    tag_text l.elements l.held (codes ">") ++ (codes "<!--" ++ encode_utf8_all text ++ codes "-->")
+settles l (part.Pi target text) =
+    tag_text l.elements l.held (codes ">") ++ (codes "<?" ++ encode_utf8_all target ++ data_text text ++ codes "?>")
+
+-- Lists of parts.
+
+abbrev pub left_by : Left → List Part → Left
+left_by l [] = l
+left_by l (p ∷ ps) = left_by (next l p) ps
+
+abbrev pub text_from : Left → List Part → List ℕ
+text_from l [] = []
+text_from l (p ∷ ps) = settles l p ++ text_from (next l p) ps
+
+-- the bytes of parts; a start tag at their end, with its attributes, isn't in them
+abbrev pub text : List Part → List ℕ
+text = text_from nothing
+
+abbrev pub or_else : Option ResultFault → Option ResultFault → Option ResultFault
+or_else None other = other
+or_else (Some f) other = Some f
+
+-- the first fault of parts, each judged behind those before it
+abbrev pub first_fault : (limit : ℕ) → Left → List Part → Option ResultFault
+first_fault limit l [] = None
+first_fault limit l (p ∷ ps) = or_else (fault limit l p) (first_fault limit (next l p) ps)
+
+-- no element is open
+abbrev pub is_closed : List Element → Option HeldTag → Bool
+is_closed elements (Some tag) = false
+is_closed [] None = true
+is_closed (e ∷ outer) None = false
+
+-- a refusal is for the fault that there is, or for want of memory, which no fault tells
+abbrev pub IsCause : Option ResultFault → WriteStop → Type 0
+IsCause o (Fault f) = o ≡ Some f
+IsCause o Memory = Unit {0}

@@ -1,0 +1,12 @@
+//! A result's parts as bytes: well formed, with each prefix declared where it is used.
+#![tactic(auto)]
+
+mod allowed;
+mod escape;
+mod fault;
+mod order;
+mod table;
+mod tag;
+mod words;
+
+pub use fault::{ResultFault, WriteStop};

@@ -1,0 +1,119 @@
+//! The prefixes of a start tag, and what has to be declared in it.
+
+ghost use Rattle.std.specs.Prelude.{◌≡◌, if◌then◌else◌, IfOk, OnOk};
+ghost use Rattle.result_writer.specs.Allowed.{is_empty, same};
+ghost use Rattle.result_writer.specs.Table.{attribute_prefix, bound, entered, free_prefix, has_prefix, is_new, is_taken, numbered, prefixes, with_attributes, with_scope};
+
+use crate::words::{is_empty, is_word, same};
+use std::alloc::Global;
+use stx_base::{Attr, Binding, Copied, List, Memory, Name, Text};
+
+pub fn has_prefix(table: &List<Binding>, prefix: &Text) -> bool
+    ensures { result ≡ has_prefix table.now prefix.now }
+{
+    table.as_slice().iter().any(|b| same(&b.prefix, prefix))
+}
+
+fn is_taken(table: &List<Binding>, name: &Name) -> bool
+    ensures { result ≡ is_taken table.now name.now }
+{
+    table.as_slice().iter().any(|b| same(&b.prefix, &name.prefix) && !same(&b.uri, &name.uri))
+}
+
+/// Enters a prefix, unless it is there already.
+pub fn enter(alloc: Global, table: &mut List<Binding>, prefix: &Text, uri: &Text) -> Result<(), Memory>
+    ensures { OnOk result (table.new ≡ entered table.old prefix.now uri.now) }
+{
+    if !has_prefix(table, prefix) {
+        let prefix = prefix.copy(alloc)?;
+        let uri = uri.copy(alloc)?;
+        table.push(Binding { prefix, uri })?;
+    }
+    Ok(())
+}
+
+/// Enters a prefix that has a URI.
+fn enter_bound(alloc: Global, table: &mut List<Binding>, prefix: &Text, uri: &Text) -> Result<(), Memory>
+    ensures { OnOk result (table.new ≡ (if is_empty uri.now then table.old else entered table.old prefix.now uri.now)) }
+{
+    if is_empty(uri) {
+        return Ok(());
+    }
+    enter(alloc, table, prefix, uri)
+}
+
+fn numbered(alloc: Global, number: usize) -> Result<Text, Memory>
+    ensures { IfOk result (λ prefix. prefix ≡ numbered number) }
+{
+    let prefix = format!(in alloc; "ns{number}")?;
+    Ok(Text::from_string(prefix))
+}
+
+/// The first of ns0, ns1, ns2 and so on that isn't in the table.
+fn free_prefix(alloc: Global, table: &List<Binding>) -> Result<Text, Memory>
+    ensures { IfOk result (λ prefix. prefix ≡ free_prefix table.now) }
+{
+    for number in 0..table.len() {
+        let prefix = numbered(alloc, number)?;
+        if !has_prefix(table, &prefix) {
+            return Ok(prefix);
+        }
+    }
+    numbered(alloc, table.len())
+}
+
+/// The prefix that an attribute is written with.
+fn attribute_prefix(alloc: Global, table: &List<Binding>, name: &Name) -> Result<Text, Memory>
+    ensures { IfOk result (λ prefix. prefix ≡ attribute_prefix table.now name.now) }
+{
+    if is_empty(&name.uri) || (!is_empty(&name.prefix) && !is_taken(table, name)) {
+        name.prefix.copy(alloc)
+    } else {
+        free_prefix(alloc, table)
+    }
+}
+
+/// Enters the attributes' prefixes, and hands them out.
+pub fn enter_attributes(alloc: Global, table: &mut List<Binding>, attrs: &List<Attr>) -> Result<List<Text>, Memory>
+    ensures entered { OnOk result (table.new ≡ with_attributes table.old attrs.now) }
+    ensures prefixes { IfOk result (λ made. made ≡ prefixes table.old attrs.now) }
+{
+    let mut prefixes = List::new(alloc);
+    for attr in attrs.as_slice() {
+        let prefix = attribute_prefix(alloc, table, &attr.name)?;
+        enter_bound(alloc, table, &prefix, &attr.name.uri)?;
+        prefixes.push(prefix)?;
+    }
+    Ok(prefixes)
+}
+
+/// Enters the bindings that are in force where the element comes from.
+pub fn enter_scope(alloc: Global, table: &mut List<Binding>, scope: &List<Binding>) -> Result<(), Memory>
+    ensures { OnOk result (table.new ≡ with_scope table.old scope.now) }
+{
+    for binding in scope.as_slice() {
+        enter_bound(alloc, table, &binding.prefix, &binding.uri)?;
+    }
+    Ok(())
+}
+
+/// Whether the last of the bindings of this prefix has this URI; none has the empty one.
+fn is_bound(in_force: &[Binding], prefix: &Text, uri: &Text) -> bool
+    ensures { result ≡ same (bound in_force.now prefix.now) uri.now }
+{
+    let mut rest = in_force;
+    while let Some((last, others)) = rest.split_last() {
+        if same(&last.prefix, prefix) {
+            return same(&last.uri, uri);
+        }
+        rest = others;
+    }
+    is_empty(uri)
+}
+
+/// Whether an entry has to be declared, where these bindings are in force.
+pub fn is_new(in_force: &[Binding], entry: &Binding) -> bool
+    ensures { result ≡ is_new in_force.now entry.now }
+{
+    !is_word(&entry.prefix, "xml") && !is_bound(in_force, &entry.prefix, &entry.uri)
+}

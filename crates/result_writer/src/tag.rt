@@ -1,0 +1,114 @@
+//! Tags as they are written.
+
+ghost use Rattle.std.specs.Prelude.{◌≡◌, ◌++◌, codes, IfOk, OnOk};
+ghost use Rattle.result_writer.specs.Tag.{attribute, attributes, declaration, dressed, end_tag, open_tag, qname, quoted};
+
+use crate::escape::{Context, append_escaped};
+use crate::order::declarations;
+use crate::table::{enter, enter_attributes, enter_scope};
+use crate::words::is_empty;
+use std::alloc::Global;
+use stx_base::{Attr, Binding, Copied, List, Memory, Name, Text};
+
+/// A start tag that is held back until what follows it is known.
+#[derive(Debug, Drop)]
+pub struct HeldTag {
+    pub name: Name,
+    /// The bindings in force where the element comes from.
+    pub scope: List<Binding>,
+    pub attrs: List<Attr>,
+}
+
+/// What a tag is written with beside its names and values.
+#[derive(Debug, Drop)]
+pub struct Dressed {
+    pub declared: List<Binding>,
+    /// Those of the attributes, in their order.
+    pub prefixes: List<Text>,
+}
+
+/// What a tag declares, where these bindings are in force, and the prefixes of its attributes.
+pub fn dress(alloc: Global, in_force: &[Binding], tag: &HeldTag) -> Result<Dressed, Memory>
+    ensures { IfOk result (λ made. made ≡ dressed in_force.now tag.now) }
+{
+    let mut table = List::new(alloc);
+    enter(alloc, &mut table, &tag.name.prefix, &tag.name.uri)?;
+    let prefixes = enter_attributes(alloc, &mut table, &tag.attrs)?;
+    enter_scope(alloc, &mut table, &tag.scope)?;
+    let declared = declarations(alloc, in_force, &table)?;
+    Ok(Dressed { declared, prefixes })
+}
+
+fn append_qname(prefix: &Text, local: &Text, out: &mut Vec<u8>) -> Result<(), Memory>
+    ensures { OnOk result (out.new.items ≡ out.old.items ++ qname prefix.now local.now) }
+{
+    if !is_empty(prefix) {
+        out.extend_from_slice(prefix.as_str().as_bytes())?;
+        out.push(b':')?;
+    }
+    out.extend_from_slice(local.as_str().as_bytes())?;
+    Ok(())
+}
+
+fn append_quoted(value: &Text, out: &mut Vec<u8>) -> Result<(), Memory>
+    ensures { OnOk result (out.new.items ≡ out.old.items ++ quoted value.now) }
+{
+    out.extend_from_slice(b"=\"")?;
+    append_escaped(Context::Value, value.as_str().as_bytes(), out)?;
+    out.push(b'"')?;
+    Ok(())
+}
+
+fn append_declaration(binding: &Binding, out: &mut Vec<u8>) -> Result<(), Memory>
+    ensures { OnOk result (out.new.items ≡ out.old.items ++ declaration binding.now) }
+{
+    out.extend_from_slice(b" xmlns")?;
+    if !is_empty(&binding.prefix) {
+        out.push(b':')?;
+        out.extend_from_slice(binding.prefix.as_str().as_bytes())?;
+    }
+    append_quoted(&binding.uri, out)
+}
+
+fn append_attribute(prefix: &Text, attr: &Attr, out: &mut Vec<u8>) -> Result<(), Memory>
+    ensures { OnOk result (out.new.items ≡ out.old.items ++ attribute prefix.now attr.now) }
+{
+    out.push(b' ')?;
+    append_qname(prefix, &attr.name.local, out)?;
+    append_quoted(&attr.value, out)
+}
+
+fn append_attributes(prefixes: &[Text], attrs: &[Attr], out: &mut Vec<u8>) -> Result<(), Memory>
+    ensures { OnOk result (out.new.items ≡ out.old.items ++ attributes prefixes.now attrs.now) }
+{
+    let mut prefixes = prefixes;
+    for attr in attrs {
+        let Some((prefix, others)) = prefixes.split_first() else {
+            return Ok(());
+        };
+        append_attribute(prefix, attr, out)?;
+        prefixes = others;
+    }
+    Ok(())
+}
+
+/// Appends a start tag without its end, which is `>` or `/>`.
+pub fn append_open_tag(tag: &HeldTag, dressed: &Dressed, out: &mut Vec<u8>) -> Result<(), Memory>
+    ensures { OnOk result (out.new.items ≡ out.old.items ++ open_tag tag.now dressed.now) }
+{
+    out.push(b'<')?;
+    append_qname(&tag.name.prefix, &tag.name.local, out)?;
+    for binding in dressed.declared.as_slice() {
+        append_declaration(binding, out)?;
+    }
+    append_attributes(dressed.prefixes.as_slice(), tag.attrs.as_slice(), out)
+}
+
+pub fn append_end_tag(name: &Name, out: &mut Vec<u8>) -> Result<(), Memory>
+    ensures { OnOk result (out.new.items ≡ out.old.items ++ end_tag name.now.prefix name.now.local) }
+{
+    out.extend_from_slice(b"</")?;
+    append_qname(&name.prefix, &name.local, out)?;
+    out.push(b'>')?;
+    Ok(())
+}

@@ -1,0 +1,31 @@
+ghost use Rattle.std.specs.Prelude.{◌≡◌};
+ghost use Rattle.result_writer.specs.Allowed.{agree, is_empty, is_word, same};
+
+use stx_base::Text;
+
+/// Whether two texts have the same characters.
+pub fn same(a: &Text, b: &Text) -> bool
+    ensures { result ≡ same a.now b.now }
+{
+    a.same(b)
+}
+
+/// Whether a text is spelled as `word` is.
+pub fn is_word(text: &Text, word: &str) -> bool
+    ensures { result ≡ is_word text.now word.now }
+{
+    text.as_str() == word
+}
+
+pub fn is_empty(text: &Text) -> bool
+    ensures { result ≡ is_empty text.now }
+{
+    text.is_empty()
+}
+
+/// Whether both hold, or neither does.
+pub fn agree(a: bool, b: bool) -> bool
+    ensures { result ≡ agree a b }
+{
+    a == b
+}
