@@ -1,5 +1,6 @@
 pub mod Allowed
 pub mod Escape
+pub mod Opened
 pub mod Table
 pub mod Tag
 pub mod Target

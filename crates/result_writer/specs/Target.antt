@@ -26,14 +26,32 @@ pub record Left : Type 0 where
   pub elements : List Element
   pub held : Option HeldTag
 
+-- a target, with the number of elements that may be open in it at once
+pub record Target : Type 0 where
+  pub limit : ℕ
+  pub left : Left
+
 -- no parts leave nothing
 abbrev pub nothing : Left
 nothing = record { elements = []; held = None }
+
+abbrev pub fresh : (limit : ℕ) → Target
+fresh limit = record { limit = limit; left = nothing }
 
 -- what the open elements declared, the innermost last
 abbrev pub in_force : List Element → List Binding
 in_force [] = []
 in_force (e ∷ outer) = in_force outer ++ e.declared
+
+-- what is written with a tag that is held back, once it is settled
+abbrev pub dressed_in : List Element → Option HeldTag → Option Dressed
+dressed_in outer None = None
+dressed_in outer (Some tag) = Some (dressed (in_force outer) tag)
+
+-- an attribute settles nothing
+abbrev pub dressed_for : Left → Part → Option Dressed
+dressed_for l (part.Attribute name value) = None
+dressed_for l p = dressed_in l.elements l.held
 
 -- What a part changes.
 
@@ -71,6 +89,10 @@ next l (part.Chars text) = record { elements = settled l.elements l.held; held =
 next l (part.Comment text) = record { elements = settled l.elements l.held; held = None }
 next l (part.Pi target text) = record { elements = settled l.elements l.held; held = None }
 
+-- the target, with what is left behind a part
+abbrev pub behind : Target → Part → Target
+behind t p = record t { left = next t.left p }
+
 -- Which parts are accepted.
 
 -- a fault, unless the test holds, and then the next one
@@ -86,21 +108,38 @@ innermost elements (Some tag) = Some tag.name
 innermost [] None = None
 innermost (e ∷ outer) None = Some e.name
 
-abbrev pub end_fault : (innermost : Option Name) → Name → Option ResultFault
-end_fault None name = Some UnmatchedEnd
-end_fault (Some n) name = unless (same_name n name) WrongEnd None
+abbrev pub start_fault : (limit : ℕ) → Left → Name → Option ResultFault
+start_fault limit l name = unless (is_good_name name) BadName (unless (nat_lt (depth l.elements l.held) limit) ResultDepth None)
+
+abbrev pub attribute_fault : Left → Name → (value : List ℕ) → Option ResultFault
+attribute_fault l name value =
+    unless (is_good_attribute name) BadName (unless (are_chars value) BadChar (unless (is_some l.held) LateAttribute None))
+
+abbrev pub end_of : (innermost : Option Name) → Name → Option ResultFault
+end_of None name = Some UnmatchedEnd
+end_of (Some n) name = unless (same_name n name) WrongEnd None
+
+abbrev pub end_fault : Left → Name → Option ResultFault
+end_fault l name = unless (is_good_name name) BadName (end_of (innermost l.elements l.held) name)
+
+abbrev pub chars_fault : List ℕ → Option ResultFault
+chars_fault text = unless (are_chars text) BadChar None
+
+abbrev pub comment_fault : List ℕ → Option ResultFault
+comment_fault text = unless (are_chars text) BadChar (unless (is_good_comment text) BadComment None)
+
+abbrev pub instruction_fault : (target text : List ℕ) → Option ResultFault
+instruction_fault target text =
+    unless (are_chars text) BadChar (unless (is_good_target target && is_good_data text) BadPi None)
 
 -- the first fault of a part
 abbrev pub fault : (limit : ℕ) → Left → Part → Option ResultFault
-fault limit l (part.Start name scope) =
-    unless (is_good_name name) BadName (unless (nat_lt (depth l.elements l.held) limit) ResultDepth None)
-fault limit l (part.Attribute name value) =
-    unless (is_good_attribute name) BadName (unless (are_chars value) BadChar (unless (is_some l.held) LateAttribute None))
-fault limit l (part.End name) = unless (is_good_name name) BadName (end_fault (innermost l.elements l.held) name)
-fault limit l (part.Chars text) = unless (are_chars text) BadChar None
-fault limit l (part.Comment text) = unless (are_chars text) BadChar (unless (is_good_comment text) BadComment None)
-fault limit l (part.Pi target text) =
-    unless (are_chars text) BadChar (unless (is_good_target target && is_good_data text) BadPi None)
+fault limit l (part.Start name scope) = start_fault limit l name
+fault limit l (part.Attribute name value) = attribute_fault l name value
+fault limit l (part.End name) = end_fault l name
+fault limit l (part.Chars text) = chars_fault text
+fault limit l (part.Comment text) = comment_fault text
+fault limit l (part.Pi target text) = instruction_fault target text
 
 -- What is written.
 

@@ -4,9 +4,11 @@
 mod allowed;
 mod escape;
 mod fault;
+mod opened;
 mod order;
 mod table;
 mod tag;
 mod words;
 
 pub use fault::{ResultFault, WriteStop};
+pub use opened::Opened;

@@ -1,6 +1,10 @@
-ghost use Rattle.std.specs.Prelude.{◌≡◌, ◌↔◌, Some, None, IfOk, IfErr, OnOk, OnErr, option_map, is_some};
+ghost use Rattle.std.specs.Prelude.{◌≡◌, ◌<◌, ◌+◌, ◌++◌, ◌∷◌, [], ℕ, List as Items, IfOk, IfErr, IfSome, MatchOption, OnOk, OnErr, length, slice_get, slice_set};
 ghost use Rattle.std.specs.Option.{option_copied};
-ghost use Rattle.result_writer.specs.Target.{added, closed, depth, dressed_in, end_fault, fault, fresh, innermost, is_closed, next, settled, with_attribute, IsCause};
+ghost use Rattle.stx_base.specs.declared.name.Attr.{Attr};
+ghost use Rattle.stx_base.specs.declared.name.Name.{Name};
+ghost use Rattle.stx_base.specs.declared.part.Part.TheVariants.{Start, Attribute, End, Chars};
+ghost use Rattle.result_writer.specs.Target as spec;
+ghost use Rattle.result_writer.specs.Target.{behind, depth, dressed_in, fresh, innermost, is_closed, with_attribute, IsCause};
 
 use crate::allowed::{are_chars, is_good_attribute, is_good_comment, is_good_data, is_good_name, is_good_target};
 use crate::fault::{ResultFault, WriteStop};
@@ -30,7 +34,7 @@ pub struct Opened {
 }
 
 impl Model for Opened {
-    ghost use Rattle.result_writer.specs.Left.{Target};
+    ghost use Rattle.result_writer.specs.Target.{Target};
 
     ghost Value = { Target };
 
@@ -39,4 +43,283 @@ impl Model for Opened {
     ghost view = { target_of };
 
     ghost invariant = { IsCounted };
+}
+
+impl Opened {
+    /// A target in which no element is open, and at most `limit` may be at once. Allocates nothing.
+    pub fn new(alloc: Global, limit: u32) -> Opened
+        ensures { result ≡ fresh limit }
+    {
+        Opened {
+            alloc,
+            limit,
+            elements: Vec::new(alloc),
+            bindings: Vec::new(alloc),
+            held: None,
+        }
+    }
+
+    /// Takes a part. After a refusal all is unchanged.
+    pub fn accept(&mut self, part: &Part) -> Result<(), WriteStop>
+        // It is taken only where it has no fault.
+        ensures taken { OnOk result (spec.fault self.old.limit self.old.left part.now ≡ None) }
+        ensures fault { IfErr result (IsCause (spec.fault self.old.limit self.old.left part.now)) }
+        ensures ok { OnOk result (self.new ≡ behind self.old part.now) }
+        ensures err { OnErr result (self.new ≡ self.old) }
+    {
+        if let Some(fault) = self.fault(part) {
+            return Err(WriteStop::Fault(fault));
+        }
+        let dressed = self.dressed_for(part)?;
+        self.take(part, dressed)?;
+        Ok(())
+    }
+
+    /// Whether no element is open.
+    pub fn closed(&self) -> bool
+        ensures { result ≡ is_closed self.now.left.elements self.now.left.held }
+    {
+        self.held.is_none() && self.elements.is_empty()
+    }
+
+    /// The first fault of a part.
+    pub fn fault(&self, part: &Part) -> Option<ResultFault>
+        ensures { result ≡ spec.fault self.now.limit self.now.left part.now }
+    {
+        match part {
+            Part::Start { name, .. } => self.start_fault(name),
+            Part::Attribute { name, value } => self.attribute_fault(name, value),
+            Part::End { name } => self.end_fault(name),
+            Part::Chars { text } => chars_fault(text),
+            Part::Comment { text } => comment_fault(text),
+            Part::Pi { target, text } => instruction_fault(target, text),
+        }
+    }
+
+    fn start_fault(&self, name: &Name) -> Option<ResultFault>
+        ensures { result ≡ spec.start_fault self.now.limit self.now.left name.now }
+    {
+        if !is_good_name(name) {
+            Some(ResultFault::BadName)
+        } else if self.depth() < self.limit as usize {
+            None
+        } else {
+            Some(ResultFault::ResultDepth)
+        }
+    }
+
+    fn attribute_fault(&self, name: &Name, value: &Text) -> Option<ResultFault>
+        ensures { result ≡ spec.attribute_fault self.now.left name.now value.now }
+    {
+        if !is_good_attribute(name) {
+            Some(ResultFault::BadName)
+        } else if !are_chars(value) {
+            Some(ResultFault::BadChar)
+        } else if self.held.is_some() {
+            None
+        } else {
+            Some(ResultFault::LateAttribute)
+        }
+    }
+
+    fn end_fault(&self, name: &Name) -> Option<ResultFault>
+        ensures { result ≡ spec.end_fault self.now.left name.now }
+    {
+        if !is_good_name(name) {
+            return Some(ResultFault::BadName);
+        }
+        match self.innermost() {
+            None => Some(ResultFault::UnmatchedEnd),
+            Some(innermost) if innermost.same(name) => None,
+            Some(_) => Some(ResultFault::WrongEnd),
+        }
+    }
+
+    /// How many elements are open.
+    fn depth(&self) -> usize
+        ensures { result ≡ depth self.now.left.elements self.now.left.held }
+    {
+        match &self.held {
+            None => self.elements.len(),
+            Some(_) => self.elements.len() + 1,
+        }
+    }
+
+    fn innermost(&self) -> Option<&Name>
+        ensures { option_copied result ≡ innermost self.now.left.elements self.now.left.held }
+    {
+        match &self.held {
+            Some(tag) => Some(&tag.name),
+            None => match self.elements.last() {
+                Some(element) => Some(&element.name),
+                None => None,
+            },
+        }
+    }
+
+    /// What is written with the tag that a part settles, if it settles one.
+    pub fn dressed_for(&self, part: &Part) -> Result<Option<Dressed>, Memory>
+        ensures { IfOk result (λ d. d ≡ spec.dressed_for self.now.left part.now) }
+    {
+        match (part, &self.held) {
+            (Part::Attribute { .. }, _) | (_, None) => Ok(None),
+            (_, Some(tag)) => {
+                let dressed = dress(self.alloc, &self.bindings, tag)?;
+                Ok(Some(dressed))
+            }
+        }
+    }
+
+    /// Takes a part that is accepted. After a refusal all is unchanged.
+    pub fn take(&mut self, part: &Part, dressed: Option<Dressed>) -> Result<(), Memory>
+        requires { dressed ≡ spec.dressed_for self.old.left part.now }
+        ensures ok { OnOk result (self.new ≡ behind self.old part.now) }
+        ensures err { OnErr result (self.new ≡ self.old) }
+    {
+        match part {
+            Part::Start { name, scope } => self.start(name, scope, dressed),
+            Part::Attribute { name, value } => self.add_attribute(name, value),
+            Part::End { .. } => {
+                self.end();
+                Ok(())
+            }
+            Part::Chars { .. } | Part::Comment { .. } | Part::Pi { .. } => self.settle(dressed),
+        }
+    }
+
+    fn start(&mut self, name: &Name, scope: &List<Binding>, dressed: Option<Dressed>) -> Result<(), Memory>
+        requires { dressed ≡ dressed_in self.old.left.elements self.old.left.held }
+        ensures ok { OnOk result (self.new ≡ behind self.old (Start name.now scope.now)) }
+        ensures err { OnErr result (self.new ≡ self.old) }
+    {
+        let name = name.copy(self.alloc)?;
+        let scope = scope.copy(self.alloc)?;
+        let attrs = List::new(self.alloc);
+        self.settle(dressed)?;
+        self.held = Some(HeldTag { name, scope, attrs });
+        Ok(())
+    }
+
+    fn add_attribute(&mut self, name: &Name, value: &Text) -> Result<(), Memory>
+        ensures ok { OnOk result (self.new ≡ behind self.old (Attribute name.now value.now)) }
+        ensures err { OnErr result (self.new ≡ self.old) }
+    {
+        match &mut self.held {
+            None => Ok(()),
+            Some(tag) => set_attribute(self.alloc, &mut tag.attrs, name, value),
+        }
+    }
+
+    fn end(&mut self)
+        ensures { (name : Name) → self.new ≡ behind self.old (End name) }
+    {
+        if self.held.is_some() {
+            self.held = None;
+        } else if let Some(element) = self.elements.pop() {
+            let outer = self.bindings.len() - element.declared;
+            self.bindings.truncate(outer);
+        }
+    }
+
+    /// The tag that is held back is settled: its element is open. After a refusal all is unchanged.
+    fn settle(&mut self, dressed: Option<Dressed>) -> Result<(), Memory>
+        requires { dressed ≡ dressed_in self.old.left.elements self.old.left.held }
+        ensures ok { OnOk result (self.new ≡ behind self.old (Chars [])) }
+        ensures err { OnErr result (self.new ≡ self.old) }
+    {
+        let (Some(tag), Some(dressed)) = (&self.held, dressed) else {
+            return Ok(());
+        };
+        push_element(self.alloc, &mut self.elements, &mut self.bindings, &tag.name, dressed.declared)?;
+        self.held = None;
+        Ok(())
+    }
+}
+
+fn chars_fault(text: &Text) -> Option<ResultFault>
+    ensures { result ≡ spec.chars_fault text.now }
+{
+    if are_chars(text) { None } else { Some(ResultFault::BadChar) }
+}
+
+fn comment_fault(text: &Text) -> Option<ResultFault>
+    ensures { result ≡ spec.comment_fault text.now }
+{
+    if !are_chars(text) {
+        Some(ResultFault::BadChar)
+    } else if is_good_comment(text) {
+        None
+    } else {
+        Some(ResultFault::BadComment)
+    }
+}
+
+fn instruction_fault(target: &Text, text: &Text) -> Option<ResultFault>
+    ensures { result ≡ spec.instruction_fault target.now text.now }
+{
+    if !are_chars(text) {
+        Some(ResultFault::BadChar)
+    } else if is_good_target(target) && is_good_data(text) {
+        None
+    } else {
+        Some(ResultFault::BadPi)
+    }
+}
+
+/// Opens an element that declares these bindings. After a refusal all is unchanged.
+fn push_element(
+    alloc: Global,
+    elements: &mut Vec<OpenElement>,
+    bindings: &mut Vec<Binding>,
+    name: &Name,
+    declared: List<Binding>,
+) -> Result<(), Memory>
+    ensures elements { OnOk result (elements.new.items ≡ elements.old.items ++ record { name = name.now; declared = length declared } ∷ []) }
+    ensures bindings { OnOk result (bindings.new.items ≡ bindings.old.items ++ declared) }
+    ensures same_elements { OnErr result (elements.new.items ≡ elements.old.items) }
+    ensures same_bindings { OnErr result (bindings.new.items ≡ bindings.old.items) }
+{
+    let name = name.copy(alloc)?;
+    let count = declared.len();
+    let outer = bindings.len();
+    bindings.append(&mut declared.into_vec())?;
+    let element = OpenElement {
+        name,
+        declared: count,
+    };
+    if elements.push(element).is_err() {
+        bindings.truncate(outer);
+        return Err(Memory);
+    }
+    Ok(())
+}
+
+/// Gives an attribute its value: in its place where there is one of the name, else behind the others. After a refusal
+/// all is unchanged.
+fn set_attribute(alloc: Global, attrs: &mut List<Attr>, name: &Name, value: &Text) -> Result<(), Memory>
+    ensures ok { OnOk result (attrs.new ≡ with_attribute attrs.old name.now value.now) }
+    ensures err { OnErr result (attrs.new ≡ attrs.old) }
+{
+    let value = value.copy(alloc)?;
+    match attribute_named(attrs.as_slice(), name) {
+        Some(at) => {
+            let name = attrs.as_slice()[at].name.copy(alloc)?;
+            attrs.set(at, Attr { name, value });
+            Ok(())
+        }
+        None => {
+            let name = name.copy(alloc)?;
+            attrs.push(Attr { name, value })
+        }
+    }
+}
+
+/// The place of the first attribute with the expanded name.
+fn attribute_named(attrs: &[Attr], name: &Name) -> Option<usize>
+    ensures within { IfSome result (λ at. at < length attrs.now) }
+    ensures found { (value : Items ℕ) → MatchOption result
+        (with_attribute attrs.now name.now value ≡ attrs.now ++ record { name = name.now; value = value } ∷ [])
+        (λ at. (a : Attr) → slice_get attrs.now at ≡ Some a → with_attribute attrs.now name.now value ≡ slice_set attrs.now at (record a { value = value })) }
+{
+    attrs.iter().position(|attr| attr.name.same(name))
 }
