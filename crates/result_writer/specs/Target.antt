@@ -5,7 +5,7 @@ use Rattle.stx_base.specs.declared.name.Binding.{Binding}
 use Rattle.stx_base.specs.declared.name.Name.{Name}
 use Rattle.stx_base.specs.declared.part.Part.{Part}
 use Rattle.stx_base.specs.declared.part.Part.TheVariants as part
-use Rattle.result_writer.specs.Allowed.{is_good_attribute, is_good_comment, is_good_data, is_good_name, is_good_target, are_chars, same}
+use Rattle.result_writer.specs.Allowed.{is_good_attribute, is_good_comment, is_good_data, is_good_name, is_good_target, are_chars, is_empty, same}
 use Rattle.result_writer.specs.Escape.{escaped}
 use Rattle.result_writer.specs.Tag.{dressed, end_tag, open_tag}
 use Rattle.result_writer.specs.declared.escape.Context.TheVariants.{Content}
@@ -155,10 +155,15 @@ end_text outer (Some tag) = tag_text outer (Some tag) (codes "/>")
 end_text [] None = []
 end_text (e ∷ outer) None = end_tag e.name.prefix e.name.local
 
--- a space and the data of an instruction, where it has some (XML 1.0, 2.6)
-abbrev pub data_text : List ℕ → List ℕ
-data_text [] = []
-data_text (c ∷ cs) = codes " " ++ encode_utf8_all (c ∷ cs)
+abbrev pub comment_text : List ℕ → List ℕ
+comment_text text = codes "<!--" ++ encode_utf8_all text ++ codes "-->"
+
+-- the data stands behind a space, where there is some (XML 1.0, 2.6)
+abbrev pub instruction_text : (target text : List ℕ) → List ℕ
+instruction_text target text =
+    codes "<?" ++ encode_utf8_all target
+    ++ (if is_empty text then [] else codes " " ++ encode_utf8_all text)
+    ++ codes "?>"
 
 -- the bytes that a part settles
 abbrev pub settles : Left → Part → List ℕ
@@ -166,10 +171,8 @@ settles l (part.Start name scope) = tag_text l.elements l.held (codes ">")
 settles l (part.Attribute name value) = []
 settles l (part.End name) = end_text l.elements l.held
 settles l (part.Chars text) = tag_text l.elements l.held (codes ">") ++ escaped Content (encode_utf8_all text)
-settles l (part.Comment text) =
-    tag_text l.elements l.held (codes ">") ++ (codes "<!--" ++ encode_utf8_all text ++ codes "-->")
-settles l (part.Pi target text) =
-    tag_text l.elements l.held (codes ">") ++ (codes "<?" ++ encode_utf8_all target ++ data_text text ++ codes "?>")
+settles l (part.Comment text) = tag_text l.elements l.held (codes ">") ++ comment_text text
+settles l (part.Pi target text) = tag_text l.elements l.held (codes ">") ++ instruction_text target text
 
 -- Lists of parts.
 

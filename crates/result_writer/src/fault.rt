@@ -1,3 +1,4 @@
+use std::alloc::AllocError;
 use stx_base::Memory;
 use thiserror::Error;
 
@@ -51,6 +52,17 @@ impl From<Memory> for WriteStop {
     ghost from_gives = { λ memory answer. answer ≡ stop.Memory };
 
     fn from(_memory: Memory) -> WriteStop {
+        WriteStop::Memory
+    }
+}
+
+impl From<AllocError> for WriteStop {
+    ghost use Rattle.std.specs.Prelude.{◌≡◌};
+    ghost use Rattle.result_writer.specs.declared.fault.WriteStop.TheVariants as stop;
+
+    ghost from_gives = { λ error answer. answer ≡ stop.Memory };
+
+    fn from(_error: AllocError) -> WriteStop {
         WriteStop::Memory
     }
 }

@@ -9,6 +9,8 @@ mod order;
 mod table;
 mod tag;
 mod words;
+mod writer;
 
 pub use fault::{ResultFault, WriteStop};
 pub use opened::Opened;
+pub use writer::Writer;

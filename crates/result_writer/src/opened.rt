@@ -4,11 +4,13 @@ ghost use Rattle.stx_base.specs.declared.name.Attr.{Attr};
 ghost use Rattle.stx_base.specs.declared.name.Name.{Name};
 ghost use Rattle.stx_base.specs.declared.part.Part.TheVariants.{Start, Attribute, End, Chars};
 ghost use Rattle.result_writer.specs.Target as spec;
-ghost use Rattle.result_writer.specs.Target.{behind, depth, dressed_in, fresh, innermost, is_closed, with_attribute, IsCause};
+ghost use Rattle.result_writer.specs.Target.{behind, comment_text, depth, dressed_in, end_text, fresh, innermost, instruction_text, is_closed, settles, tag_text, with_attribute, IsCause};
 
 use crate::allowed::{are_chars, is_good_attribute, is_good_comment, is_good_data, is_good_name, is_good_target};
+use crate::escape::{Context, append_escaped};
 use crate::fault::{ResultFault, WriteStop};
-use crate::tag::{Dressed, HeldTag, dress};
+use crate::tag::{Dressed, HeldTag, append_end_tag, append_open_tag, dress};
+use crate::words::{is_empty, same};
 use std::alloc::Global;
 use std::marker::Model;
 use stx_base::{Attr, Binding, Copied, List, Memory, Name, Part, Text};
@@ -130,7 +132,7 @@ impl Opened {
         }
         match self.innermost() {
             None => Some(ResultFault::UnmatchedEnd),
-            Some(innermost) if innermost.same(name) => None,
+            Some(innermost) if same_name(innermost, name) => None,
             Some(_) => Some(ResultFault::WrongEnd),
         }
     }
@@ -161,12 +163,75 @@ impl Opened {
     pub fn dressed_for(&self, part: &Part) -> Result<Option<Dressed>, Memory>
         ensures { IfOk result (λ d. d ≡ spec.dressed_for self.now.left part.now) }
     {
-        match (part, &self.held) {
-            (Part::Attribute { .. }, _) | (_, None) => Ok(None),
-            (_, Some(tag)) => {
+        match part {
+            Part::Attribute { .. } => Ok(None),
+            Part::Start { .. } | Part::End { .. } | Part::Chars { .. } | Part::Comment { .. } | Part::Pi { .. } => self.dressed(),
+        }
+    }
+
+    fn dressed(&self) -> Result<Option<Dressed>, Memory>
+        ensures { IfOk result (λ d. d ≡ dressed_in self.now.left.elements self.now.left.held) }
+    {
+        match &self.held {
+            None => Ok(None),
+            Some(tag) => {
                 let dressed = dress(self.alloc, &self.bindings, tag)?;
                 Ok(Some(dressed))
             }
+        }
+    }
+
+    /// Appends the bytes that a part settles.
+    pub fn append(&self, part: &Part, dressed: &Option<Dressed>, out: &mut Vec<u8>) -> Result<(), Memory>
+        requires { dressed.now ≡ spec.dressed_for self.now.left part.now }
+        ensures { OnOk result (out.new.items ≡ out.old.items ++ settles self.now.left part.now) }
+    {
+        match part {
+            Part::Start { .. } => self.append_tag(dressed, b">", out),
+            Part::Attribute { .. } => Ok(()),
+            Part::End { .. } => self.append_end(dressed, out),
+            Part::Chars { text } => {
+                self.append_tag(dressed, b">", out)?;
+                append_escaped(Context::Content, text.as_str().as_bytes(), out)
+            }
+            Part::Comment { text } => {
+                self.append_tag(dressed, b">", out)?;
+                append_comment(text, out)
+            }
+            Part::Pi { target, text } => {
+                self.append_tag(dressed, b">", out)?;
+                append_instruction(target, text, out)
+            }
+        }
+    }
+
+    /// Appends the tag that is held back, if there is one, and its end.
+    fn append_tag(&self, dressed: &Option<Dressed>, end: &[u8], out: &mut Vec<u8>) -> Result<(), Memory>
+        requires { dressed.now ≡ dressed_in self.now.left.elements self.now.left.held }
+        ensures { OnOk result (out.new.items ≡ out.old.items ++ tag_text self.now.left.elements self.now.left.held end.now) }
+    {
+        let Some(tag) = &self.held else {
+            return Ok(());
+        };
+        let Some(dressed) = dressed else {
+            return Ok(());
+        };
+        append_open_tag(tag, dressed, out)?;
+        out.extend_from_slice(end)?;
+        Ok(())
+    }
+
+    /// Appends the end of the innermost element.
+    fn append_end(&self, dressed: &Option<Dressed>, out: &mut Vec<u8>) -> Result<(), Memory>
+        requires { dressed.now ≡ dressed_in self.now.left.elements self.now.left.held }
+        ensures { OnOk result (out.new.items ≡ out.old.items ++ end_text self.now.left.elements self.now.left.held) }
+    {
+        if self.held.is_some() {
+            return self.append_tag(dressed, b"/>", out);
+        }
+        match self.elements.last() {
+            None => Ok(()),
+            Some(element) => append_end_tag(&element.name, out),
         }
     }
 
@@ -266,6 +331,28 @@ fn instruction_fault(target: &Text, text: &Text) -> Option<ResultFault>
     }
 }
 
+fn append_comment(text: &Text, out: &mut Vec<u8>) -> Result<(), Memory>
+    ensures { OnOk result (out.new.items ≡ out.old.items ++ comment_text text.now) }
+{
+    out.extend_from_slice(b"<!--")?;
+    out.extend_from_slice(text.as_str().as_bytes())?;
+    out.extend_from_slice(b"-->")?;
+    Ok(())
+}
+
+fn append_instruction(target: &Text, text: &Text, out: &mut Vec<u8>) -> Result<(), Memory>
+    ensures { OnOk result (out.new.items ≡ out.old.items ++ instruction_text target.now text.now) }
+{
+    out.extend_from_slice(b"<?")?;
+    out.extend_from_slice(target.as_str().as_bytes())?;
+    if !is_empty(text) {
+        out.push(b' ')?;
+        out.extend_from_slice(text.as_str().as_bytes())?;
+    }
+    out.extend_from_slice(b"?>")?;
+    Ok(())
+}
+
 /// Opens an element that declares these bindings. After a refusal all is unchanged.
 fn push_element(
     alloc: Global,
@@ -321,5 +408,16 @@ fn attribute_named(attrs: &[Attr], name: &Name) -> Option<usize>
         (with_attribute attrs.now name.now value ≡ attrs.now ++ record { name = name.now; value = value } ∷ [])
         (λ at. (a : Attr) → slice_get attrs.now at ≡ Some a → with_attribute attrs.now name.now value ≡ slice_set attrs.now at (record a { value = value })) }
 {
-    attrs.iter().position(|attr| attr.name.same(name))
+    for (at, attr) in attrs.iter().enumerate() {
+        if same_name(&attr.name, name) {
+            return Some(at);
+        }
+    }
+    None
+}
+
+fn same_name(name: &Name, other: &Name) -> bool
+    ensures { result ≡ spec.same_name name.now other.now }
+{
+    same(&name.uri, &other.uri) && same(&name.local, &other.local)
 }

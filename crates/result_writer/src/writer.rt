@@ -1,0 +1,80 @@
+ghost use Rattle.std.specs.Prelude.{◌≡◌, ◌++◌, codes, true, false, Some, None, IfErr, MatchResult, OnOk, OnErr};
+ghost use Rattle.stx_base.specs.declared.part.Part.TheVariants.{End};
+ghost use Rattle.result_writer.specs.Tag.{end_tag};
+ghost use Rattle.result_writer.specs.Target as spec;
+ghost use Rattle.result_writer.specs.Target.{behind, dressed_in, end_text, fresh, is_closed, left_by, settles, tag_text, text_from, IsCause};
+
+use crate::escape::{Context, append_escaped};
+use crate::fault::{ResultFault, WriteStop};
+use crate::opened::Opened;
+use crate::tag::{Dressed, append_end_tag, append_open_tag};
+use std::alloc::Global;
+use std::marker::Model;
+use stx_base::{List, Memory, Part, Text};
+
+/// Writes the parts of a result.
+#[derive(Debug, Drop)]
+pub struct Writer {
+    opened: Opened,
+    /// What the part that is being put settles. It is kept for its room.
+    bytes: Vec<u8>,
+}
+
+impl Model for Writer {
+    ghost use Rattle.result_writer.specs.Target.{Target};
+
+    ghost Value = { Target };
+
+    ghost view = { λ writer. writer.opened };
+}
+
+impl Writer {
+    /// A writer of a result in which at most `limit` elements may be open at once. Allocates nothing.
+    pub fn new(alloc: Global, limit: u32) -> Writer
+        ensures { result ≡ fresh limit }
+    {
+        Writer {
+            opened: Opened::new(alloc, limit),
+            bytes: Vec::new(alloc),
+        }
+    }
+
+    /// Appends the bytes that a part settles. After a refusal all is unchanged.
+    pub fn put(&mut self, part: &Part, out: &mut Vec<u8>) -> Result<(), WriteStop>
+        // It is taken only where it has no fault.
+        ensures taken { OnOk result (spec.fault self.old.limit self.old.left part.now ≡ None) }
+        ensures fault { IfErr result (IsCause (spec.fault self.old.limit self.old.left part.now)) }
+        ensures ok { OnOk result (self.new ≡ behind self.old part.now) }
+        ensures err { OnErr result (self.new ≡ self.old) }
+        ensures written { OnOk result (out.new.items ≡ out.old.items ++ settles self.old.left part.now) }
+        ensures unwritten { OnErr result (out.new.items ≡ out.old.items) }
+    {
+        if let Some(fault) = self.opened.fault(part) {
+            return Err(WriteStop::Fault(fault));
+        }
+        let dressed = self.opened.dressed_for(part)?;
+        self.bytes.clear();
+        self.opened.append(part, &dressed, &mut self.bytes)?;
+        let len = out.len();
+        out.extend_from_slice(&self.bytes)?;
+        if self.opened.take(part, dressed).is_err() {
+            out.truncate(len);
+            return Err(WriteStop::Memory);
+        }
+        Ok(())
+    }
+
+    /// Ends the result. The writer is unchanged. Allocates nothing.
+    pub fn finish(&mut self) -> Result<(), ResultFault>
+        ensures closed { MatchResult result
+            (λ _. is_closed self.old.left.elements self.old.left.held ≡ true)
+            (λ fault. (fault ≡ ResultFault.UnclosedResult) × (is_closed self.old.left.elements self.old.left.held ≡ false)) }
+        ensures unchanged { self.new ≡ self.old }
+    {
+        if self.opened.closed() {
+            Ok(())
+        } else {
+            Err(ResultFault::UnclosedResult)
+        }
+    }
+}
