@@ -1,2 +1,4 @@
+mod Bound
 mod Opening
 mod Tabling
+mod Texts

@@ -1,5 +1,6 @@
 pub mod Allowed
 pub mod Escape
+pub mod Laws
 pub mod Opened
 pub mod Table
 pub mod Tag

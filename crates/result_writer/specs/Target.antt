@@ -10,7 +10,7 @@ use Rattle.result_writer.specs.Escape.{escaped}
 use Rattle.result_writer.specs.Tag.{dressed, end_tag, open_tag}
 use Rattle.result_writer.specs.declared.escape.Context.TheVariants.{Content}
 use Rattle.result_writer.specs.declared.fault.ResultFault.{ResultFault}
-use Rattle.result_writer.specs.declared.fault.ResultFault.TheVariants.{BadName, BadChar, BadComment, BadPi, LateAttribute, UnmatchedEnd, WrongEnd, ResultDepth}
+use Rattle.result_writer.specs.declared.fault.ResultFault.TheVariants.{BadName, BadChar, BadComment, BadPi, LateAttribute, UnmatchedEnd, WrongEnd, UnclosedResult, ResultDepth}
 use Rattle.result_writer.specs.declared.fault.WriteStop.{WriteStop}
 use Rattle.result_writer.specs.declared.fault.WriteStop.TheVariants.{Fault, Memory}
 use Rattle.result_writer.specs.declared.tag.HeldTag.{HeldTag}
@@ -202,6 +202,12 @@ abbrev pub is_closed : List Element → Option HeldTag → Bool
 is_closed elements (Some tag) = false
 is_closed [] None = true
 is_closed (e ∷ outer) None = false
+
+-- the first fault of a whole result, which ends with no element open
+abbrev pub whole_fault : (limit : ℕ) → List Part → Option ResultFault
+whole_fault limit ps =
+    let l = left_by nothing ps in
+    or_else (first_fault limit nothing ps) (if is_closed l.elements l.held then None else Some UnclosedResult)
 
 -- a refusal is for the fault that there is, or for want of memory, which no fault tells
 abbrev pub IsCause : Option ResultFault → WriteStop → Type 0

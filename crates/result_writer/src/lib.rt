@@ -4,6 +4,7 @@
 mod allowed;
 mod escape;
 mod fault;
+pub mod law;
 mod opened;
 mod order;
 mod table;
@@ -13,4 +14,4 @@ mod writer;
 
 pub use fault::{ResultFault, WriteStop};
 pub use opened::Opened;
-pub use writer::Writer;
+pub use writer::{Writer, write};

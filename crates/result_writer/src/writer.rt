@@ -1,16 +1,12 @@
-ghost use Rattle.std.specs.Prelude.{◌≡◌, ◌++◌, codes, true, false, Some, None, IfErr, MatchResult, OnOk, OnErr};
-ghost use Rattle.stx_base.specs.declared.part.Part.TheVariants.{End};
-ghost use Rattle.result_writer.specs.Tag.{end_tag};
+ghost use Rattle.std.specs.Prelude.{◌≡◌, ◌++◌, true, false, IfOk, IfErr, MatchResult, OnOk, OnErr};
 ghost use Rattle.result_writer.specs.Target as spec;
-ghost use Rattle.result_writer.specs.Target.{behind, dressed_in, end_text, fresh, is_closed, left_by, settles, tag_text, text_from, IsCause};
+ghost use Rattle.result_writer.specs.Target.{behind, fresh, is_closed, settles, text, whole_fault, IsCause};
 
-use crate::escape::{Context, append_escaped};
 use crate::fault::{ResultFault, WriteStop};
 use crate::opened::Opened;
-use crate::tag::{Dressed, append_end_tag, append_open_tag};
 use std::alloc::Global;
 use std::marker::Model;
-use stx_base::{List, Memory, Part, Text};
+use stx_base::{List, Part};
 
 /// Writes the parts of a result.
 #[derive(Debug, Drop)]
@@ -77,4 +73,19 @@ impl Writer {
             Err(ResultFault::UnclosedResult)
         }
     }
+}
+
+/// The bytes of a whole result.
+pub fn write(alloc: Global, limit: u32, parts: &List<Part>) -> Result<Vec<u8>, WriteStop>
+    ensures text { IfOk result (λ out. out.items ≡ text parts.now) }
+    ensures accepted { OnOk result (whole_fault limit parts.now ≡ None) }
+    ensures fault { IfErr result (IsCause (whole_fault limit parts.now)) }
+{
+    let mut writer = Writer::new(alloc, limit);
+    let mut out = Vec::new(alloc);
+    for part in parts.as_slice() {
+        writer.put(part, &mut out)?;
+    }
+    writer.finish()?;
+    Ok(out)
 }

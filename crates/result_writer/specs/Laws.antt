@@ -1,0 +1,64 @@
+-- What laws of the definitions say.
+use Rattle.std.specs.Prelude.{◌≡◌, ◌≢◌, ℕ, ◌<◌, ◌^◌, false, true, List, [], ◌∷◌, ◌++◌, Some, codes, length, slice_get}
+use Rattle.std.specs.List.{list_any}
+use Rattle.stx_base.specs.declared.name.Attr.{Attr}
+use Rattle.stx_base.specs.declared.name.Binding.{Binding}
+use Rattle.stx_base.specs.declared.name.Name.{Name}
+use Rattle.stx_base.specs.declared.part.Part.{Part}
+use Rattle.result_writer.specs.Allowed.{is_word}
+use Rattle.result_writer.specs.Table.{bound, has_prefix, with_attributes, with_element}
+use Rattle.result_writer.specs.Tag.{dressed}
+use Rattle.result_writer.specs.Target.{left_by, nothing, same_name, text, text_from, with_attribute}
+use Rattle.result_writer.specs.declared.tag.HeldTag.{HeldTag}
+
+-- More parts only append to the text.
+abbrev pub TextGrows : Type 0
+TextGrows = (ps qs : List Part) → text (ps ++ qs) ≡ text ps ++ text_from (left_by nothing ps) qs
+
+-- An attribute with the name of an earlier one replaces that one's value, in its place.
+abbrev pub Replaces : Type 0
+Replaces =
+    (before behind : List Attr) (a : Attr) (name : Name) (value : List ℕ)
+    → list_any (λ b. same_name b.name name) before ≡ false
+    → same_name a.name name ≡ true
+    → with_attribute (before ++ a ∷ behind) name value ≡ before ++ record a { value = value } ∷ behind
+
+-- Any other attribute stands behind those before it.
+abbrev pub Appends : Type 0
+Appends =
+    (before : List Attr) (name : Name) (value : List ℕ)
+    → list_any (λ b. same_name b.name name) before ≡ false
+    → with_attribute before name value ≡ before ++ record { name = name; value = value } ∷ []
+
+-- what is in force within an element: what is in force around it, and then what its tag declares
+abbrev pub inside : (in_force : List Binding) → HeldTag → List Binding
+inside in_force tag = in_force ++ (dressed in_force tag).declared
+
+-- An element's prefix, or the lack of one, stands for its namespace, or for none.
+abbrev pub BindsElement : Type 0
+BindsElement =
+    (in_force : List Binding) (tag : HeldTag)
+    → is_word tag.name.prefix (codes "xml") ≡ false
+    → bound (inside in_force tag) tag.name.prefix ≡ tag.name.uri
+
+-- An attribute that has a namespace is written with a prefix that stands for it.
+abbrev pub BindsAttributes : Type 0
+BindsAttributes =
+    (in_force : List Binding) (tag : HeldTag) (i : ℕ) (a : Attr) (prefix : List ℕ)
+    → length tag.attrs < 2 ^ 64
+    → slice_get tag.attrs i ≡ Some a
+    → slice_get (dressed in_force tag).prefixes i ≡ Some prefix
+    → a.name.uri ≢ []
+    → is_word prefix (codes "xml") ≡ false
+    → (prefix ≢ []) × (bound (inside in_force tag) prefix ≡ a.name.uri)
+
+-- A prefix that is in force where the element comes from keeps its URI, unless the names of the tag give it another.
+abbrev pub BindsScope : Type 0
+BindsScope =
+    (in_force : List Binding) (tag : HeldTag) (before behind : List Binding) (b : Binding)
+    → tag.scope ≡ before ++ b ∷ behind
+    → has_prefix before b.prefix ≡ false
+    → has_prefix (with_attributes (with_element tag.name) tag.attrs) b.prefix ≡ false
+    → b.uri ≢ []
+    → is_word b.prefix (codes "xml") ≡ false
+    → bound (inside in_force tag) b.prefix ≡ b.uri

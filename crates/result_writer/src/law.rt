@@ -1,0 +1,21 @@
+//! Laws of the definitions, as contracts.
+
+ghost use Rattle.result_writer.specs.Laws.{Appends, BindsAttributes, BindsElement, BindsScope, Replaces, TextGrows};
+
+/// The text of parts begins the text of these parts and more.
+pub fn text_grows()
+    ensures { TextGrows }
+{}
+
+/// An attribute that is put again has the last value, in its first place.
+pub fn attributes_of_one_name()
+    ensures replaced { Replaces }
+    ensures appended { Appends }
+{}
+
+/// Each prefix of a tag that is written is bound there to its URI.
+pub fn prefixes_are_bound()
+    ensures element { BindsElement }
+    ensures attributes { BindsAttributes }
+    ensures scope { BindsScope }
+{}
