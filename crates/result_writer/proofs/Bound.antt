@@ -9,7 +9,7 @@ use Rattle.stx_base.specs.declared.name.Attr.{Attr}
 use Rattle.stx_base.specs.declared.name.Binding.{Binding}
 use Rattle.stx_base.specs.declared.name.Name.{Name}
 use Rattle.result_writer.specs.Allowed.{is_empty, is_word, same}
-use Rattle.result_writer.specs.Laws.{BindsAttributes, BindsElement, BindsScope, inside}
+use Rattle.result_writer.specs.Laws.{BindsAttributes, BindsElement, BindsScope}
 use Rattle.result_writer.specs.Table.{attribute_prefix, bound, bound_from, declarations, entered, free_from, free_prefix, has_prefix, in_order, is_new, is_taken, numbered, placed, precedes, prefixes, with_attributes, with_element, with_name, with_scope}
 use Rattle.result_writer.specs.declared.tag.HeldTag.{HeldTag}
 

@@ -2,3 +2,4 @@ mod Bound
 mod Opening
 mod Tabling
 mod Texts
+mod Trees

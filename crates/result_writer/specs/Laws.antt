@@ -5,7 +5,9 @@ use Rattle.stx_base.specs.declared.name.Attr.{Attr}
 use Rattle.stx_base.specs.declared.name.Binding.{Binding}
 use Rattle.stx_base.specs.declared.name.Name.{Name}
 use Rattle.stx_base.specs.declared.part.Part.{Part}
+use Rattle.stx_base.specs.declared.part.Part.TheVariants as part
 use Rattle.result_writer.specs.Allowed.{is_word}
+use Rattle.result_writer.specs.Nodes.{Nodes, End, Chars, Comment, Instruction, Nested, forest, inside, parts_of, plain, written}
 use Rattle.result_writer.specs.Table.{bound, has_prefix, with_attributes, with_element}
 use Rattle.result_writer.specs.Tag.{dressed}
 use Rattle.result_writer.specs.Target.{left_by, nothing, same_name, text, text_from, with_attribute}
@@ -29,10 +31,6 @@ Appends =
     (before : List Attr) (name : Name) (value : List ℕ)
     → list_any (λ b. same_name b.name name) before ≡ false
     → with_attribute before name value ≡ before ++ record { name = name; value = value } ∷ []
-
--- what is in force within an element: what is in force around it, and then what its tag declares
-abbrev pub inside : (in_force : List Binding) → HeldTag → List Binding
-inside in_force tag = in_force ++ (dressed in_force tag).declared
 
 -- An element's prefix, or the lack of one, stands for its namespace, or for none.
 abbrev pub BindsElement : Type 0
@@ -62,3 +60,34 @@ BindsScope =
     → b.uri ≢ []
     → is_word b.prefix (codes "xml") ≡ false
     → bound (inside in_force tag) b.prefix ≡ b.uri
+
+-- The parts of nodes are written as the nodes are.
+abbrev pub WritesNodes : Type 0
+WritesNodes = (nodes : Nodes) → text (parts_of nodes) ≡ written [] nodes
+
+-- They are these nodes, but for prefixes, declarations, and how texts are cut.
+abbrev pub ReadsNodes : Type 0
+ReadsNodes = (nodes : Nodes) → forest (parts_of nodes) ≡ plain nodes
+
+-- a list that may follow a text: it begins with no other
+abbrev pub IsBehindText : Nodes → Type 0
+IsBehindText (Chars text next) = ⊥
+IsBehindText nodes = Unit {0}
+
+-- no text is empty, and no two texts touch
+abbrev pub IsProper : Nodes → Type 0
+IsProper End = Unit {0}
+IsProper (Chars text next) = (text ≢ []) × IsBehindText next × IsProper next
+IsProper (Comment text next) = IsProper next
+IsProper (Instruction target text next) = IsProper next
+IsProper (Nested tag kids next) = IsProper kids × IsProper next
+
+-- So it is with the nodes of parts, whatever parts they are.
+abbrev pub MakesProper : Type 0
+MakesProper = (ps : List Part) → IsProper (forest ps)
+
+-- Two texts that touch are one, wherever they stand.
+abbrev pub TextsJoin : Type 0
+TextsJoin =
+    (ps qs : List Part) (a b : List ℕ)
+    → forest (ps ++ part.Chars a ∷ part.Chars b ∷ qs) ≡ forest (ps ++ part.Chars (a ++ b) ∷ qs)

@@ -1,6 +1,6 @@
 //! Laws of the definitions, as contracts.
 
-ghost use Rattle.result_writer.specs.Laws.{Appends, BindsAttributes, BindsElement, BindsScope, Replaces, TextGrows};
+ghost use Rattle.result_writer.specs.Laws.{Appends, BindsAttributes, BindsElement, BindsScope, MakesProper, ReadsNodes, Replaces, TextGrows, TextsJoin, WritesNodes};
 
 /// The text of parts begins the text of these parts and more.
 pub fn text_grows()
@@ -18,4 +18,17 @@ pub fn prefixes_are_bound()
     ensures element { BindsElement }
     ensures attributes { BindsAttributes }
     ensures scope { BindsScope }
+{}
+
+/// The parts of nodes, written and read as nodes.
+pub fn nodes()
+    ensures text { WritesNodes }
+    ensures forest { ReadsNodes }
+{}
+
+/// Parts are nodes in which no two texts touch and none is empty.
+pub fn nodes_of_parts()
+    ensures proper { MakesProper }
+    // Texts that touch are one.
+    ensures join { TextsJoin }
 {}

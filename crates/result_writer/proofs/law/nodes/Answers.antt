@@ -1,0 +1,8 @@
+use Rattle.result_writer.proofs.Trees.{reads-nodes, writes-nodes}
+use Rattle.result_writer.proofs.law.nodes.Goals as goal
+
+pub returns-clause-text : goal.returns-clause-text
+returns-clause-text c = writes-nodes
+
+pub returns-clause-forest : goal.returns-clause-forest
+returns-clause-forest c = reads-nodes
