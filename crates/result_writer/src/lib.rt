@@ -9,6 +9,8 @@ mod opened;
 mod order;
 mod table;
 mod tag;
+#[cfg(test)]
+mod tests;
 mod words;
 mod writer;
 
