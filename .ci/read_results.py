@@ -18,7 +18,7 @@ from xml.parsers import expat
 # No Char, so no namespace URI holds it.
 SEPARATOR = "\x1f"
 
-TABLE = re.compile(r"^pub const \w+: \[(?:Row|Limited); (\d+)\] = \[\n(.*?)^\];$", re.M | re.S)
+TABLE = re.compile(r"^static \w+: \[(?:Row|Limited); (\d+)\] = \[\n(.*?)^\];$", re.M | re.S)
 
 
 def rows(source):

@@ -54,7 +54,7 @@ both_ways t h k = let e : true ≡ false = sym h ∙ k in cc
 
 -- Entries
 
-abbrev In : Binding → List Binding → Type 0
+abbrev pub In : Binding → List Binding → Type 0
 In b [] = ⊥
 In b (c ∷ cs) = (b ≡ c) ⊎ In b cs
 
@@ -83,12 +83,12 @@ no-in (b ∷ bs) p h c i e =
     ⊎_elim (λ f. both_ways (same b.prefix p) (same-of b.prefix p (sym (ap (λ (x : Binding). x.prefix) f) ∙ e)) both.0) (λ k. no-in bs p both.1 c k e) i
 
 -- no prefix has two entries
-abbrev AreApart : List Binding → Type 0
-AreApart t = (b c : Binding) → In b t → In c t → b.prefix ≡ c.prefix → b ≡ c
+abbrev pub IsTable : List Binding → Type 0
+IsTable t = (b c : Binding) → In b t → In c t → b.prefix ≡ c.prefix → b ≡ c
 
-apart-entered : (t : List Binding) (p u : List ℕ) → AreApart t → AreApart (entered t p u)
+apart-entered : (t : List Binding) (p u : List ℕ) → IsTable t → IsTable (entered t p u)
 apart-entered t p u h = by_test (has_prefix t p) refl where
-  by_test : (v : Bool) → has_prefix t p ≡ v → AreApart (if v then t else t ++ record { prefix = p; uri = u } ∷ [])
+  by_test : (v : Bool) → has_prefix t p ≡ v → IsTable (if v then t else t ++ record { prefix = p; uri = u } ∷ [])
   by_test true k = h
   by_test false k = λ b c i j e.
       ⊎_elim (λ bi. ⊎_elim (λ cj. h b c bi cj e) (λ cj. absurd (no-in t p k b bi (e ∙ ap (λ (x : Binding). x.prefix) cj))) (in-split c (record { prefix = p; uri = u }) t j))
@@ -112,11 +112,11 @@ not_taken [] n h c i e = absurd i
 not_taken (b ∷ bs) n h c i e =
     let both = or_none (same b.prefix n.prefix && not (same b.uri n.uri)) (is_taken bs n) h in
     ⊎_elim (λ f. here f both.0) (λ k. not_taken bs n both.1 c k e) i where
-  here : c ≡ b → (same b.prefix n.prefix && not (same b.uri n.uri)) ≡ false → c.uri ≡ n.uri
-  here f g =
-      let p : same b.prefix n.prefix ≡ true = same-of b.prefix n.prefix (sym (ap (λ (x : Binding). x.prefix) f) ∙ e) in
-      let q : not (same b.uri n.uri) ≡ false = sym (ap (λ v. v && not (same b.uri n.uri)) p) ∙ g in
-      ap (λ (x : Binding). x.uri) f ∙ same-true b.uri n.uri (not_true (same b.uri n.uri) q)
+      here : c ≡ b → (same b.prefix n.prefix && not (same b.uri n.uri)) ≡ false → c.uri ≡ n.uri
+      here f g =
+          let p : same b.prefix n.prefix ≡ true = same-of b.prefix n.prefix (sym (ap (λ (x : Binding). x.prefix) f) ∙ e) in
+          let q : not (same b.uri n.uri) ≡ false = sym (ap (λ v. v && not (same b.uri n.uri)) p) ∙ g in
+          ap (λ (x : Binding). x.uri) f ∙ same-true b.uri n.uri (not_true (same b.uri n.uri) q)
 
 in-own : (t : List Binding) (n : Name) → is_taken t n ≡ false → In (record { prefix = n.prefix; uri = n.uri }) (entered t n.prefix n.uri)
 in-own t n h = by_test (has_prefix t n.prefix) refl where
@@ -126,7 +126,7 @@ in-own t n h = by_test (has_prefix t n.prefix) refl where
       let f = has-in t n.prefix k in
       let u = not_taken t n h f.0 f.1 f.2 in
       let e : f.0 ≡ record { prefix = n.prefix; uri = n.uri } =
-          ap (λ z. record { prefix = z; uri = f.0.uri }) f.2 ∙ ap (λ z. record { prefix = n.prefix; uri = z }) u in
+      ap (λ z. record { prefix = z; uri = f.0.uri }) f.2 ∙ ap (λ z. record { prefix = n.prefix; uri = z }) u in
       subst (λ (x : Binding). In x t) e f.1
 
 length-entered : (t : List Binding) (p u : List ℕ) → length (entered t p u) ≤ length t + 1
@@ -201,9 +201,9 @@ free-some t (suc n) k = by_test (has_prefix t (numbered k)) (free-some t n (k + 
 
 -- Names of attributes
 
-apart-name : (t : List Binding) (n : Name) → AreApart t → AreApart (with_name t n)
+apart-name : (t : List Binding) (n : Name) → IsTable t → IsTable (with_name t n)
 apart-name t n h = by_test (is_empty n.uri) where
-  by_test : (v : Bool) → AreApart (if v then t else entered t (attribute_prefix t n) n.uri)
+  by_test : (v : Bool) → IsTable (if v then t else entered t (attribute_prefix t n) n.uri)
   by_test true = h
   by_test false = apart-entered t (attribute_prefix t n) n.uri h
 
@@ -227,19 +227,19 @@ name-in t n h u = by_uri (is_empty n.uri) (not_empty n.uri u) where
 
   found : (e k : Bool) → is_empty n.prefix ≡ e → is_taken t n ≡ k
       → ((if not e && not k then n.prefix else free_prefix t) ≢ [])
-        × In (record { prefix = if not e && not k then n.prefix else free_prefix t; uri = n.uri }) (entered t (if not e && not k then n.prefix else free_prefix t) n.uri)
+      × In (record { prefix = if not e && not k then n.prefix else free_prefix t; uri = n.uri }) (entered t (if not e && not k then n.prefix else free_prefix t) n.uri)
   found false false e k = (isn't_empty n.prefix e, in-own t n k)
   found false true e k = (free-some t (length t) 0, in-new t (free_prefix t) n.uri (free-new t h))
   found true k e _ = (free-some t (length t) 0, in-new t (free_prefix t) n.uri (free-new t h))
 
   by_uri : (v : Bool) → v ≡ false
       → ((if v || (not (is_empty n.prefix) && not (is_taken t n)) then n.prefix else free_prefix t) ≢ [])
-        × In (record { prefix = if v || (not (is_empty n.prefix) && not (is_taken t n)) then n.prefix else free_prefix t; uri = n.uri })
-          (if v then t else entered t (if v || (not (is_empty n.prefix) && not (is_taken t n)) then n.prefix else free_prefix t) n.uri)
+      × In (record { prefix = if v || (not (is_empty n.prefix) && not (is_taken t n)) then n.prefix else free_prefix t; uri = n.uri })
+      (if v then t else entered t (if v || (not (is_empty n.prefix) && not (is_taken t n)) then n.prefix else free_prefix t) n.uri)
   by_uri true e = absurd cc
   by_uri false e = found (is_empty n.prefix) (is_taken t n) refl refl
 
-apart-attributes : (t : List Binding) (attrs : List Attr) → AreApart t → AreApart (with_attributes t attrs)
+apart-attributes : (t : List Binding) (attrs : List Attr) → IsTable t → IsTable (with_attributes t attrs)
 apart-attributes t [] h = h
 apart-attributes t (a ∷ attrs) h = apart-attributes (with_name t a.name) attrs (apart-name t a.name h)
 
@@ -247,7 +247,7 @@ kept-attributes : (t : List Binding) (attrs : List Attr) (b : Binding) → In b 
 kept-attributes t [] b h = h
 kept-attributes t (a ∷ attrs) b h = kept-attributes (with_name t a.name) attrs b (kept-name t a.name b h)
 
-attribute-in : (attrs : List Attr) (t : List Binding) (i : ℕ) (a : Attr) (p : List ℕ) → length t + length attrs ≤ 2 ^ 64
+pub attribute-in : (attrs : List Attr) (t : List Binding) (i : ℕ) (a : Attr) (p : List ℕ) → length t + length attrs ≤ 2 ^ 64
     → slice_get attrs i ≡ Some a → slice_get (prefixes t attrs) i ≡ Some p → a.name.uri ≢ []
     → (p ≢ []) × In (record { prefix = p; uri = a.name.uri }) (with_attributes t attrs)
 attribute-in [] t i a p h f g u = absurd cc
@@ -269,9 +269,9 @@ attribute-in (b ∷ attrs) t (suc i) a p h f g u =
 abbrev scoped : List Binding → Binding → List Binding
 scoped t b = if is_empty b.uri then t else entered t b.prefix b.uri
 
-apart-scoped : (t : List Binding) (b : Binding) → AreApart t → AreApart (scoped t b)
+apart-scoped : (t : List Binding) (b : Binding) → IsTable t → IsTable (scoped t b)
 apart-scoped t b h = by_test (is_empty b.uri) where
-  by_test : (v : Bool) → AreApart (if v then t else entered t b.prefix b.uri)
+  by_test : (v : Bool) → IsTable (if v then t else entered t b.prefix b.uri)
   by_test true = h
   by_test false = apart-entered t b.prefix b.uri h
 
@@ -281,7 +281,7 @@ kept-scoped t b c h = by_test (is_empty b.uri) where
   by_test true = h
   by_test false = kept-entered t b.prefix b.uri c h
 
-apart-scope : (t scope : List Binding) → AreApart t → AreApart (with_scope t scope)
+apart-scope : (t scope : List Binding) → IsTable t → IsTable (with_scope t scope)
 apart-scope t [] h = h
 apart-scope t (b ∷ scope) h = apart-scope (scoped t b) scope (apart-scoped t b h)
 
@@ -380,7 +380,7 @@ bound-cases u (b ∷ bs) p = by_test (same b.prefix p) refl (bound-cases b.uri b
       (λ m. inr (λ c i q. ⊎_elim (λ g. both_ways (same b.prefix p) (same-of b.prefix p (sym (ap (λ (x : Binding). x.prefix) g) ∙ q)) e) (λ j. m.0 c j q) i, now ∙ m.1))
       later
 
-declared-bound : (in_force t : List Binding) (b : Binding) → AreApart t → In b t → is_word b.prefix (codes "xml") ≡ false
+declared-bound : (in_force t : List Binding) (b : Binding) → IsTable t → In b t → is_word b.prefix (codes "xml") ≡ false
     → bound (in_force ++ declarations in_force t) b.prefix ≡ b.uri
 declared-bound in_force t b apart i xml =
     bound-append [] in_force (declarations in_force t) b.prefix
@@ -388,18 +388,21 @@ declared-bound in_force t b apart i xml =
     (λ f. f.3 ∙ ap (λ (x : Binding). x.uri) (apart f.0 b (in-filter (is_new in_force) f.0 t (⊎_elim (λ n. absurd n) (λ k. k) (in-order f.0 [] (filter (is_new in_force) t) f.1))) i f.2))
     (λ m. m.1 ∙ old (true_or_false (is_new in_force b)) m.0)
     (bound-cases (bound in_force b.prefix) (declarations in_force t) b.prefix) where
-  old : (is_new in_force b ≡ true) ⊎ (is_new in_force b ≡ false) → ((c : Binding) → In c (declarations in_force t) → c.prefix ≡ b.prefix → ⊥) → bound in_force b.prefix ≡ b.uri
-  old h none = ⊎_elim
-      (λ k. absurd (none b (order-in b [] (filter (is_new in_force) t) (inr (filter-in (is_new in_force) b t i k))) refl))
-      (λ k. same-true (bound in_force b.prefix) b.uri (not_true (same (bound in_force b.prefix) b.uri) (sym (ap (λ v. not v && not (same (bound in_force b.prefix) b.uri)) xml) ∙ k))) h
+      old : (is_new in_force b ≡ true) ⊎ (is_new in_force b ≡ false) → ((c : Binding) → In c (declarations in_force t) → c.prefix ≡ b.prefix → ⊥) → bound in_force b.prefix ≡ b.uri
+      old h none = ⊎_elim
+          (λ k. absurd (none b (order-in b [] (filter (is_new in_force) t) (inr (filter-in (is_new in_force) b t i k))) refl))
+          (λ k. same-true (bound in_force b.prefix) b.uri (not_true (same (bound in_force b.prefix) b.uri) (sym (ap (λ v. not v && not (same (bound in_force b.prefix) b.uri)) xml) ∙ k))) h
 
 -- Tags
 
-apart-element : (n : Name) → AreApart (with_element n)
+apart-element : (n : Name) → IsTable (with_element n)
 apart-element n = λ b c i j e. ⊎_elim (λ f. ⊎_elim (λ g. f ∙ sym g) (λ k. absurd k) j) (λ k. absurd k) i
 
-apart-tag : (tag : HeldTag) → AreApart (with_scope (with_attributes (with_element tag.name) tag.attrs) tag.scope)
+apart-tag : (tag : HeldTag) → IsTable (with_scope (with_attributes (with_element tag.name) tag.attrs) tag.scope)
 apart-tag tag = apart-scope (with_attributes (with_element tag.name) tag.attrs) tag.scope (apart-attributes (with_element tag.name) tag.attrs (apart-element tag.name))
+
+pub apart-table : (tag : HeldTag) → IsTable (with_attributes (with_element tag.name) tag.attrs)
+apart-table tag = apart-attributes (with_element tag.name) tag.attrs (apart-element tag.name)
 
 pub binds-element : BindsElement
 binds-element in_force tag xml =

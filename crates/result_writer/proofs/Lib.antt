@@ -1,4 +1,6 @@
+mod Apart
 mod Bound
+mod Judging
 mod Opening
 mod Tabling
 mod Texts

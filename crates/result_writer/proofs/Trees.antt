@@ -13,15 +13,15 @@ use Rattle.result_writer.specs.declared.escape.Context.TheVariants.{Content}
 use Rattle.result_writer.specs.declared.tag.HeldTag.{HeldTag}
 
 -- the parts of an element, and then more parts
-nested-append : (attrs kids next rest : List Part) (p : Part) → (attrs ++ (kids ++ p ∷ next)) ++ rest ≡ attrs ++ (kids ++ p ∷ (next ++ rest))
+pub nested-append : (attrs kids next rest : List Part) (p : Part) → (attrs ++ (kids ++ p ∷ next)) ++ rest ≡ attrs ++ (kids ++ p ∷ (next ++ rest))
 nested-append attrs kids next rest p = append_assoc attrs (kids ++ p ∷ next) rest ∙ ap (λ l. attrs ++ l) (append_assoc kids (p ∷ next) rest)
 
 -- How they are written
 
-abbrev outside : List Element → Left
+abbrev pub outside : List Element → Left
 outside es = record { elements = es; held = None }
 
-abbrev within : List Element → HeldTag → Left
+abbrev pub within : List Element → HeldTag → Left
 within es tag = record { elements = es; held = Some tag }
 
 text_from-attributes : (es : List Element) (tag : HeldTag) (attrs : List Attr) (ps : List Part) → text_from (within es tag) (map attribute_part attrs ++ ps) ≡ text_from (within es (record tag { attrs = collected tag.attrs attrs })) ps
@@ -65,8 +65,8 @@ element es t kids ps h = by_test (is_end kids) refl where
       text_from-kids es t kids (part.End t.name ∷ ps) e
       ∙ ap (λ l. (tag ++ codes ">") ++ l) (h (part.End t.name ∷ ps))
       ∙ regroup tag (codes ">") mid end rest where
-    regroup : (a b c d e : List ℕ) → (a ++ b) ++ (c ++ (d ++ e)) ≡ (a ++ (b ++ c ++ d)) ++ e
-    regroup a b c d e = simp append_assoc
+        regroup : (a b c d e : List ℕ) → (a ++ b) ++ (c ++ (d ++ e)) ≡ (a ++ (b ++ c ++ d)) ++ e
+        regroup a b c d e = simp append_assoc
 
 written-kids : (es : List Element) (nodes : Nodes) (ps : List Part) → text_from (outside es) (parts_of nodes ++ ps) ≡ written (in_force es) nodes ++ text_from (outside es) ps
 written-kids es End ps = refl
@@ -197,8 +197,8 @@ lists-nodes (Nested tag kids next) ps = λ n.
     ∙ ap (λ f. list_at n (part_before (part.Start tag.name tag.scope) tag.attrs f)) (lists-attributes tag.attrs inside_and_behind)
     ∙ same_start (Nested (expanded_tag (in_one tag))) (lists inside_and_behind) (before kids End ∷ before next (inner (lists ps)) ∷ outer (lists ps))
     (λ k. lists-nodes kids (part.End tag.name ∷ (parts_of next ++ ps)) k ∙ same_end (before kids End) (lists (parts_of next ++ ps)) (before next (inner (lists ps)) ∷ outer (lists ps)) (lists-nodes next ps) k) n where
-  inside_and_behind : List Part
-  inside_and_behind = parts_of kids ++ part.End tag.name ∷ (parts_of next ++ ps)
+      inside_and_behind : List Part
+      inside_and_behind = parts_of kids ++ part.End tag.name ∷ (parts_of next ++ ps)
 
 pub reads-nodes : ReadsNodes
 reads-nodes nodes =

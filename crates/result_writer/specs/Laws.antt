@@ -1,16 +1,16 @@
 -- What laws of the definitions say.
-use Rattle.std.specs.Prelude.{◌≡◌, ◌≢◌, ℕ, ◌<◌, ◌^◌, false, true, List, [], ◌∷◌, ◌++◌, Some, codes, length, slice_get}
-use Rattle.std.specs.List.{list_any}
+use Rattle.std.specs.Prelude.{◌≡◌, ◌≢◌, ℕ, ◌<◌, ◌^◌, false, true, List, [], ◌∷◌, ◌++◌, Some, None, codes, length, slice_get}
+use Rattle.std.specs.List.{list_all, list_any}
 use Rattle.stx_base.specs.declared.name.Attr.{Attr}
 use Rattle.stx_base.specs.declared.name.Binding.{Binding}
 use Rattle.stx_base.specs.declared.name.Name.{Name}
 use Rattle.stx_base.specs.declared.part.Part.{Part}
 use Rattle.stx_base.specs.declared.part.Part.TheVariants as part
-use Rattle.result_writer.specs.Allowed.{is_word}
-use Rattle.result_writer.specs.Nodes.{Nodes, End, Chars, Comment, Instruction, Nested, forest, inside, parts_of, plain, written}
+use Rattle.result_writer.specs.Allowed.{is_good_attribute, is_good_name, is_word}
+use Rattle.result_writer.specs.Nodes.{Nodes, End, Chars, Comment, Instruction, Nested, forest, inside, nodes_fault, parts_of, plain, written}
 use Rattle.result_writer.specs.Table.{bound, has_prefix, with_attributes, with_element}
 use Rattle.result_writer.specs.Tag.{dressed}
-use Rattle.result_writer.specs.Target.{left_by, nothing, same_name, text, text_from, with_attribute}
+use Rattle.result_writer.specs.Target.{first_fault, left_by, nothing, same_name, text, text_from, whole_fault, with_attribute}
 use Rattle.result_writer.specs.declared.tag.HeldTag.{HeldTag}
 
 -- More parts only append to the text.
@@ -91,3 +91,44 @@ abbrev pub TextsJoin : Type 0
 TextsJoin =
     (ps qs : List Part) (a b : List ℕ)
     → forest (ps ++ part.Chars a ∷ part.Chars b ∷ qs) ≡ forest (ps ++ part.Chars (a ++ b) ∷ qs)
+
+-- no two attributes have one name
+abbrev pub AreDistinct : List Attr → Type 0
+AreDistinct [] = Unit {0}
+AreDistinct (a ∷ attrs) = (list_any (λ b. same_name b.name a.name) attrs ≡ false) × AreDistinct attrs
+
+-- What is held back of accepted parts is a tag of good names, in which each name has one attribute.
+abbrev pub HoldsGoodTags : Type 0
+HoldsGoodTags =
+    (limit : ℕ) (ps : List Part) (tag : HeldTag)
+    → first_fault limit nothing ps ≡ None
+    → (left_by nothing ps).held ≡ Some tag
+    → (is_good_name tag.name ≡ true) × (list_all (λ a. is_good_attribute a.name) tag.attrs ≡ true) × AreDistinct tag.attrs
+
+-- No two attributes of such a tag are written with one name (XML 1.0, 3.1).
+abbrev pub WritesOnce : Type 0
+WritesOnce =
+    (in_force : List Binding) (tag : HeldTag) (i j : ℕ) (a b : Attr) (prefix : List ℕ)
+    → length tag.attrs < 2 ^ 64
+    → list_all (λ a. is_good_attribute a.name) tag.attrs ≡ true
+    → AreDistinct tag.attrs
+    → i < j
+    → slice_get tag.attrs i ≡ Some a
+    → slice_get tag.attrs j ≡ Some b
+    → slice_get (dressed in_force tag).prefixes i ≡ Some prefix
+    → slice_get (dressed in_force tag).prefixes j ≡ Some prefix
+    → a.name.local ≡ b.name.local
+    → ⊥
+
+-- no prefix has two bindings
+abbrev pub AreApart : List Binding → Type 0
+AreApart [] = Unit {0}
+AreApart (b ∷ bs) = (has_prefix bs b.prefix ≡ false) × AreApart bs
+
+-- No tag declares a prefix twice.
+abbrev pub DeclaresOnce : Type 0
+DeclaresOnce = (in_force : List Binding) (tag : HeldTag) → AreApart (dressed in_force tag).declared
+
+-- The first fault of the parts of nodes is that of the nodes; there is none only where each is well formed.
+abbrev pub JudgesNodes : Type 0
+JudgesNodes = (limit : ℕ) (nodes : Nodes) → whole_fault limit (parts_of nodes) ≡ nodes_fault limit 0 nodes

@@ -1,13 +1,16 @@
 -- Parts as a list of nodes, and nodes as they are written (XML 1.0, 2.1 and 3.1; Namespaces in XML 1.0, 2.1).
-use Rattle.std.specs.Prelude.{ℕ, Bool, true, false, if◌then◌else◌, List, [], ◌∷◌, ◌++◌, map, codes, encode_utf8_all}
+use Rattle.std.specs.Prelude.{ℕ, suc, nat_lt, Option, Some, None, Bool, true, false, if◌then◌else◌, List, [], ◌∷◌, ◌++◌, map, codes, encode_utf8_all}
 use Rattle.stx_base.specs.declared.name.Attr.{Attr}
 use Rattle.stx_base.specs.declared.name.Binding.{Binding}
 use Rattle.stx_base.specs.declared.name.Name.{Name}
 use Rattle.stx_base.specs.declared.part.Part.{Part}
 use Rattle.stx_base.specs.declared.part.Part.TheVariants as part
+use Rattle.result_writer.specs.Allowed.{are_chars, is_good_attribute, is_good_name}
 use Rattle.result_writer.specs.Escape.{escaped}
 use Rattle.result_writer.specs.Tag.{dressed, end_tag, open_tag}
-use Rattle.result_writer.specs.Target.{comment_text, instruction_text, with_attribute}
+use Rattle.result_writer.specs.Target.{chars_fault, comment_fault, comment_text, instruction_fault, instruction_text, or_else, unless, with_attribute}
+use Rattle.result_writer.specs.declared.fault.ResultFault.{ResultFault}
+use Rattle.result_writer.specs.declared.fault.ResultFault.TheVariants.{BadName, BadChar, ResultDepth}
 use Rattle.result_writer.specs.declared.escape.Context.TheVariants.{Content}
 use Rattle.result_writer.specs.declared.tag.HeldTag.{HeldTag}
 
@@ -62,6 +65,23 @@ written in_force (Nested tag kids next) =
     open_tag t (dressed in_force t)
     ++ (if is_end kids then codes "/>" else codes ">" ++ written (inside in_force t) kids ++ end_tag t.name.prefix t.name.local)
     ++ written in_force next
+
+-- Which nodes may be written.
+
+abbrev pub attributes_fault : List Attr → Option ResultFault
+attributes_fault [] = None
+attributes_fault (a ∷ attrs) =
+    or_else (unless (is_good_attribute a.name) BadName (unless (are_chars a.value) BadChar None)) (attributes_fault attrs)
+
+-- the first fault of nodes within so many open elements, in document order
+abbrev pub nodes_fault : (limit depth : ℕ) → Nodes → Option ResultFault
+nodes_fault limit depth End = None
+nodes_fault limit depth (Chars text next) = or_else (chars_fault text) (nodes_fault limit depth next)
+nodes_fault limit depth (Comment text next) = or_else (comment_fault text) (nodes_fault limit depth next)
+nodes_fault limit depth (Instruction target text next) = or_else (instruction_fault target text) (nodes_fault limit depth next)
+nodes_fault limit depth (Nested tag kids next) =
+    or_else (unless (is_good_name tag.name) BadName (unless (nat_lt depth limit) ResultDepth None))
+    (or_else (attributes_fault tag.attrs) (or_else (nodes_fault limit (suc depth) kids) (nodes_fault limit depth next)))
 
 -- Parts as nodes.
 

@@ -11,6 +11,7 @@ use crate::words::{agree, is_empty, is_word};
 use stx_base::{Name, Text, is_char, is_ncname};
 
 const XML_URI: &'static str = "http://www.w3.org/XML/1998/namespace";
+
 const XMLNS_URI: &'static str = "http://www.w3.org/2000/xmlns/";
 
 /// Whether a name is an NCName, or two with a colon between them (Namespaces in XML 1.0, 4).

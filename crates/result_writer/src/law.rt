@@ -1,6 +1,6 @@
 //! Laws of the definitions, as contracts.
 
-ghost use Rattle.result_writer.specs.Laws.{Appends, BindsAttributes, BindsElement, BindsScope, MakesProper, ReadsNodes, Replaces, TextGrows, TextsJoin, WritesNodes};
+ghost use Rattle.result_writer.specs.Laws.{Appends, DeclaresOnce, HoldsGoodTags, JudgesNodes, WritesOnce, BindsAttributes, BindsElement, BindsScope, MakesProper, ReadsNodes, Replaces, TextGrows, TextsJoin, WritesNodes};
 
 /// The text of parts begins the text of these parts and more.
 pub fn text_grows()
@@ -20,8 +20,16 @@ pub fn prefixes_are_bound()
     ensures scope { BindsScope }
 {}
 
-/// The parts of nodes, written and read as nodes.
+/// A tag has no name twice.
+pub fn names_are_written_once()
+    ensures held { HoldsGoodTags }
+    ensures attributes { WritesOnce }
+    ensures declarations { DeclaresOnce }
+{}
+
+/// The parts of nodes, judged, written and read as nodes.
 pub fn nodes()
+    ensures fault { JudgesNodes }
     ensures text { WritesNodes }
     ensures forest { ReadsNodes }
 {}

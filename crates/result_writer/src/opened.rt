@@ -6,7 +6,9 @@ ghost use Rattle.stx_base.specs.declared.part.Part.TheVariants.{Start, Attribute
 ghost use Rattle.result_writer.specs.Target as spec;
 ghost use Rattle.result_writer.specs.Target.{behind, comment_text, depth, dressed_in, end_text, fresh, innermost, instruction_text, is_closed, settles, tag_text, with_attribute, IsCause};
 
-use crate::allowed::{are_chars, is_good_attribute, is_good_comment, is_good_data, is_good_name, is_good_target};
+use crate::allowed::{
+    are_chars, is_good_attribute, is_good_comment, is_good_data, is_good_name, is_good_target,
+};
 use crate::escape::{Context, append_escaped};
 use crate::fault::{ResultFault, WriteStop};
 use crate::tag::{Dressed, HeldTag, append_end_tag, append_open_tag, dress};
@@ -85,7 +87,7 @@ impl Opened {
     }
 
     /// The first fault of a part.
-    pub fn fault(&self, part: &Part) -> Option<ResultFault>
+    pub(crate) fn fault(&self, part: &Part) -> Option<ResultFault>
         ensures { result ≡ spec.fault self.now.limit self.now.left part.now }
     {
         match part {
@@ -160,12 +162,16 @@ impl Opened {
     }
 
     /// What is written with the tag that a part settles, if it settles one.
-    pub fn dressed_for(&self, part: &Part) -> Result<Option<Dressed>, Memory>
+    pub(crate) fn dressed_for(&self, part: &Part) -> Result<Option<Dressed>, Memory>
         ensures { IfOk result (λ d. d ≡ spec.dressed_for self.now.left part.now) }
     {
         match part {
             Part::Attribute { .. } => Ok(None),
-            Part::Start { .. } | Part::End { .. } | Part::Chars { .. } | Part::Comment { .. } | Part::Pi { .. } => self.dressed(),
+            Part::Start { .. }
+            | Part::End { .. }
+            | Part::Chars { .. }
+            | Part::Comment { .. }
+            | Part::Pi { .. } => self.dressed(),
         }
     }
 
@@ -182,7 +188,12 @@ impl Opened {
     }
 
     /// Appends the bytes that a part settles.
-    pub fn append(&self, part: &Part, dressed: &Option<Dressed>, out: &mut Vec<u8>) -> Result<(), Memory>
+    pub(crate) fn append(
+        &self,
+        part: &Part,
+        dressed: &Option<Dressed>,
+        out: &mut Vec<u8>,
+    ) -> Result<(), Memory>
         requires { dressed.now ≡ spec.dressed_for self.now.left part.now }
         ensures { OnOk result (out.new.items ≡ out.old.items ++ settles self.now.left part.now) }
     {
@@ -206,7 +217,12 @@ impl Opened {
     }
 
     /// Appends the tag that is held back, if there is one, and its end.
-    fn append_tag(&self, dressed: &Option<Dressed>, end: &[u8], out: &mut Vec<u8>) -> Result<(), Memory>
+    fn append_tag(
+        &self,
+        dressed: &Option<Dressed>,
+        end: &[u8],
+        out: &mut Vec<u8>,
+    ) -> Result<(), Memory>
         requires { dressed.now ≡ dressed_in self.now.left.elements self.now.left.held }
         ensures { OnOk result (out.new.items ≡ out.old.items ++ tag_text self.now.left.elements self.now.left.held end.now) }
     {
@@ -236,7 +252,7 @@ impl Opened {
     }
 
     /// Takes a part that is accepted. After a refusal all is unchanged.
-    pub fn take(&mut self, part: &Part, dressed: Option<Dressed>) -> Result<(), Memory>
+    pub(crate) fn take(&mut self, part: &Part, dressed: Option<Dressed>) -> Result<(), Memory>
         requires { dressed ≡ spec.dressed_for self.old.left part.now }
         ensures ok { OnOk result (self.new ≡ behind self.old part.now) }
         ensures err { OnErr result (self.new ≡ self.old) }
@@ -252,7 +268,12 @@ impl Opened {
         }
     }
 
-    fn start(&mut self, name: &Name, scope: &List<Binding>, dressed: Option<Dressed>) -> Result<(), Memory>
+    fn start(
+        &mut self,
+        name: &Name,
+        scope: &List<Binding>,
+        dressed: Option<Dressed>,
+    ) -> Result<(), Memory>
         requires { dressed ≡ dressed_in self.old.left.elements self.old.left.held }
         ensures ok { OnOk result (self.new ≡ behind self.old (Start name.now scope.now)) }
         ensures err { OnErr result (self.new ≡ self.old) }
@@ -295,7 +316,13 @@ impl Opened {
         let (Some(tag), Some(dressed)) = (&self.held, dressed) else {
             return Ok(());
         };
-        push_element(self.alloc, &mut self.elements, &mut self.bindings, &tag.name, dressed.declared)?;
+        push_element(
+            self.alloc,
+            &mut self.elements,
+            &mut self.bindings,
+            &tag.name,
+            dressed.declared,
+        )?;
         self.held = None;
         Ok(())
     }
@@ -304,7 +331,11 @@ impl Opened {
 fn chars_fault(text: &Text) -> Option<ResultFault>
     ensures { result ≡ spec.chars_fault text.now }
 {
-    if are_chars(text) { None } else { Some(ResultFault::BadChar) }
+    if are_chars(text) {
+        None
+    } else {
+        Some(ResultFault::BadChar)
+    }
 }
 
 fn comment_fault(text: &Text) -> Option<ResultFault>
@@ -383,7 +414,12 @@ fn push_element(
 
 /// Gives an attribute its value: in its place where there is one of the name, else behind the others. After a refusal
 /// all is unchanged.
-fn set_attribute(alloc: Global, attrs: &mut List<Attr>, name: &Name, value: &Text) -> Result<(), Memory>
+fn set_attribute(
+    alloc: Global,
+    attrs: &mut List<Attr>,
+    name: &Name,
+    value: &Text,
+) -> Result<(), Memory>
     ensures ok { OnOk result (attrs.new ≡ with_attribute attrs.old name.now value.now) }
     ensures err { OnErr result (attrs.new ≡ attrs.old) }
 {

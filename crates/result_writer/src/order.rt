@@ -28,7 +28,11 @@ fn place(sorted: &[Binding], prefix: &Text) -> usize
 }
 
 /// What a tag with this table has to declare, where these bindings are in force.
-pub fn declarations(alloc: Global, in_force: &[Binding], table: &List<Binding>) -> Result<List<Binding>, Memory>
+pub fn declarations(
+    alloc: Global,
+    in_force: &[Binding],
+    table: &List<Binding>,
+) -> Result<List<Binding>, Memory>
     ensures { IfOk result (λ made. made ≡ declarations in_force.now table.now) }
 {
     let mut sorted = Vec::new(alloc);

@@ -21,7 +21,12 @@ fn is_taken(table: &List<Binding>, name: &Name) -> bool
 }
 
 /// Enters a prefix, unless it is there already.
-pub fn enter(alloc: Global, table: &mut List<Binding>, prefix: &Text, uri: &Text) -> Result<(), Memory>
+pub fn enter(
+    alloc: Global,
+    table: &mut List<Binding>,
+    prefix: &Text,
+    uri: &Text,
+) -> Result<(), Memory>
     ensures { OnOk result (table.new ≡ entered table.old prefix.now uri.now) }
 {
     if !has_prefix(table, prefix) {
@@ -33,7 +38,12 @@ pub fn enter(alloc: Global, table: &mut List<Binding>, prefix: &Text, uri: &Text
 }
 
 /// Enters a prefix that has a URI.
-fn enter_bound(alloc: Global, table: &mut List<Binding>, prefix: &Text, uri: &Text) -> Result<(), Memory>
+fn enter_bound(
+    alloc: Global,
+    table: &mut List<Binding>,
+    prefix: &Text,
+    uri: &Text,
+) -> Result<(), Memory>
     ensures { OnOk result (table.new ≡ (if is_empty uri.now then table.old else entered table.old prefix.now uri.now)) }
 {
     if is_empty(uri) {
@@ -74,7 +84,11 @@ fn attribute_prefix(alloc: Global, table: &List<Binding>, name: &Name) -> Result
 }
 
 /// Enters the attributes' prefixes, and hands them out.
-pub fn enter_attributes(alloc: Global, table: &mut List<Binding>, attrs: &List<Attr>) -> Result<List<Text>, Memory>
+pub fn enter_attributes(
+    alloc: Global,
+    table: &mut List<Binding>,
+    attrs: &List<Attr>,
+) -> Result<List<Text>, Memory>
     ensures entered { OnOk result (table.new ≡ with_attributes table.old attrs.now) }
     ensures prefixes { IfOk result (λ made. made ≡ prefixes table.old attrs.now) }
 {
@@ -88,7 +102,11 @@ pub fn enter_attributes(alloc: Global, table: &mut List<Binding>, attrs: &List<A
 }
 
 /// Enters the bindings that are in force where the element comes from.
-pub fn enter_scope(alloc: Global, table: &mut List<Binding>, scope: &List<Binding>) -> Result<(), Memory>
+pub fn enter_scope(
+    alloc: Global,
+    table: &mut List<Binding>,
+    scope: &List<Binding>,
+) -> Result<(), Memory>
     ensures { OnOk result (table.new ≡ with_scope table.old scope.now) }
 {
     for binding in scope.as_slice() {

@@ -114,6 +114,36 @@ fn told_end(faults: &mut String, answer: Result<(), ResultFault>) -> Result<(), 
 
 /// The parts are put one after another. One that is refused changes nothing, so those behind it are put as if it weren't
 /// there.
+fn written(
+    alloc: Global,
+    limit: u32,
+    parts: &[Given],
+    faults: &mut String,
+) -> Result<Vec<u8>, Fail> {
+    let mut writer = Writer::new(alloc, limit);
+    let mut out = Vec::new(alloc);
+    for (place, given) in parts.iter().enumerate() {
+        let part = given.part(alloc)?;
+        told(faults, writer.put(&part, &mut out), place)?;
+    }
+    told_end(faults, writer.finish())?;
+    Ok(out)
+}
+
+/// The same without bytes.
+fn accepted(alloc: Global, limit: u32, parts: &[Given]) -> Result<String, Fail> {
+    let mut opened = Opened::new(alloc, limit);
+    let mut faults = String::new(alloc);
+    for (place, given) in parts.iter().enumerate() {
+        let part = given.part(alloc)?;
+        told(&mut faults, opened.accept(&part), place)?;
+    }
+    if !opened.closed() {
+        told_end(&mut faults, Err(ResultFault::UnclosedResult))?;
+    }
+    Ok(faults)
+}
+
 fn check(
     rt: &impl Abort,
     alloc: Global,
@@ -122,61 +152,83 @@ fn check(
     wanted: (&str, &str),
 ) -> Result<(), Fail> {
     let (bytes, refusals) = wanted;
-    let mut writer = Writer::new(alloc, limit);
-    let mut opened = Opened::new(alloc, limit);
-    let mut out = Vec::new(alloc);
     let mut faults = String::new(alloc);
-    let mut others = String::new(alloc);
-    for (place, given) in parts.iter().enumerate() {
-        let part = given.part(alloc)?;
-        told(&mut faults, writer.put(&part, &mut out), place)?;
-        told(&mut others, opened.accept(&part), place)?;
-    }
-    let ended = writer.finish();
-    assert_eq!(rt;
-        opened.closed(),
-        ended.is_ok(),
-        "whether {parts:?} are closed"
-    );
-    told_end(&mut faults, ended)?;
-    told_end(&mut others, ended)?;
-    assert_eq!(rt; faults.as_str(), refusals, "faults of {parts:?}");
-    assert_eq!(rt;
-        others.as_str(),
+    let out = written(alloc, limit, parts, &mut faults)?;
+    check_text(rt, "bytes", out.as_slice(), bytes, parts);
+    check_text(rt, "faults", faults.as_bytes(), refusals, parts);
+    let others = accepted(alloc, limit, parts)?;
+    check_text(
+        rt,
+        "faults without bytes",
+        others.as_bytes(),
         refusals,
-        "faults of {parts:?}, without bytes"
+        parts,
     );
-    let found = String::from_utf8(out).map_err(|_| "bytes that are no text")?;
-    assert_eq!(rt; found.as_str(), bytes, "bytes of {parts:?}");
     Ok(())
 }
 
-fn check_all(rt: &impl Abort, alloc: Global, tables: &[&[Row]]) -> Result<(), Fail> {
-    for table in tables {
-        for (parts, bytes, refusals) in table.iter() {
-            check(rt, alloc, 4096, parts, (bytes, refusals))?;
-        }
+fn check_text(rt: &impl Abort, what: &str, found: &[u8], wanted: &str, parts: &[Given]) {
+    let found = std::str::from_utf8(found).unwrap_or("bytes that are no text");
+    assert_eq!(rt; found, wanted, "{what} of {parts:?}");
+}
+
+fn check_all(rt: &impl Abort, alloc: Global, rows: &[Row]) -> Result<(), Fail> {
+    for (parts, bytes, refusals) in rows {
+        check(rt, alloc, 4096, parts, (bytes, refusals))?;
     }
     Ok(())
 }
 
 #[test]
-fn results(rt: HostRuntime) -> Result<(), Fail> {
-    let tables: [&[Row]; 3] = [&rows::BYTES, &rows::HELD, &rows::REFUSED];
-    check_all(&rt, rt.alloc(), &tables)
+fn bytes(rt: HostRuntime) -> Result<(), Fail> {
+    check_all(&rt, rt.alloc(), rows::tags())?;
+    check_all(&rt, rt.alloc(), rows::escapes())?;
+    check_all(&rt, rt.alloc(), rows::comments())?;
+    check_all(&rt, rt.alloc(), rows::held())
+}
+
+#[test]
+fn refused_parts(rt: HostRuntime) -> Result<(), Fail> {
+    check_all(&rt, rt.alloc(), rows::names())?;
+    check_all(&rt, rt.alloc(), rows::more_names())?;
+    check_all(&rt, rt.alloc(), rows::other_names())?;
+    check_all(&rt, rt.alloc(), rows::characters())?;
+    check_all(&rt, rt.alloc(), rows::bad_comments())?;
+    check_all(&rt, rt.alloc(), rows::more_bad_comments())
+}
+
+#[test]
+fn misplaced_parts(rt: HostRuntime) -> Result<(), Fail> {
+    check_all(&rt, rt.alloc(), rows::late_attributes())?;
+    check_all(&rt, rt.alloc(), rows::ends())?;
+    check_all(&rt, rt.alloc(), rows::named_ends())?;
+    check_all(&rt, rt.alloc(), rows::unchanged())
+}
+
+#[test]
+fn attributes(rt: HostRuntime) -> Result<(), Fail> {
+    check_all(&rt, rt.alloc(), start_tags::prefixed())?;
+    check_all(&rt, rt.alloc(), start_tags::taken_prefixes())?;
+    check_all(&rt, rt.alloc(), start_tags::more_taken_prefixes())?;
+    check_all(&rt, rt.alloc(), start_tags::replaced())?;
+    check_all(&rt, rt.alloc(), start_tags::more_replaced())
 }
 
 #[test]
 fn declarations(rt: HostRuntime) -> Result<(), Fail> {
-    let tables: [&[Row]; 2] = [&start_tags::DECLARED, &start_tags::ATTRIBUTES];
-    check_all(&rt, rt.alloc(), &tables)
+    check_all(&rt, rt.alloc(), start_tags::elements())?;
+    check_all(&rt, rt.alloc(), start_tags::defaults())?;
+    check_all(&rt, rt.alloc(), start_tags::scopes())?;
+    check_all(&rt, rt.alloc(), start_tags::more_scopes())?;
+    check_all(&rt, rt.alloc(), start_tags::ordered())?;
+    check_all(&rt, rt.alloc(), start_tags::escaped_uris())?;
+    check_all(&rt, rt.alloc(), start_tags::refused_starts())
 }
 
 // A limit is reached exactly where the count would become the limit plus one.
 #[test]
 fn depths(rt: HostRuntime) -> Result<(), Fail> {
-    let table: &[Limited] = &rows::DEPTHS;
-    for (limit, parts, bytes, refusals) in table {
+    for (limit, parts, bytes, refusals) in rows::depths() {
         check(&rt, rt.alloc(), *limit, parts, (bytes, refusals))?;
     }
     Ok(())
@@ -188,7 +240,7 @@ fn bytes_are_appended_as_they_are_settled(rt: HostRuntime) -> Result<(), Fail> {
     let alloc = rt.alloc();
     let mut writer = Writer::new(alloc, 4096);
     let mut out = Vec::from_slice(alloc, b"<?head?>")?;
-    for (given, bytes) in rows::SETTLED {
+    for (given, bytes) in rows::settled() {
         writer.put(&given.part(alloc)?, &mut out)?;
         let wanted = format!(in alloc; "<?head?>{bytes}")?;
         let found = std::str::from_utf8(out.as_slice()).map_err(|_| "bytes that are no text")?;

@@ -3,7 +3,71 @@
 use crate::tests::Given::{Attr, Chars, Comment, End, Pi, Scoped, Start};
 use crate::tests::{Given, Limited, Row};
 
-pub const BYTES: [Row; 32] = [
+pub fn tags() -> &'static [Row] {
+    &TAGS
+}
+
+pub fn escapes() -> &'static [Row] {
+    &ESCAPES
+}
+
+pub fn comments() -> &'static [Row] {
+    &COMMENTS
+}
+
+pub fn held() -> &'static [Row] {
+    &HELD
+}
+
+pub fn names() -> &'static [Row] {
+    &NAMES
+}
+
+pub fn more_names() -> &'static [Row] {
+    &MORE_NAMES
+}
+
+pub fn other_names() -> &'static [Row] {
+    &OTHER_NAMES
+}
+
+pub fn characters() -> &'static [Row] {
+    &CHARACTERS
+}
+
+pub fn bad_comments() -> &'static [Row] {
+    &BAD_COMMENTS
+}
+
+pub fn more_bad_comments() -> &'static [Row] {
+    &MORE_BAD_COMMENTS
+}
+
+pub fn late_attributes() -> &'static [Row] {
+    &LATE_ATTRIBUTES
+}
+
+pub fn ends() -> &'static [Row] {
+    &ENDS
+}
+
+pub fn named_ends() -> &'static [Row] {
+    &NAMED_ENDS
+}
+
+pub fn unchanged() -> &'static [Row] {
+    &UNCHANGED
+}
+
+pub fn depths() -> &'static [Limited] {
+    &DEPTHS
+}
+
+pub fn settled() -> &'static [(Given, &'static str)] {
+    &SETTLED
+}
+
+static TAGS: [Row; 12] = [
     (&[], "", ""),
     (&[Start("a"), End("a")], "<a/>", ""),
     (&[Start("a"), Chars("x"), End("a")], "<a>x</a>", ""),
@@ -63,7 +127,10 @@ pub const BYTES: [Row; 32] = [
         "<a x=\"1\">y</a>",
         "",
     ),
-    // Escapes.
+];
+
+// Escapes.
+static ESCAPES: [Row; 10] = [
     (
         &[Start("a"), Chars("&<>\"'\t\n\r"), End("a")],
         "<a>&amp;&lt;&gt;\"'\t\n&#13;</a>",
@@ -110,7 +177,10 @@ pub const BYTES: [Row; 32] = [
         "<a>\u{7F}\u{85}\u{D7FF}\u{E000}\u{FFFD}\u{10000}\u{10FFFF}</a>",
         "",
     ),
-    // Comments and instructions are written as they are.
+];
+
+// Comments and instructions are written as they are.
+static COMMENTS: [Row; 10] = [
     (&[Start("a"), Comment(""), End("a")], "<a><!----></a>", ""),
     (
         &[Start("a"), Comment("&<>\"'\t\n"), End("a")],
@@ -158,7 +228,7 @@ pub const BYTES: [Row; 32] = [
 ];
 
 /// A start tag at the end is held back.
-pub const HELD: [Row; 11] = [
+static HELD: [Row; 11] = [
     (&[Start("a")], "", "UnclosedResult"),
     (&[Start("a"), Attr("x", "1")], "", "UnclosedResult"),
     (&[Scoped("p:a P", &[("q", "Q")])], "", "UnclosedResult"),
@@ -184,8 +254,8 @@ pub const HELD: [Row; 11] = [
     ),
 ];
 
-pub const REFUSED: [Row; 101] = [
-    // Names.
+// Names.
+static NAMES: [Row; 13] = [
     (&[Start("1a ")], "", "BadName at 0"),
     (&[Start("-a ")], "", "BadName at 0"),
     (&[Start("a b ")], "", "BadName at 0"),
@@ -207,6 +277,9 @@ pub const REFUSED: [Row; 101] = [
         "",
         "BadName at 0",
     ),
+];
+
+static MORE_NAMES: [Row; 13] = [
     (
         &[Start("p:a http://www.w3.org/2000/xmlns/")],
         "",
@@ -268,6 +341,9 @@ pub const REFUSED: [Row; 101] = [
         "<a/>",
         "BadName at 1",
     ),
+];
+
+static OTHER_NAMES: [Row; 12] = [
     (
         &[Start("a"), Attr("xml:x P", "1"), End("a")],
         "<a/>",
@@ -324,7 +400,10 @@ pub const REFUSED: [Row; 101] = [
         "<a/>",
         "BadName at 1",
     ),
-    // Characters.
+];
+
+// Characters.
+static CHARACTERS: [Row; 13] = [
     (&[Chars("a\u{0}")], "", "BadChar at 0"),
     (&[Chars("a\u{1}")], "", "BadChar at 0"),
     (&[Chars("a\u{B}")], "", "BadChar at 0"),
@@ -362,7 +441,10 @@ pub const REFUSED: [Row; 101] = [
         "<a/>",
         "BadChar at 1",
     ),
-    // Comments and instructions.
+];
+
+// Comments and instructions.
+static BAD_COMMENTS: [Row; 10] = [
     (&[Comment("--")], "", "BadComment at 0"),
     (&[Comment("a--b")], "", "BadComment at 0"),
     (&[Comment("-")], "", "BadComment at 0"),
@@ -373,6 +455,9 @@ pub const REFUSED: [Row; 101] = [
     (&[Comment("a--\r")], "", "BadComment at 0"),
     (&[Pi("", "")], "", "BadPi at 0"),
     (&[Pi("1", "")], "", "BadPi at 0"),
+];
+
+static MORE_BAD_COMMENTS: [Row; 10] = [
     (&[Pi("p:t", "")], "", "BadPi at 0"),
     (&[Pi("a b", "")], "", "BadPi at 0"),
     (&[Pi("xml", "")], "", "BadPi at 0"),
@@ -383,7 +468,10 @@ pub const REFUSED: [Row; 101] = [
     (&[Pi("t", "\r")], "", "BadPi at 0"),
     (&[Pi("t", "??>")], "", "BadPi at 0"),
     (&[Pi("1", "?>")], "", "BadPi at 0"),
-    // Late attributes.
+];
+
+// Late attributes.
+static LATE_ATTRIBUTES: [Row; 11] = [
     (&[Attr("x", "1")], "", "LateAttribute at 0"),
     (&[Chars("x"), Attr("y", "1")], "x", "LateAttribute at 1"),
     (
@@ -429,7 +517,10 @@ pub const REFUSED: [Row; 101] = [
     ),
     (&[Attr("p:x", "1")], "", "BadName at 0"),
     (&[Attr("x", "\u{1}")], "", "BadChar at 0"),
-    // Ends.
+];
+
+// Ends.
+static ENDS: [Row; 10] = [
     (&[End("z")], "", "UnmatchedEnd at 0"),
     (&[Chars("x"), End("z")], "x", "UnmatchedEnd at 1"),
     (
@@ -460,7 +551,10 @@ pub const REFUSED: [Row; 101] = [
         "<a xmlns=\"P\"/>",
         "WrongEnd at 1",
     ),
-    // The end is named as the start tag was.
+];
+
+// The end is named as the start tag was.
+static NAMED_ENDS: [Row; 3] = [
     (
         &[Start("p:a urn:1"), Chars("x"), End("q:a urn:1")],
         "<p:a xmlns:p=\"urn:1\">x</p:a>",
@@ -476,7 +570,10 @@ pub const REFUSED: [Row; 101] = [
         "<p:a xmlns:p=\"P\">x</p:a>",
         "",
     ),
-    // A part that is refused changes nothing.
+];
+
+// A part that is refused changes nothing.
+static UNCHANGED: [Row; 6] = [
     (
         &[Start("a"), End("b"), Attr("x", "1"), End("a")],
         "<a x=\"1\"/>",
@@ -522,7 +619,7 @@ pub const REFUSED: [Row; 101] = [
 ];
 
 /// Where so many elements may be open.
-pub const DEPTHS: [Limited; 11] = [
+static DEPTHS: [Limited; 11] = [
     (0, &[Start("a")], "", "ResultDepth at 0"),
     (
         0,
@@ -584,7 +681,7 @@ pub const DEPTHS: [Limited; 11] = [
 ];
 
 /// A part, and the bytes after it.
-pub const SETTLED: [(Given, &str); 11] = [
+static SETTLED: [(Given, &str); 11] = [
     (Start("p:a P"), ""),
     (Attr("x", "1"), ""),
     (Attr("x", "2"), ""),

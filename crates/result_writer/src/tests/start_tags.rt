@@ -3,8 +3,56 @@
 use crate::tests::Given::{Attr, Chars, End, Scoped, Start};
 use crate::tests::Row;
 
-pub const DECLARED: [Row; 60] = [
-    // The element's own.
+pub fn elements() -> &'static [Row] {
+    &ELEMENTS
+}
+
+pub fn defaults() -> &'static [Row] {
+    &DEFAULTS
+}
+
+pub fn prefixed() -> &'static [Row] {
+    &PREFIXED
+}
+
+pub fn taken_prefixes() -> &'static [Row] {
+    &TAKEN_PREFIXES
+}
+
+pub fn more_taken_prefixes() -> &'static [Row] {
+    &MORE_TAKEN_PREFIXES
+}
+
+pub fn scopes() -> &'static [Row] {
+    &SCOPES
+}
+
+pub fn more_scopes() -> &'static [Row] {
+    &MORE_SCOPES
+}
+
+pub fn ordered() -> &'static [Row] {
+    &ORDERED
+}
+
+pub fn escaped_uris() -> &'static [Row] {
+    &ESCAPED_URIS
+}
+
+pub fn refused_starts() -> &'static [Row] {
+    &REFUSED_STARTS
+}
+
+pub fn replaced() -> &'static [Row] {
+    &REPLACED
+}
+
+pub fn more_replaced() -> &'static [Row] {
+    &MORE_REPLACED
+}
+
+// The element's own.
+static ELEMENTS: [Row; 8] = [
     (&[Start("a U"), End("a U")], "<a xmlns=\"U\"/>", ""),
     (&[Start("p:a P"), End("p:a P")], "<p:a xmlns:p=\"P\"/>", ""),
     (
@@ -58,7 +106,10 @@ pub const DECLARED: [Row; 60] = [
         "<p:a xmlns:p=\"P\"/><p:b xmlns:p=\"P\"/>",
         "",
     ),
-    // The default, and taken away.
+];
+
+// The default, and taken away.
+static DEFAULTS: [Row; 8] = [
     (
         &[Start("a U"), Start("b U"), End("b U"), End("a U")],
         "<a xmlns=\"U\"><b/></a>",
@@ -141,7 +192,10 @@ pub const DECLARED: [Row; 60] = [
         "<a xmlns=\"urn:1\"><b xmlns=\"\"/></a>",
         "",
     ),
-    // The attributes'.
+];
+
+// The attributes'.
+static PREFIXED: [Row; 6] = [
     (
         &[Start("a"), Attr("p:x P", "1"), End("a")],
         "<a xmlns:p=\"P\" p:x=\"1\"/>",
@@ -192,7 +246,10 @@ pub const DECLARED: [Row; 60] = [
         "<p:a xmlns:p=\"P\"><b xmlns:p=\"Q\" p:x=\"1\"><p:c xmlns:p=\"P\"/></b></p:a>",
         "",
     ),
-    // A prefix that is taken, or none.
+];
+
+// A prefix that is taken, or none.
+static TAKEN_PREFIXES: [Row; 8] = [
     (
         &[Start("p:a P"), Attr("p:x Q", "1"), End("p:a P")],
         "<p:a xmlns:ns0=\"Q\" xmlns:p=\"P\" ns0:x=\"1\"/>",
@@ -240,6 +297,9 @@ pub const DECLARED: [Row; 60] = [
         "<a xmlns=\"U\" xmlns:ns0=\"U\" ns0:x=\"1\"/>",
         "",
     ),
+];
+
+static MORE_TAKEN_PREFIXES: [Row; 8] = [
     (
         &[Start("a U"), Attr("x", "1"), End("a U")],
         "<a xmlns=\"U\" x=\"1\"/>",
@@ -303,7 +363,10 @@ pub const DECLARED: [Row; 60] = [
         "<a xmlns:ns0=\"U\" ns0:x=\"1\"><b xmlns:ns0=\"V\" ns0:x=\"2\"/><c ns0:y=\"3\"/></a>",
         "",
     ),
-    // The scope's.
+];
+
+// The scope's.
+static SCOPES: [Row; 8] = [
     (
         &[Scoped("a", &[("p", "P")]), End("a")],
         "<a xmlns:p=\"P\"/>",
@@ -362,6 +425,9 @@ pub const DECLARED: [Row; 60] = [
         "<p:a xmlns=\"D\" xmlns:p=\"P\"><b/></p:a>",
         "",
     ),
+];
+
+static MORE_SCOPES: [Row; 8] = [
     (
         &[Scoped("p:a P", &[("p", "Q")]), End("p:a P")],
         "<p:a xmlns:p=\"P\"/>",
@@ -430,7 +496,10 @@ pub const DECLARED: [Row; 60] = [
         "<p:r xmlns:p=\"urn:1\"><p:e xmlns:p=\"urn:2\" p:a=\"1\"/></p:r>",
         "",
     ),
-    // By prefix, in the order of the characters, the default first.
+];
+
+// By prefix, in the order of the characters, the default first.
+static ORDERED: [Row; 3] = [
     (
         &[
             Scoped(
@@ -472,7 +541,10 @@ pub const DECLARED: [Row; 60] = [
         "<a xmlns:ns0=\"U\" xmlns:ns1=\"U\" xmlns:ns10=\"U\" xmlns:ns2=\"U\" xmlns:ns3=\"U\" xmlns:ns4=\"U\" xmlns:ns5=\"U\" xmlns:ns6=\"U\" xmlns:ns7=\"U\" xmlns:ns8=\"U\" xmlns:ns9=\"U\" ns0:x0=\"\" ns1:x1=\"\" ns2:x2=\"\" ns3:x3=\"\" ns4:x4=\"\" ns5:x5=\"\" ns6:x6=\"\" ns7:x7=\"\" ns8:x8=\"\" ns9:x9=\"\" ns10:x10=\"\"/>",
         "",
     ),
-    // URIs are escaped as values are.
+];
+
+// URIs are escaped as values are.
+static ESCAPED_URIS: [Row; 2] = [
     (
         &[Start("a &<>\"'\t\n\r"), End("a &<>\"'\t\n\r")],
         "<a xmlns=\"&amp;&lt;>&quot;'&#9;&#10;&#13;\"/>",
@@ -483,22 +555,23 @@ pub const DECLARED: [Row; 60] = [
         "<a xmlns:p=\"a b&amp;c\"/>",
         "",
     ),
-    // A start that is refused declares nothing.
-    (
-        &[
-            Start("p:a P"),
-            Scoped("q:b", &[("r", "R")]),
-            Start("r:c R"),
-            End("r:c R"),
-            End("p:a P"),
-        ],
-        "<p:a xmlns:p=\"P\"><r:c xmlns:r=\"R\"/></p:a>",
-        "BadName at 1",
-    ),
 ];
 
+// A start that is refused declares nothing.
+static REFUSED_STARTS: [Row; 1] = [(
+    &[
+        Start("p:a P"),
+        Scoped("q:b", &[("r", "R")]),
+        Start("r:c R"),
+        End("r:c R"),
+        End("p:a P"),
+    ],
+    "<p:a xmlns:p=\"P\"><r:c xmlns:r=\"R\"/></p:a>",
+    "BadName at 1",
+)];
+
 /// An attribute with the expanded name of an earlier one of its tag replaces the value there.
-pub const ATTRIBUTES: [Row; 16] = [
+static REPLACED: [Row; 8] = [
     (
         &[Start("a"), Attr("x", "1"), Attr("x", "2"), End("a")],
         "<a x=\"2\"/>",
@@ -559,6 +632,9 @@ pub const ATTRIBUTES: [Row; 16] = [
         "<a xmlns:ns0=\"Q\" xmlns:p=\"P\" x=\"1\" p:x=\"2\" ns0:x=\"3\"/>",
         "",
     ),
+];
+
+static MORE_REPLACED: [Row; 8] = [
     (
         &[
             Start("a"),

@@ -17,13 +17,13 @@ loop-attr-preserved c =
     let item : a ≡ get_or attrs i a = subst (λ (l : List Attr). a ≡ get_or l i a) c.as_slice-attr-items.ensures c.attr-item.is in
     let prefix = c.in_ok-prefix.ensures in
     let new : c.enter_bound.new.table ≡ with_name table a.name =
-        c.in_ok-enter_bound.ensures ∙ ap (λ p. if is_empty a.name.uri then table else entered table p a.name.uri) prefix in
+    c.in_ok-enter_bound.ensures ∙ ap (λ p. if is_empty a.name.uri then table else entered table p a.name.uri) prefix in
     let one : c.push.new.self ≡ c.loop-attr.prefixes ++ attribute_prefix table a.name ∷ [] =
-        c.in_ok-push.ensures.ok ∙ ap (λ p. c.loop-attr.prefixes ++ p ∷ []) prefix in (
+    c.in_ok-push.ensures.ok ∙ ap (λ p. c.loop-attr.prefixes ++ p ∷ []) prefix in (
       ap (λ t. with_attributes t rest) new ∙ sym (with_attributes-step table attrs i a within item) ∙ c.loop-attr.invariant.0,
       ap (λ l. l ++ prefixes c.enter_bound.new.table rest) one
-      ∙ append_assoc c.loop-attr.prefixes _ _
-      ∙ ap (λ t. c.loop-attr.prefixes ++ attribute_prefix table a.name ∷ prefixes t rest) new
-      ∙ ap (λ l. c.loop-attr.prefixes ++ l) (sym (prefixes-step table attrs i a within item))
-      ∙ c.loop-attr.invariant.1,
+          ∙ append_assoc c.loop-attr.prefixes _ _
+          ∙ ap (λ t. c.loop-attr.prefixes ++ attribute_prefix table a.name ∷ prefixes t rest) new
+          ∙ ap (λ l. c.loop-attr.prefixes ++ l) (sym (prefixes-step table attrs i a within item))
+          ∙ c.loop-attr.invariant.1,
     )
