@@ -1,6 +1,7 @@
 mod Apart
 mod Bound
 mod Judging
+mod Nesting
 mod Opening
 mod Tabling
 mod Texts

@@ -1,5 +1,5 @@
 -- What laws of the definitions say.
-use Rattle.std.specs.Prelude.{◌≡◌, ◌≢◌, ℕ, ◌<◌, ◌^◌, false, true, List, [], ◌∷◌, ◌++◌, Some, None, codes, length, slice_get}
+use Rattle.std.specs.Prelude.{◌≡◌, ◌≢◌, ℕ, ◌<◌, ◌^◌, false, true, List, [], ◌∷◌, ◌++◌, Some, None, codes, length, map, slice_get}
 use Rattle.std.specs.List.{list_all, list_any}
 use Rattle.stx_base.specs.declared.name.Attr.{Attr}
 use Rattle.stx_base.specs.declared.name.Binding.{Binding}
@@ -7,7 +7,7 @@ use Rattle.stx_base.specs.declared.name.Name.{Name}
 use Rattle.stx_base.specs.declared.part.Part.{Part}
 use Rattle.stx_base.specs.declared.part.Part.TheVariants as part
 use Rattle.result_writer.specs.Allowed.{is_good_attribute, is_good_name, is_word}
-use Rattle.result_writer.specs.Nodes.{Nodes, End, Chars, Comment, Instruction, Nested, forest, inside, nodes_fault, parts_of, plain, written}
+use Rattle.result_writer.specs.Nodes.{Nodes, End, Chars, Comment, Instruction, Nested, forest, inside, nodes_fault, parts_of, plain, unprefixed, written}
 use Rattle.result_writer.specs.Table.{bound, has_prefix, with_attributes, with_element}
 use Rattle.result_writer.specs.Tag.{dressed}
 use Rattle.result_writer.specs.Target.{first_fault, left_by, nothing, same_name, text, text_from, whole_fault, with_attribute}
@@ -132,3 +132,10 @@ DeclaresOnce = (in_force : List Binding) (tag : HeldTag) → AreApart (dressed i
 -- The first fault of the parts of nodes is that of the nodes; there is none only where each is well formed.
 abbrev pub JudgesNodes : Type 0
 JudgesNodes = (limit : ℕ) (nodes : Nodes) → whole_fault limit (parts_of nodes) ≡ nodes_fault limit 0 nodes
+
+-- What is accepted as a whole is the parts of some nodes, but for the prefixes of ends, and is written as these.
+abbrev pub AcceptsNodes : Type 0
+AcceptsNodes =
+    (limit : ℕ) (ps : List Part)
+    → whole_fault limit ps ≡ None
+    → (nodes : Nodes) × (map unprefixed ps ≡ map unprefixed (parts_of nodes)) × (text ps ≡ written [] nodes)

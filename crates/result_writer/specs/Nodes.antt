@@ -104,6 +104,11 @@ text_before (c ∷ cs) list = Chars (c ∷ cs) list
 abbrev pub expanded_name : Name → Name
 expanded_name n = record n { prefix = [] }
 
+-- a part, but for the prefix of an end
+abbrev pub unprefixed : Part → Part
+unprefixed (part.End n) = part.End (expanded_name n)
+unprefixed p = p
+
 abbrev pub expanded_attr : Attr → Attr
 expanded_attr a = record a { name = expanded_name a.name }
 

@@ -1,6 +1,6 @@
 //! Laws of the definitions, as contracts.
 
-ghost use Rattle.result_writer.specs.Laws.{Appends, DeclaresOnce, HoldsGoodTags, JudgesNodes, WritesOnce, BindsAttributes, BindsElement, BindsScope, MakesProper, ReadsNodes, Replaces, TextGrows, TextsJoin, WritesNodes};
+ghost use Rattle.result_writer.specs.Laws.{AcceptsNodes, Appends, DeclaresOnce, HoldsGoodTags, JudgesNodes, WritesOnce, BindsAttributes, BindsElement, BindsScope, MakesProper, ReadsNodes, Replaces, TextGrows, TextsJoin, WritesNodes};
 
 /// The text of parts begins the text of these parts and more.
 pub fn text_grows()
@@ -29,6 +29,7 @@ pub fn names_are_written_once()
 
 /// The parts of nodes, judged, written and read as nodes.
 pub fn nodes()
+    ensures accepted { AcceptsNodes }
     ensures fault { JudgesNodes }
     ensures text { WritesNodes }
     ensures forest { ReadsNodes }
