@@ -1,8 +1,10 @@
 -- What an answer tells of the bytes before it.
+use Rattle.std.proofs.Common.{Result, Ok, Err}
+use Rattle.stx_base.specs.declared.fault.XmlKind.{XmlKind}
 use Rattle.std.proofs.Common.{◌≡◌, ℕ, ◌+◌, ◌-◌, ◌<◌, ◌≤◌, Bool, true, false, not, ◌&&◌, ◌==◌, nat_lt, List, Option, Some, None, length, take, refl, ap, ◌∙◌, arith, length-drop, if◌then◌else◌, ltb-false}
 use Rattle.std.specs.Prelude.{unwrap_or}
 use Rattle.xml_tokens.specs.Shape.{shape_len}
-use Rattle.xml_tokens.specs.Plain.{judged}
+use Rattle.xml_tokens.specs.Judged.{judged}
 use Rattle.xml_tokens.specs.Reader.{Reader, is_cut, is_last, is_open, coming, place, size, due, after, at_shape, at_rest, at_shape_or_rest, lexeme_or_fault, step_or_need, repeated_or, step_of, bad, IsAnswer, Shrinks, MayWant, fed}
 use Rattle.stx_base.specs.declared.limits.Limits.{Limits}
 use Rattle.stx_base.specs.declared.fault.XmlKind.TheVariants.{LexemeTooLong, Truncated, InputTooLong}
@@ -94,42 +96,42 @@ module _ (r : Reader) where
   need-open : step.Need ≡ step_or_need (at_rest r) → (r.ended ≡ false) × (is_cut r ≡ false)
   need-open e = need_by (is_open r) (nat_lt r.limits.lexeme (length (coming r))) (is_cut r) r.ended (length (coming r) == 0) e
 
-shape_no_need : (limits : Limits) (bytes : List ℕ) (at : ℕ) → step.Need ≡ at_shape limits bytes at → ⊥
-shape_no_need limits bytes at e = by_size (nat_lt limits.lexeme (length bytes)) e where
-  by_body : (o : Option Body) → step.Need ≡ lexeme_or_fault o at → ⊥
-  by_body (Some body) d = cc
-  by_body None d = cc
+shape_no_need : (limits : Limits) (first : Bool) (bytes : List ℕ) (at : ℕ) → step.Need ≡ at_shape limits first bytes at → ⊥
+shape_no_need limits first bytes at e = by_size (nat_lt limits.lexeme (length bytes)) e where
+  by_body : (o : Result Body XmlKind) → step.Need ≡ lexeme_or_fault o at → ⊥
+  by_body (Ok body) d = cc
+  by_body (Err kind) d = cc
 
-  by_size : (t : Bool) → step.Need ≡ (if t then step.Bad (record { kind = LexemeTooLong; offset = at }) else lexeme_or_fault (judged bytes) at) → ⊥
+  by_size : (t : Bool) → step.Need ≡ (if t then step.Bad (record { kind = LexemeTooLong; offset = at }) else lexeme_or_fault (judged first bytes) at) → ⊥
   by_size true d = cc
-  by_size false d = by_body (judged bytes) d
+  by_size false d = by_body (judged first bytes) d
 
 due-need : (r : Reader) → step.Need ≡ due r → (r.ended ≡ false) × (is_cut r ≡ false)
 unfolding due
 due-need r e = by_over r.over e where
   by_shape : (o : Option ℕ) → step.Need ≡ at_shape_or_rest r o → (r.ended ≡ false) × (is_cut r ≡ false)
-  by_shape (Some len) d = absurd (shape_no_need r.limits (take len (coming r)) (place r) d)
+  by_shape (Some len) d = absurd (shape_no_need r.limits (r.offset == 0) (take len (coming r)) (place r) d)
   by_shape None d = need-open r d
 
   by_over : (o : Option Ending) → step.Need ≡ repeated_or o (at_shape_or_rest r (shape_len (is_last r) (coming r))) → (r.ended ≡ false) × (is_cut r ≡ false)
   by_over (Some over) d = absurd (no_need over d)
   by_over None d = by_shape (shape_len (is_last r) (coming r)) d
 
-shape_no_end : (limits : Limits) (bytes : List ℕ) (at : ℕ) → step.End ≡ at_shape limits bytes at → ⊥
-shape_no_end limits bytes at e = by_size (nat_lt limits.lexeme (length bytes)) e where
-  by_body : (o : Option Body) → step.End ≡ lexeme_or_fault o at → ⊥
-  by_body (Some body) d = cc
-  by_body None d = cc
+shape_no_end : (limits : Limits) (first : Bool) (bytes : List ℕ) (at : ℕ) → step.End ≡ at_shape limits first bytes at → ⊥
+shape_no_end limits first bytes at e = by_size (nat_lt limits.lexeme (length bytes)) e where
+  by_body : (o : Result Body XmlKind) → step.End ≡ lexeme_or_fault o at → ⊥
+  by_body (Ok body) d = cc
+  by_body (Err kind) d = cc
 
-  by_size : (t : Bool) → step.End ≡ (if t then step.Bad (record { kind = LexemeTooLong; offset = at }) else lexeme_or_fault (judged bytes) at) → ⊥
+  by_size : (t : Bool) → step.End ≡ (if t then step.Bad (record { kind = LexemeTooLong; offset = at }) else lexeme_or_fault (judged first bytes) at) → ⊥
   by_size true d = cc
-  by_size false d = by_body (judged bytes) d
+  by_size false d = by_body (judged first bytes) d
 
 due-end : (r : Reader) → step.End ≡ due r → r.over ≡ None → (r.ended ≡ true) × (is_cut r ≡ false)
 unfolding due
 due-end r e fresh = by_shape (shape_len (is_last r) (coming r)) (e ∙ ap (λ o. repeated_or o (at_shape_or_rest r (shape_len (is_last r) (coming r)))) fresh) where
   by_shape : (o : Option ℕ) → step.End ≡ at_shape_or_rest r o → (r.ended ≡ true) × (is_cut r ≡ false)
-  by_shape (Some len) d = absurd (shape_no_end r.limits (take len (coming r)) (place r) d)
+  by_shape (Some len) d = absurd (shape_no_end r.limits (r.offset == 0) (take len (coming r)) (place r) d)
   by_shape None d = end-within r d
 
 pub answer-shrinks : (r : Reader) (s : Step) → IsAnswer r s → Shrinks r s (after r s)

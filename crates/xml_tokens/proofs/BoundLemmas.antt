@@ -1,4 +1,6 @@
 -- How many bytes wait where more are wanted.
+use Rattle.std.proofs.Common.{Result, Ok, Err}
+use Rattle.stx_base.specs.declared.fault.XmlKind.{XmlKind}
 use Rattle.std.proofs.Common.{◌≡◌, ◌⊎◌, ℕ, ◌+◌, ◌-◌, ◌<◌, ◌≤◌, Bool, true, false, not, ◌&&◌, ◌||◌, ◌==◌, nat_lt, List, Option, Some, None, length, take, refl, sym, ◌∙◌, arith, ⊎_elim, inl, inr, cond, ltb-false}
 use Rattle.std.proofs.lemmas.List.{length-take}
 use Rattle.std.specs.Prelude.{codes}
@@ -7,7 +9,7 @@ use Rattle.stx_base.specs.declared.fault.XmlFault.{XmlFault}
 use Rattle.stx_base.specs.declared.fault.XmlKind.TheVariants.{LexemeTooLong, InputTooLong}
 use Rattle.xml_tokens.specs.Places.{begins, is_part}
 use Rattle.xml_tokens.specs.Shape.{form, shape_len}
-use Rattle.xml_tokens.specs.Plain.{judged}
+use Rattle.xml_tokens.specs.Judged.{judged}
 use Rattle.xml_tokens.specs.Reader.{Reader, mark, mark_len, seen, is_cut, is_last, is_open, is_undecided, coming, place, at_shape, at_shape_or_rest, lexeme_or_fault, step_or_need}
 use Rattle.xml_tokens.specs.Run.{FewUnread}
 use Rattle.xml_tokens.specs.declared.lexeme.Body.{Body}
@@ -59,15 +61,15 @@ need_by false true cut ended none too_long over at h = absurd cc
 need_by false false true ended none too_long over at h = absurd cc
 need_by false false false ended none too_long over at h = (inr refl, refl)
 
-shape_no_need : (limits : Limits) (bytes : List ℕ) (at : ℕ) → at_shape limits bytes at ≡ step.Need → ⊥
-shape_no_need limits bytes at e = by_size (nat_lt limits.lexeme (length bytes)) e where
-  by_body : (o : Option Body) → lexeme_or_fault o at ≡ step.Need → ⊥
-  by_body (Some body) d = cc
-  by_body None d = cc
+shape_no_need : (limits : Limits) (first : Bool) (bytes : List ℕ) (at : ℕ) → at_shape limits first bytes at ≡ step.Need → ⊥
+shape_no_need limits first bytes at e = by_size (nat_lt limits.lexeme (length bytes)) e where
+  by_body : (o : Result Body XmlKind) → lexeme_or_fault o at ≡ step.Need → ⊥
+  by_body (Ok body) d = cc
+  by_body (Err kind) d = cc
 
-  by_size : (t : Bool) → cond t (step.Bad (record { kind = LexemeTooLong; offset = at })) (lexeme_or_fault (judged bytes) at) ≡ step.Need → ⊥
+  by_size : (t : Bool) → cond t (step.Bad (record { kind = LexemeTooLong; offset = at })) (lexeme_or_fault (judged first bytes) at) ≡ step.Need → ⊥
   by_size true d = cc
-  by_size false d = by_body (judged bytes) d
+  by_size false d = by_body (judged first bytes) d
 
 pub few-unread : FewUnread
 few-unread r fresh h = by_shape (shape_len (is_last r) (coming r)) (sym (due-fresh r fresh) ∙ h) where
@@ -76,7 +78,7 @@ few-unread r fresh h = by_shape (shape_len (is_last r) (coming r)) (sym (due-fre
       omega (arith, few, mark-short r, length-coming r, length-take (r.limits.input - r.offset) r.unread, ltb-false (r.limits.input - r.offset) (length r.unread) cut)
 
   by_shape : (o : Option ℕ) → at_shape_or_rest r o ≡ step.Need → length r.unread ≤ r.limits.lexeme + 11
-  by_shape (Some len) k = absurd (shape_no_need r.limits (take len (coming r)) (place r) k)
+  by_shape (Some len) k = absurd (shape_no_need r.limits (r.offset == 0) (take len (coming r)) (place r) k)
   by_shape None k =
       let n = need_by (is_open r) (nat_lt r.limits.lexeme (length (coming r))) (is_cut r) r.ended (length (coming r) == 0)
       (record { kind = LexemeTooLong; offset = place r }) (record { kind = InputTooLong; offset = r.limits.input }) (r.offset + length r.unread) k in

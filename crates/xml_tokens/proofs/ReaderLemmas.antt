@@ -40,7 +40,7 @@ seen-within r = let e = length-take (r.limits.input - r.offset) r.unread in (ome
 
 module _ (limits : Limits) (unread : List ℕ) (offset : ℕ) (ended : Bool) where
   pub due-shape : (len : ℕ) → shape_len (is_last (reader limits unread offset ended)) (coming (reader limits unread offset ended)) ≡ Some len →
-      due (reader limits unread offset ended) ≡ at_shape limits (take len (coming (reader limits unread offset ended))) (place (reader limits unread offset ended))
+      due (reader limits unread offset ended) ≡ at_shape limits (offset == 0) (take len (coming (reader limits unread offset ended))) (place (reader limits unread offset ended))
   unfolding due
   due-shape len h = ap (at_shape_or_rest (reader limits unread offset ended)) h
 
@@ -50,7 +50,7 @@ module _ (limits : Limits) (unread : List ℕ) (offset : ℕ) (ended : Bool) whe
   due-rest h = ap (at_shape_or_rest (reader limits unread offset ended)) h
 
 pub is-shape-due : (limits : Limits) (unread : List ℕ) (offset : ℕ) (ended : Bool) (len : ℕ) → let r = reader limits unread offset ended in
-    shape_len (is_last r) (coming r) ≡ Some len → len ≤ length (coming r) → (d : Due) → IsShapeDue limits (take len (coming r)) (place r) (mark_len r) d → IsDue r d
+    shape_len (is_last r) (coming r) ≡ Some len → len ≤ length (coming r) → (d : Due) → IsShapeDue limits (offset == 0) (take len (coming r)) (place r) (mark_len r) d → IsDue r d
 is-shape-due limits unread offset ended len h within (look.Lexeme body at size_) d =
     let r = reader limits unread offset ended in
     let whole : length (take len (coming r)) ≡ len = omega (arith, length-take len (coming r)) in
@@ -217,11 +217,11 @@ module _ (limits : Limits) (unread : List ℕ) (offset : ℕ) (ended last : Bool
   seen_shape : (o : Option ℕ) → shape_len last bytes ≡ o → shape_len (is_last (reader limits unread offset ended)) (coming (reader limits unread offset ended)) ≡ o
   seen_shape o h = sym (ap (λ l. shape_len l bytes) e_last ∙ ap (shape_len (is_last (reader limits unread offset ended))) e_bytes) ∙ h
 
-  pub look-whole : (len : ℕ) (head : List ℕ) (d : Due) → len ≤ length bytes → head ≡ take len bytes → shape_len last bytes ≡ Some len → IsShapeDue limits head (offset + m) m d → IsDue (reader limits unread offset ended) d
+  pub look-whole : (len : ℕ) (head : List ℕ) (d : Due) → len ≤ length bytes → head ≡ take len bytes → shape_len last bytes ≡ Some len → IsShapeDue limits (offset == 0) head (offset + m) m d → IsDue (reader limits unread offset ended) d
   look-whole len head d within e_head h d0 =
       let r = reader limits unread offset ended in
       is-shape-due limits unread offset ended len (seen_shape (Some len) h) (omega (arith, ap length e_bytes)) d
-      (subst (λ n. IsShapeDue limits (take len (coming r)) (offset + n) n d) e_mark (subst (λ b. IsShapeDue limits b (offset + m) m d) (e_head ∙ ap (take len) e_bytes) d0))
+      (subst (λ n. IsShapeDue limits (offset == 0) (take len (coming r)) (offset + n) n d) e_mark (subst (λ b. IsShapeDue limits (offset == 0) b (offset + m) m d) (e_head ∙ ap (take len) e_bytes) d0))
 
   module _ (undecided : Bool) (e_open : undecided ≡ (not last && is_undecided_at (offset + m) bytes)) where
     open-is : undecided ≡ is_open (reader limits unread offset ended)

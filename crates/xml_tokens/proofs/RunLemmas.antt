@@ -1,4 +1,6 @@
 -- Laws of runs: it doesn't matter in which pieces a document comes.
+use Rattle.std.proofs.Common.{Result, Ok, Err}
+use Rattle.stx_base.specs.declared.fault.XmlKind.{XmlKind}
 use Rattle.std.proofs.Common.{◌≡◌, ◌≢◌, ℕ, ◌+◌, ◌-◌, ◌<◌, ◌≤◌, Bool, true, false, not, ◌&&◌, ◌||◌, ◌==◌, nat_lt, List, [], ◌∷◌, ◌++◌, Option, Some, None, length, take, drop, refl, sym, ap, ◌∙◌, arith, ⊎_elim, cond, subst, length-drop, length-append, get_or, add-one}
 use Rattle.std.specs.List.{flat_map}
 use Rattle.std.proofs.lemmas.Grind.{flat_map-append}
@@ -13,7 +15,7 @@ use Rattle.xml_tokens.specs.Places.{is_part}
 use Rattle.xml_tokens.specs.Shape.{form, shape_len}
 use Rattle.xml_tokens.specs.Reader.{Reader, bad, is_undecided, is_undecided_at, mark, mark_len, mark_len_of, seen, is_cut, is_last, is_open, coming, place, size, due, after, at_shape, at_rest, at_shape_or_rest, lexeme_or_fault, step_or_need, step_of}
 use Rattle.xml_tokens.specs.Look.{is_mark_open}
-use Rattle.xml_tokens.specs.Plain.{judged}
+use Rattle.xml_tokens.specs.Judged.{judged}
 use Rattle.xml_tokens.specs.Run.{Taken, Lexes, IsDrained, document}
 use Rattle.xml_tokens.specs.declared.form.Form.{Form}
 use Rattle.xml_tokens.specs.declared.form.Form.TheVariants.{Text, Comment, CData, Instruction, Declaration, Tag, Undecided}
@@ -83,10 +85,10 @@ too_long_at : ℕ → Step
 too_long_at at = step.Bad (record { kind = LexemeTooLong; offset = at })
 
 -- the answer at a shape that is too long
-too_long_shape : (limits : Limits) (bytes : List ℕ) (at : ℕ) → limits.lexeme < length bytes → at_shape limits bytes at ≡ step.Bad (record { kind = LexemeTooLong; offset = at })
-too_long_shape limits bytes at h =
+too_long_shape : (limits : Limits) (first : Bool) (bytes : List ℕ) (at : ℕ) → limits.lexeme < length bytes → at_shape limits first bytes at ≡ step.Bad (record { kind = LexemeTooLong; offset = at })
+too_long_shape limits first bytes at h =
     let e : nat_lt limits.lexeme (length bytes) ≡ true = grind (arith, nat_tests) in
-    ap (λ t. cond t (step.Bad (record { kind = LexemeTooLong; offset = at })) (lexeme_or_fault (judged bytes) at)) e
+    ap (λ t. cond t (step.Bad (record { kind = LexemeTooLong; offset = at })) (lexeme_or_fault (judged first bytes) at)) e
 
 -- what is undecided is so no longer, once it is decided
 decided_more : (at : ℕ) (bytes more : List ℕ) → is_undecided_at at bytes ≡ false → is_undecided_at at (bytes ++ more) ≡ false
@@ -130,7 +132,7 @@ module _ (r : Reader) (rest : List ℕ) (ended : Bool) (fresh : r.over ≡ None)
       let bytes : take len (coming there) ≡ take len (coming r) =
       ap (take len) c.1 ∙ take-append-le len (coming r) c.0 (whole-within false (coming r) len h).1 in
       due-there ∙ (ap (at_shape_or_rest there) (shape-there len h)
-      ∙ (ap (λ b. at_shape r.limits b (place there)) bytes ∙ (ap (at_shape r.limits (take len (coming r))) (place-there closed)
+      ∙ (ap (λ b. at_shape r.limits (r.offset == 0) b (place there)) bytes ∙ (ap (at_shape r.limits (r.offset == 0) (take len (coming r))) (place-there closed)
       ∙ sym (due-here ∙ ap (at_shape_or_rest r) h))))
 
   too_long_by : (o : Option ℕ) → shape_len (is_last (with_rest r rest ended)) (coming (with_rest r rest ended)) ≡ o → is_undecided_at (place r) (coming r) ≡ false → shape_len false (coming r) ≡ None →
@@ -143,7 +145,7 @@ module _ (r : Reader) (rest : List ℕ) (ended : Bool) (fresh : r.over ≡ None)
       let found : shape_len (is_last there) (coming r ++ c.0) ≡ Some len = sym (ap (shape_len (is_last there)) c.1) ∙ e in
       let later = shape_len-later (is_last there) (coming r) c.0 len f none found in
       let within = (whole-within (is_last there) (coming there) len e).1 in
-      too_long_shape r.limits (take len (coming there)) (place there) (omega (arith, later, within, length-take len (coming there)))
+      too_long_shape r.limits (r.offset == 0) (take len (coming there)) (place there) (omega (arith, later, within, length-take len (coming there)))
   too_long_by None e decided none long =
       let closed = closed_if r decided in
       let c = coming-more r rest closed in
@@ -304,16 +306,16 @@ need-going r fresh h = by_shape (shape_len (is_last r) (coming r)) (sym (due-fre
   no_need_over (Some (ending.Bad fault)) h = absurd cc
   no_need_over (Some ending.Memory) h = absurd cc
 
-  no_need_judged : (o : Option Body) (at : ℕ) → lexeme_or_fault o at ≡ step.Need → ⊥
-  no_need_judged None at h = cc
-  no_need_judged (Some body) at h = cc
+  no_need_judged : (o : Result Body XmlKind) (at : ℕ) → lexeme_or_fault o at ≡ step.Need → ⊥
+  no_need_judged (Err kind) at h = cc
+  no_need_judged (Ok body) at h = cc
 
-  no_need_shape : (long : Bool) (o : Option Body) (at : ℕ) → cond long (step.Bad (record { kind = LexemeTooLong; offset = at })) (lexeme_or_fault o at) ≡ step.Need → ⊥
+  no_need_shape : (long : Bool) (o : Result Body XmlKind) (at : ℕ) → cond long (step.Bad (record { kind = LexemeTooLong; offset = at })) (lexeme_or_fault o at) ≡ step.Need → ⊥
   no_need_shape true o at h = cc
   no_need_shape false o at h = no_need_judged o at h
 
   by_shape : (o : Option ℕ) → at_shape_or_rest r o ≡ step.Need → r.ended ≡ false
-  by_shape (Some len) k = absurd (no_need_shape (nat_lt r.limits.lexeme (length (take len (coming r)))) (judged (take len (coming r))) (place r) k)
+  by_shape (Some len) k = absurd (no_need_shape (nat_lt r.limits.lexeme (length (take len (coming r)))) (judged (r.offset == 0) (take len (coming r))) (place r) k)
   by_shape None k =
       (need-open (not (is_open r) && nat_lt r.limits.lexeme (length (coming r))) (is_cut r) r.ended (length (coming r) == 0)
       (bad LexemeTooLong (place r)) (bad InputTooLong r.limits.input) (r.offset + length r.unread) (no_need_over (at_rest r) k)).2

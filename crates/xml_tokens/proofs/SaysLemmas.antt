@@ -1,4 +1,6 @@
 -- What lexemes the shapes of a document say.
+use Rattle.std.proofs.Common.{Result, Ok, Err}
+use Rattle.stx_base.specs.declared.fault.XmlKind.{XmlKind}
 use Rattle.std.proofs.Common.{◌≡◌, ℕ, ◌+◌, ◌-◌, ◌≤◌, Bool, true, false, not, ◌&&◌, ◌==◌, nat_lt, List, [], ◌∷◌, ◌++◌, Option, Some, None, length, take, drop, refl, sym, ap, ◌∙◌, arith, cond, subst, length-drop}
 use Rattle.std.proofs.lemmas.List.{take_all, take-append-drop, length-take, drop-drop}
 use Rattle.std.proofs.lemmas.Bool.{eqb-true, ne_eqb}
@@ -9,7 +11,7 @@ use Rattle.stx_base.specs.declared.fault.XmlKind.TheVariants.{LexemeTooLong, Inp
 use Rattle.xml_tokens.specs.Places.{begins}
 use Rattle.xml_tokens.specs.Shape.{shape_len}
 use Rattle.xml_tokens.specs.Reader.{Reader, mark, mark_len, mark_len_of, seen, is_cut, is_last, is_open, coming, place, size, due, after, at_shape, at_shape_or_rest, lexeme_or_fault, step_or_need, step_of}
-use Rattle.xml_tokens.specs.Plain.{judged}
+use Rattle.xml_tokens.specs.Judged.{judged}
 use Rattle.xml_tokens.specs.Run.{Taken, document, Says, AreWithin, ShapesSayLexemes, SayingShapesAreRead}
 use Rattle.std.proofs.Math.Seq.{take-append_seam, drop-append_seam}
 use Rattle.xml_tokens.specs.Cuts.{Cuts}
@@ -48,11 +50,11 @@ over-end ending.Memory h = absurd cc
 -- the end is where nothing is left
 end-empty : (r : Reader) → Within r → due r ≡ step.End → coming r ≡ []
 end-empty r w h = by_shape (shape_len (is_last r) (coming r)) refl (sym (due-fresh r w.fresh) ∙ h) where
-  no_end_judged : (o : Option Body) (at : ℕ) → lexeme_or_fault o at ≡ step.End → ⊥
-  no_end_judged None at h = cc
-  no_end_judged (Some body) at h = cc
+  no_end_judged : (o : Result Body XmlKind) (at : ℕ) → lexeme_or_fault o at ≡ step.End → ⊥
+  no_end_judged (Err kind) at h = cc
+  no_end_judged (Ok body) at h = cc
 
-  no_end_shape : (long : Bool) (o : Option Body) (at : ℕ) → cond long (step.Bad (record { kind = LexemeTooLong; offset = at })) (lexeme_or_fault o at) ≡ step.End → ⊥
+  no_end_shape : (long : Bool) (o : Result Body XmlKind) (at : ℕ) → cond long (step.Bad (record { kind = LexemeTooLong; offset = at })) (lexeme_or_fault o at) ≡ step.End → ⊥
   no_end_shape true o at h = cc
   no_end_shape false o at h = no_end_judged o at h
 
@@ -68,30 +70,30 @@ end-empty r w h = by_shape (shape_len (is_last r) (coming r)) refl (sym (due-fre
   by_rest false false true false too_long over at h = absurd cc
 
   by_shape : (o : Option ℕ) → shape_len (is_last r) (coming r) ≡ o → at_shape_or_rest r o ≡ step.End → coming r ≡ []
-  by_shape (Some len) e k = absurd (no_end_shape (nat_lt r.limits.lexeme (length (take len (coming r)))) (judged (take len (coming r))) (place r) k)
+  by_shape (Some len) e k = absurd (no_end_shape (nat_lt r.limits.lexeme (length (take len (coming r)))) (judged (r.offset == 0) (take len (coming r))) (place r) k)
   by_shape None e k =
       empty (coming r) (by_rest (not (is_open r) && nat_lt r.limits.lexeme (length (coming r))) (is_cut r) r.ended (length (coming r) == 0)
       (record { kind = LexemeTooLong; offset = place r }) (record { kind = InputTooLong; offset = r.limits.input }) (r.offset + length r.unread) k)
 
 -- what a lexeme is made of
-made_of : (limits : Limits) (bytes : List ℕ) (at : ℕ) (l : Lexeme) → at_shape limits bytes at ≡ step.Lexeme l → (l.offset ≡ at) × (judged bytes ≡ Some l.body)
-made_of limits bytes at l h = by_test (nat_lt limits.lexeme (length bytes)) h where
-  by_body : (o : Option Body) → judged bytes ≡ o → lexeme_or_fault o at ≡ step.Lexeme l → (l.offset ≡ at) × (judged bytes ≡ Some l.body)
-  by_body None e k = absurd cc
-  by_body (Some body) e k =
+made_of : (limits : Limits) (first : Bool) (bytes : List ℕ) (at : ℕ) (l : Lexeme) → at_shape limits first bytes at ≡ step.Lexeme l → (l.offset ≡ at) × (judged first bytes ≡ Ok l.body)
+made_of limits first bytes at l h = by_test (nat_lt limits.lexeme (length bytes)) h where
+  by_body : (o : Result Body XmlKind) → judged first bytes ≡ o → lexeme_or_fault o at ≡ step.Lexeme l → (l.offset ≡ at) × (judged first bytes ≡ Ok l.body)
+  by_body (Err kind) e k = absurd cc
+  by_body (Ok body) e k =
       let same : record { offset = at; body = body } ≡ l = cc in
-      (ap (λ (x : Lexeme). x.offset) (sym same), e ∙ ap (λ (x : Lexeme). Some x.body) same)
+      (ap (λ (x : Lexeme). x.offset) (sym same), e ∙ ap (λ (x : Lexeme). Ok x.body) same)
 
-  by_test : (t : Bool) → cond t (step.Bad (record { kind = LexemeTooLong; offset = at })) (lexeme_or_fault (judged bytes) at) ≡ step.Lexeme l → (l.offset ≡ at) × (judged bytes ≡ Some l.body)
+  by_test : (t : Bool) → cond t (step.Bad (record { kind = LexemeTooLong; offset = at })) (lexeme_or_fault (judged first bytes) at) ≡ step.Lexeme l → (l.offset ≡ at) × (judged first bytes ≡ Ok l.body)
   by_test true k = absurd cc
-  by_test false k = by_body (judged bytes) refl k
+  by_test false k = by_body (judged first bytes) refl k
 
 abbrev mark_if : Bool → ℕ
 mark_if t = cond t 3 0
 
 -- the reader behind a lexeme
 behind-lexeme : (r : Reader) (l : Lexeme) (len : ℕ) → Within r → due r ≡ step.Lexeme l → shape_len (is_last r) (coming r) ≡ Some len →
-    Within (after r (step.Lexeme l)) × (coming (after r (step.Lexeme l)) ≡ drop len (coming r)) × (place (after r (step.Lexeme l)) ≡ place r + len)
+    Within (after r (step.Lexeme l)) × (coming (after r (step.Lexeme l)) ≡ drop len (coming r)) × (place (after r (step.Lexeme l)) ≡ place r + len) × (((after r (step.Lexeme l)).offset == 0) ≡ false)
 behind-lexeme r l len w h s =
     let n = size r in
     let there = record r { unread = drop n r.unread; offset = r.offset + n } in
@@ -104,23 +106,24 @@ behind-lexeme r l len w h s =
     ap (λ k. drop k (seen there)) no_mark
     ∙ (seen-all there within ∙ (ap (λ k. drop k r.unread) is ∙ (sym (drop-drop len (mark_len r) r.unread) ∙ ap (λ u. drop len (drop (mark_len r) u)) (sym (seen-all r w))))) in
     let at : place there ≡ place r + len = omega (arith, no_mark, is) in
-    subst (λ (x : Reader). Within x × (coming x ≡ drop len (coming r)) × (place x ≡ place r + len)) (sym (after-lexeme r l)) (within, comes, at)
+    subst (λ (x : Reader). Within x × (coming x ≡ drop len (coming r)) × (place x ≡ place r + len) × ((x.offset == 0) ≡ false)) (sym (after-lexeme r l)) (within, comes, at, later)
 
 shapes-say-from : (r : Reader) (lexemes : List Lexeme) (rest : Reader) → Within r → Taken r lexemes rest → due rest ≡ step.End →
-    (shapes : List (List ℕ)) × Cuts true (coming r) shapes [] × Says (place r) shapes lexemes
+    (shapes : List (List ℕ)) × Cuts true (coming r) shapes [] × Says (r.offset == 0) (place r) shapes lexemes
 shapes-say-from r [] rest w h e = ([], (end-empty r w (ap due h ∙ e), refl), tt)
 shapes-say-from r (l ∷ ls) rest w h e =
     let s = lexeme-shape r l w.fresh h.0 in
     let b = behind-lexeme r l s.0 w h.0 s.1 in
     let later = shapes-say-from (after r (step.Lexeme l)) ls rest b.0 h.1 e in
     let shape = take s.0 (coming r) in
-    let made = made_of r.limits shape (place r) l (sym (due-fresh r w.fresh ∙ ap (at_shape_or_rest r) s.1) ∙ h.0) in
+    let made = made_of r.limits (r.offset == 0) shape (place r) l (sym (due-fresh r w.fresh ∙ ap (at_shape_or_rest r) s.1) ∙ h.0) in
     let parts : coming r ≡ shape ++ coming (after r (step.Lexeme l)) = sym (take-append-drop s.0 (coming r)) ∙ ap (λ t. shape ++ t) (sym b.1) in
     let size : length shape ≡ s.0 = omega (arith, length-take s.0 (coming r), (whole-within (is_last r) (coming r) s.0 s.1).1) in
     let whole : shape_len true (shape ++ coming (after r (step.Lexeme l))) ≡ Some (length shape) =
     ap (shape_len true) (sym parts) ∙ (ap (λ t. shape_len t (coming r)) (sym (is-last r w)) ∙ (s.1 ∙ ap Some (sym size))) in
     let at : place (after r (step.Lexeme l)) ≡ place r + length shape = b.2 ∙ ap (λ n. place r + n) (sym size) in
-    (shape ∷ later.0, (coming (after r (step.Lexeme l)), parts, whole, later.1), (made.0, made.1, subst (λ n. Says n later.0 ls) at later.2))
+    let says : Says false (place r + length shape) later.0 ls = subst (λ n. Says false n later.0 ls) at (subst (λ t. Says t (place (after r (step.Lexeme l))) later.0 ls) b.3 later.2) in
+    (shape ∷ later.0, (coming (after r (step.Lexeme l)), parts, whole, later.1), (made.0, made.1, says))
 
 pub shapes-say : ShapesSayLexemes
 shapes-say limits bytes lexemes short h =
@@ -130,13 +133,13 @@ shapes-say limits bytes lexemes short h =
     let seen_bytes : seen r ≡ bytes = seen-all r w in
     let comes : coming r ≡ drop (mark_len_of 0 bytes) bytes = ap (λ l. drop (mark_len_of 0 l) l) seen_bytes in
     let at : place r ≡ mark_len_of 0 bytes = omega (arith, ap (mark_len_of 0) seen_bytes) in
-    (all.0, subst (λ (l : List ℕ). Cuts true l all.0 []) comes all.1, subst (λ n. Says n all.0 lexemes) at all.2)
+    (all.0, subst (λ (l : List ℕ). Cuts true l all.0 []) comes all.1, subst (λ n. Says true n all.0 lexemes) at all.2)
 
 -- a shape that isn't too long and says a lexeme is given
-given : (limits : Limits) (shape : List ℕ) (at : ℕ) (l : Lexeme) → length shape ≤ limits.lexeme → l.offset ≡ at → judged shape ≡ Some l.body → at_shape limits shape at ≡ step.Lexeme l
-given limits shape at l short offset body =
+given : (limits : Limits) (first : Bool) (shape : List ℕ) (at : ℕ) (l : Lexeme) → length shape ≤ limits.lexeme → l.offset ≡ at → judged first shape ≡ Ok l.body → at_shape limits first shape at ≡ step.Lexeme l
+given limits first shape at l short offset body =
     let long : nat_lt limits.lexeme (length shape) ≡ false = within short in
-    ap (λ t. cond t (step.Bad (record { kind = LexemeTooLong; offset = at })) (lexeme_or_fault (judged shape) at)) long
+    ap (λ t. cond t (step.Bad (record { kind = LexemeTooLong; offset = at })) (lexeme_or_fault (judged first shape) at)) long
     ∙ (ap (λ o. lexeme_or_fault o at) body ∙ ap (λ n. step.Lexeme (record { offset = n; body = l.body })) (sym offset)) where
       within : {n m : ℕ} → n ≤ m → nat_lt m n ≡ false
       within {n} {m} h = grind (arith, nat_tests)
@@ -160,7 +163,7 @@ empty-end r w h =
       within : {n m : ℕ} → n ≤ m → nat_lt m n ≡ false
       within {n} {m} h = grind (arith, nat_tests)
 
-read-from : (r : Reader) (shapes : List (List ℕ)) (lexemes : List Lexeme) → Within r → Cuts true (coming r) shapes [] → Says (place r) shapes lexemes → AreWithin r.limits.lexeme shapes →
+read-from : (r : Reader) (shapes : List (List ℕ)) (lexemes : List Lexeme) → Within r → Cuts true (coming r) shapes [] → Says (r.offset == 0) (place r) shapes lexemes → AreWithin r.limits.lexeme shapes →
     (rest : Reader) × Taken r lexemes rest × (due rest ≡ step.End)
 read-from r [] [] w c s short = (r, refl, empty-end r w c.0)
 read-from r [] (l ∷ ls) w c s short = absurd s
@@ -169,12 +172,12 @@ read-from r (shape ∷ shapes) (l ∷ ls) w c s short =
     let whole : shape_len (is_last r) (coming r) ≡ Some (length shape) = ap (λ t. shape_len t (coming r)) (is-last r w) ∙ (ap (shape_len true) c.1 ∙ c.2) in
     let front : take (length shape) (coming r) ≡ shape = ap (take (length shape)) c.1 ∙ take-append_seam shape c.0 in
     let here : due r ≡ step.Lexeme l =
-    due-fresh r w.fresh ∙ (ap (at_shape_or_rest r) whole ∙ (ap (λ b. at_shape r.limits b (place r)) front ∙ given r.limits shape (place r) l short.0 s.0 s.1)) in
+    due-fresh r w.fresh ∙ (ap (at_shape_or_rest r) whole ∙ (ap (λ b. at_shape r.limits (r.offset == 0) b (place r)) front ∙ given r.limits (r.offset == 0) shape (place r) l short.0 s.0 s.1)) in
     let b = behind-lexeme r l (length shape) w here whole in
     let comes : coming (after r (step.Lexeme l)) ≡ c.0 = b.1 ∙ (ap (drop (length shape)) c.1 ∙ drop-append_seam shape c.0) in
     let later = read-from (after r (step.Lexeme l)) shapes ls b.0
     (subst (λ (x : List ℕ). Cuts true x shapes []) (sym comes) c.3)
-    (subst (λ n. Says n shapes ls) (sym b.2) s.2)
+    (subst (λ t. Says t (place (after r (step.Lexeme l))) shapes ls) (sym b.3) (subst (λ n. Says false n shapes ls) (sym b.2) s.2))
     (subst (λ (x : Reader). AreWithin x.limits.lexeme shapes) (sym (after-lexeme r l)) short.1) in
     (later.0, (here, later.1), later.2)
 
@@ -185,4 +188,4 @@ saying-read limits bytes shapes lexemes short c s within =
     let seen_bytes : seen r ≡ bytes = seen-all r w in
     let comes : coming r ≡ drop (mark_len_of 0 bytes) bytes = ap (λ l. drop (mark_len_of 0 l) l) seen_bytes in
     let at : place r ≡ mark_len_of 0 bytes = omega (arith, ap (mark_len_of 0) seen_bytes) in
-    read-from r shapes lexemes w (subst (λ (l : List ℕ). Cuts true l shapes []) (sym comes) c) (subst (λ n. Says n shapes lexemes) (sym at) s) within
+    read-from r shapes lexemes w (subst (λ (l : List ℕ). Cuts true l shapes []) (sym comes) c) (subst (λ n. Says true n shapes lexemes) (sym at) s) within

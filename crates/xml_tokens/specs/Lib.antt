@@ -2,7 +2,11 @@ pub mod Places
 pub mod Shape
 pub mod Cuts
 pub mod Spelling
-pub mod Plain
+pub mod Texts
+pub mod Tags
+pub mod Prolog
+pub mod Judged
+pub mod Spans
 pub mod Reader
 pub mod Run
 pub mod Resume

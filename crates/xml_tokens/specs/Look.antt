@@ -38,12 +38,12 @@ rest_ending limits len at open_ cut ended =
     else Some (bad Truncated (at + len))
 
 -- what is due at a shape of these bytes behind a mark, or want of memory
-abbrev pub IsShapeDue : Limits → List ℕ → ℕ → ℕ → Due → Type 0
-IsShapeDue limits bytes at marked (look.Lexeme body offset len) =
-    (at_shape limits bytes at ≡ step.Lexeme (record { offset = offset; body = body })) × (len ≡ marked + length bytes)
-IsShapeDue limits bytes at marked (look.Wait scan) = ⊥
-IsShapeDue limits bytes at marked (look.Over ending.Memory) = Unit {0}
-IsShapeDue limits bytes at marked (look.Over over) = at_shape limits bytes at ≡ step_of over
+abbrev pub IsShapeDue : Limits → (first : Bool) → List ℕ → ℕ → ℕ → Due → Type 0
+IsShapeDue limits first bytes at marked (look.Lexeme body offset len) =
+    (at_shape limits first bytes at ≡ step.Lexeme (record { offset = offset; body = body })) × (len ≡ marked + length bytes)
+IsShapeDue limits first bytes at marked (look.Wait scan) = ⊥
+IsShapeDue limits first bytes at marked (look.Over ending.Memory) = Unit {0}
+IsShapeDue limits first bytes at marked (look.Over over) = at_shape limits first bytes at ≡ step_of over
 
 -- what is due, or want of memory
 abbrev pub IsDue : Reader → Due → Type 0

@@ -1,11 +1,11 @@
 -- What the lexer has before it, and what it answers.
-use Rattle.std.specs.Prelude.{◌≡◌, ◌<◌, ◌≤◌, ℕ, ◌+◌, ◌-◌, Bool, true, false, not, ◌&&◌, ◌||◌, ◌==◌, nat_lt, List, [], ◌∷◌, Option, Some, None, length, take, drop, unwrap_or, IfSome, if◌then◌else◌}
+use Rattle.std.specs.Prelude.{◌≡◌, ◌<◌, ◌≤◌, ℕ, ◌+◌, ◌-◌, Bool, true, false, not, ◌&&◌, ◌||◌, ◌==◌, nat_lt, List, [], ◌∷◌, Option, Some, None, Result, Ok, Err, length, take, drop, unwrap_or, IfSome, if◌then◌else◌}
 use Rattle.xml_tokens.specs.Places.{begins, is_part}
 use Rattle.xml_tokens.specs.Shape.{form, shape_len}
-use Rattle.xml_tokens.specs.Plain.{judged}
+use Rattle.xml_tokens.specs.Judged.{judged}
 use Rattle.stx_base.specs.declared.limits.Limits.{Limits}
 use Rattle.stx_base.specs.declared.fault.XmlKind.{XmlKind}
-use Rattle.stx_base.specs.declared.fault.XmlKind.TheVariants.{LexemeTooLong, Truncated, InputTooLong, NotBuilt}
+use Rattle.stx_base.specs.declared.fault.XmlKind.TheVariants.{LexemeTooLong, Truncated, InputTooLong}
 use Rattle.xml_tokens.specs.declared.form.Form.{Form}
 use Rattle.xml_tokens.specs.declared.form.Form.TheVariants.{Undecided}
 use Rattle.xml_tokens.specs.declared.lexeme.Body.{Body}
@@ -82,15 +82,15 @@ abbrev pub bad : XmlKind → ℕ → Ending
 bad kind at = ending.Bad (record { kind = kind; offset = at })
 
 -- a whole shape at a place is a lexeme or a fault
-abbrev pub lexeme_or_fault : Option Body → ℕ → Step
-lexeme_or_fault (Some body) at = step.Lexeme (record { offset = at; body = body })
-lexeme_or_fault None at = step.Bad (record { kind = NotBuilt; offset = at })
+abbrev pub lexeme_or_fault : Result Body XmlKind → ℕ → Step
+lexeme_or_fault (Ok body) at = step.Lexeme (record { offset = at; body = body })
+lexeme_or_fault (Err kind) at = step.Bad (record { kind = kind; offset = at })
 
--- the answer at a whole shape at a place
-abbrev pub at_shape : Limits → List ℕ → ℕ → Step
-at_shape limits bytes at =
+-- the answer at a whole shape at a place; `first` says that it is the document's first one
+abbrev pub at_shape : Limits → (first : Bool) → List ℕ → ℕ → Step
+at_shape limits first bytes at =
     if nat_lt limits.lexeme (length bytes) then step.Bad (record { kind = LexemeTooLong; offset = at })
-    else lexeme_or_fault (judged bytes) at
+    else lexeme_or_fault (judged first bytes) at
 
 -- why nothing comes any more where no shape is whole, if so
 abbrev pub at_rest : Reader → Option Ending
@@ -114,7 +114,7 @@ step_or_need None = step.Need
 
 -- the answer by the first shape, if one is whole
 abbrev pub at_shape_or_rest : Reader → Option ℕ → Step
-at_shape_or_rest r (Some len) = at_shape r.limits (take len (coming r)) (place r)
+at_shape_or_rest r (Some len) = at_shape r.limits (r.offset == 0) (take len (coming r)) (place r)
 at_shape_or_rest r None = step_or_need (at_rest r)
 
 -- the answer that is repeated, or else this one

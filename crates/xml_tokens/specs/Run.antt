@@ -1,8 +1,8 @@
 -- The lexemes of a whole document.
-use Rattle.std.specs.Prelude.{◌≡◌, ◌≢◌, ◌≤◌, ◌+◌, ℕ, Bool, true, false, List, [], ◌∷◌, ◌++◌, Option, Some, None, length, drop}
+use Rattle.std.specs.Prelude.{◌≡◌, ◌≢◌, ◌≤◌, ℕ, ◌+◌, Bool, true, false, List, [], ◌∷◌, ◌++◌, Option, Some, None, Ok, length, drop}
 use Rattle.stx_base.specs.declared.limits.Limits.{Limits}
 use Rattle.xml_tokens.specs.Reader.{Reader, mark_len_of, due, after, step_of}
-use Rattle.xml_tokens.specs.Plain.{judged}
+use Rattle.xml_tokens.specs.Judged.{judged}
 use Rattle.xml_tokens.specs.Cuts.{Cuts}
 use Rattle.xml_tokens.specs.declared.lexeme.Ending.{Ending}
 use Rattle.xml_tokens.specs.declared.lexeme.Ending.TheVariants as ending
@@ -29,18 +29,18 @@ IsDrained old lexemes new all None =
 IsDrained old lexemes new all (Some over) =
     (taken : List Lexeme) × (rest : Reader) × (all ≡ lexemes ++ taken) × Taken old taken rest × (due rest ≡ step_of over)
 
--- the shapes say these lexemes, one behind another from a place on
-abbrev pub Says : ℕ → List (List ℕ) → List Lexeme → Type 0
-Says at [] [] = Unit {0}
-Says at [] (lexeme ∷ lexemes) = ⊥
-Says at (shape ∷ shapes) [] = ⊥
-Says at (shape ∷ shapes) (lexeme ∷ lexemes) =
-    (lexeme.offset ≡ at) × (judged shape ≡ Some lexeme.body) × Says (at + length shape) shapes lexemes
+-- the shapes say these lexemes, one behind another from a place on; `first` says that this is the document's very start
+abbrev pub Says : (first : Bool) → ℕ → List (List ℕ) → List Lexeme → Type 0
+Says first at [] [] = Unit {0}
+Says first at [] (lexeme ∷ lexemes) = ⊥
+Says first at (shape ∷ shapes) [] = ⊥
+Says first at (shape ∷ shapes) (lexeme ∷ lexemes) =
+    (lexeme.offset ≡ at) × (judged first shape ≡ Ok lexeme.body) × Says false (at + length shape) shapes lexemes
 
 -- a document that is read to its end is, behind a byte order mark, the shapes that say its lexemes
 abbrev pub ShapesSayLexemes : Type 0
 ShapesSayLexemes = (limits : Limits) (bytes : List ℕ) (lexemes : List Lexeme) → length bytes ≤ limits.input → Lexes (document limits bytes) lexemes ending.End →
-    (shapes : List (List ℕ)) × Cuts true (drop (mark_len_of 0 bytes) bytes) shapes [] × Says (mark_len_of 0 bytes) shapes lexemes
+    (shapes : List (List ℕ)) × Cuts true (drop (mark_len_of 0 bytes) bytes) shapes [] × Says true (mark_len_of 0 bytes) shapes lexemes
 
 -- the document goes on with these bytes, and ends behind them or not
 abbrev pub going_on : Reader → List ℕ → Bool → Reader
@@ -72,5 +72,5 @@ AreWithin limit (shape ∷ shapes) = (length shape ≤ limit) × AreWithin limit
 -- where a document's shapes, none of them too long, say lexemes, it is read to its end as these
 abbrev pub SayingShapesAreRead : Type 0
 SayingShapesAreRead = (limits : Limits) (bytes : List ℕ) (shapes : List (List ℕ)) (lexemes : List Lexeme) → length bytes ≤ limits.input →
-    Cuts true (drop (mark_len_of 0 bytes) bytes) shapes [] → Says (mark_len_of 0 bytes) shapes lexemes → AreWithin limits.lexeme shapes →
+    Cuts true (drop (mark_len_of 0 bytes) bytes) shapes [] → Says true (mark_len_of 0 bytes) shapes lexemes → AreWithin limits.lexeme shapes →
     Lexes (document limits bytes) lexemes ending.End

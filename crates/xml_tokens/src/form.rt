@@ -1,4 +1,4 @@
-ghost use Rattle.std.specs.Prelude.{◌≡◌};
+ghost use Rattle.std.specs.Prelude.{◌≡◌, bytes_eq};
 ghost use Rattle.xml_tokens.specs.Places as places;
 ghost use Rattle.xml_tokens.specs.Shape.{form};
 
@@ -41,6 +41,13 @@ pub fn begins(bytes: &[u8], word: &[u8]) -> bool
     ensures { result ≡ places.begins bytes.now word.now }
 {
     bytes.starts_with(word)
+}
+
+/// Whether the bytes are the word.
+pub fn is_word(bytes: &[u8], word: &[u8]) -> bool
+    ensures { result ≡ bytes_eq bytes.now word.now }
+{
+    bytes == word
 }
 
 /// Whether the word goes on after the bytes.

@@ -1,69 +1,266 @@
-ghost use Rattle.std.specs.Prelude.{◌≡◌, ◌-◌, IfOk, length, take, drop};
-ghost use Rattle.std.specs.List.{list_all};
-ghost use Rattle.std.specs.Str.{IsAscii};
+ghost use Rattle.std.specs.Prelude.{◌≡◌, ◌+◌, ◌<◌, ◌≤◌, ◌^◌, length, IsUtf8};
+ghost use Rattle.std.specs.List.{list_all, position_or_len};
+ghost use Rattle.std.specs.Option.{option_copied};
+ghost use Rattle.std.specs.Str.{chars};
 ghost use Rattle.stx_base.specs.Character as class;
-ghost use Rattle.xml_tokens.specs.Plain as plain;
+ghost use Rattle.xml_tokens.specs.Judged as spec;
+ghost use Rattle.xml_tokens.specs.Shape.{form};
+ghost use Rattle.xml_tokens.specs.Tags as tags;
+ghost use Rattle.xml_tokens.specs.Spans.{IsJudged};
 
-use crate::form::begins;
+use crate::cut::{head, tail};
+use crate::form::{Form, begins, form_of};
 use crate::lexeme::Body;
+use crate::prolog::{declared, is_doctype, is_encoding, is_version};
 use crate::scan::has_word;
-use crate::tag::{tag, text_of};
+use crate::tag::{after_space, tag};
+use crate::text::{BadText, Context, lines_of, said, text_of};
 use std::alloc::Global;
-use stx_base::{Memory, is_space};
+use stx_base::{Memory, XmlKind, is_char, is_ncname, is_space};
 
-/// What the bytes of a whole shape say; `None` for a form that is not read yet.
-#[tactic(auto, unfolding(crate::specs::Plain::judged))]
-pub fn judge(alloc: Global, bytes: &[u8]) -> Result<Option<Body>, Memory>
-    ensures { IfOk result (λ body. body ≡ plain.judged bytes.now) }
-{
-    if !are_plain(bytes) {
-        return Ok(None);
+/// Why a whole shape says nothing.
+#[derive(Clone, Copy, Debug, PartialEq, Eq)]
+pub enum Unread {
+    Fault(XmlKind),
+    Memory,
+}
+
+impl From<Memory> for Unread {
+    ghost use Rattle.std.specs.Prelude.{◌≡◌};
+    ghost use Rattle.xml_tokens.specs.declared.judge.Unread.TheVariants as made;
+
+    ghost from_gives = { λ memory unread. unread ≡ made.Memory };
+
+    fn from(_: Memory) -> Unread {
+        Unread::Memory
     }
-    if begins(bytes, b"<") {
-        tag(alloc, inside(bytes))
+}
+
+impl From<BadText> for Unread {
+    ghost use Rattle.std.specs.Prelude.{◌≡◌};
+    ghost use Rattle.xml_tokens.specs.Judged.{kind_of};
+    ghost use Rattle.xml_tokens.specs.declared.judge.Unread.TheVariants as made;
+
+    ghost from_gives = { λ fault unread. unread ≡ made.Fault (kind_of fault) };
+
+    fn from(fault: BadText) -> Unread {
+        Unread::Fault(match fault {
+            BadText::Reference => XmlKind::BadReference,
+            BadText::Entity => XmlKind::UnknownEntity,
+        })
+    }
+}
+
+/// What the bytes of a whole shape say, or the first kind of fault that they have. `first` says that the shape stands at
+/// the document's very start.
+#[tactic(auto, unfolding(crate::specs::Judged::judged))]
+pub fn judge(alloc: Global, bytes: &[u8], first: bool) -> Result<Body, Unread>
+    ensures { IsJudged (spec.judged first bytes.now) result }
+{
+    let Ok(text) = simdutf8::compat::from_utf8(bytes) else {
+        return Err(Unread::Fault(XmlKind::BadUtf8));
+    };
+    if !are_chars(text) {
+        return Err(Unread::Fault(XmlKind::BadChar));
+    }
+    by_form(alloc, bytes, first)
+}
+
+/// Whether each character is a Char (XML 1.0, 2.2).
+fn are_chars(text: &str) -> bool
+    ensures { result ≡ list_all class.is_char (chars text.now) }
+{
+    if text.is_ascii() {
+        are_ascii_chars(text.as_bytes())
     } else {
-        chars(alloc, bytes)
+        text.chars().all(|c| is_char(c))
     }
 }
 
-/// The bytes between the first and the last one.
-fn inside(bytes: &[u8]) -> &[u8]
-    ensures { result.now ≡ take (length bytes.now - 2) (drop 1 bytes.now) }
+fn are_ascii_chars(bytes: &[u8]) -> bool
+    ensures { result ≡ list_all class.is_char bytes.now }
 {
-    if bytes.len() < 2 {
-        &bytes[..0]
+    bytes.iter().all(|b| is_char(char::from(*b)))
+}
+
+fn by_form(alloc: Global, bytes: &[u8], first: bool) -> Result<Body, Unread>
+    requires { IsUtf8 bytes.now }
+    ensures { IsJudged (spec.by_form first (form bytes.now) bytes.now) result }
+{
+    match form_of(bytes) {
+        Form::Text => text(alloc, bytes),
+        Form::Comment => match between(bytes, b"<!--", b"-->") {
+            Some(inside) => comment(alloc, inside),
+            None => Err(Unread::Fault(XmlKind::BadMarkup)),
+        },
+        Form::CData => match between(bytes, b"<![CDATA[", b"]]>") {
+            Some(inside) => cdata(alloc, inside),
+            None => Err(Unread::Fault(XmlKind::BadMarkup)),
+        },
+        Form::Instruction => match between(bytes, b"<?", b"?>") {
+            Some(inside) => instruction_or_declaration(alloc, inside, first),
+            None => Err(Unread::Fault(XmlKind::BadPi)),
+        },
+        Form::Declaration => doctype(bytes),
+        Form::Undecided => Err(Unread::Fault(XmlKind::BadMarkup)),
+        Form::Tag => match between(bytes, b"<", b">") {
+            Some(inside) => tag_or_fault(alloc, inside),
+            None => Err(Unread::Fault(XmlKind::BadTag)),
+        },
+    }
+}
+
+/// The bytes between an opening and a closing word.
+fn between<'a>(bytes: &'a [u8], opener: &[u8], closer: &[u8]) -> Option<&'a [u8]>
+    requires { length opener.now + length closer.now < 2 ^ 64 }
+    ensures { option_copied result ≡ spec.between opener.now closer.now bytes.now }
+{
+    if bytes.len() < opener.len() + closer.len() {
+        return None;
+    }
+    let end = bytes.len() - closer.len();
+    if begins(bytes, opener) && begins(tail(bytes, end), closer) {
+        Some(head(tail(bytes, opener.len()), end - opener.len()))
     } else {
-        &bytes[1..bytes.len() - 1]
+        None
     }
 }
 
-fn are_plain(bytes: &[u8]) -> bool
-    ensures { result ≡ list_all plain.is_plain bytes.now }
-{
-    bytes.iter().all(|b| is_plain(*b))
-}
-
-/// A byte that stands for itself: an ASCII Char (XML 1.0, 2.2) that begins no reference and is no carriage return.
-fn is_plain(byte: u8) -> bool
-    ensures { result ≡ plain.is_plain byte }
-{
-    byte >= b' ' && byte < 0x80 && byte != b'&' || byte == b'\t' || byte == b'\n'
-}
-
-fn chars(alloc: Global, bytes: &[u8]) -> Result<Option<Body>, Memory>
-    requires { IsAscii bytes.now }
-    ensures { IfOk result (λ body. body ≡ plain.chars bytes.now) }
+/// Character data (XML 1.0, 2.4).
+fn text(alloc: Global, bytes: &[u8]) -> Result<Body, Unread>
+    requires { IsUtf8 bytes.now }
+    ensures { IsJudged (spec.text bytes.now) result }
 {
     if has_word(bytes, b"]]>") {
-        return Ok(None);
+        return Err(Unread::Fault(XmlKind::CdataEnd));
     }
-    let text = text_of(alloc, bytes)?;
+    let text = said(alloc, bytes, Context::Content)??;
     let blank = is_blank(bytes);
-    Ok(Some(Body::Chars { text, blank }))
+    Ok(Body::Chars { text, blank })
 }
 
 fn is_blank(bytes: &[u8]) -> bool
     ensures { result ≡ list_all class.is_space bytes.now }
 {
     bytes.iter().all(|b| is_space(char::from(*b)))
+}
+
+/// A comment (XML 1.0, 2.5), by the bytes between its words.
+fn comment(alloc: Global, inside: &[u8]) -> Result<Body, Unread>
+    requires { IsUtf8 inside.now }
+    ensures { IsJudged (spec.comment inside.now) result }
+{
+    if has_word(inside, b"--") || inside.last() == Some(&b'-') {
+        return Err(Unread::Fault(XmlKind::BadComment));
+    }
+    let text = lines_of(alloc, inside)?;
+    Ok(Body::Comment { text })
+}
+
+/// A CDATA section (XML 1.0, 2.7), by the bytes between its words.
+fn cdata(alloc: Global, inside: &[u8]) -> Result<Body, Unread>
+    requires { IsUtf8 inside.now }
+    ensures { IsJudged (spec.cdata inside.now) result }
+{
+    let text = lines_of(alloc, inside)?;
+    Ok(Body::CData { text })
+}
+
+fn instruction_or_declaration(alloc: Global, inside: &[u8], first: bool) -> Result<Body, Unread>
+    requires { IsUtf8 inside.now }
+    ensures { IsJudged (spec.instruction_or_declaration first inside.now) result }
+{
+    if first && is_declaration(inside) {
+        declaration(tail(inside, 3))
+    } else {
+        instruction(alloc, inside)
+    }
+}
+
+/// Whether an instruction at the very start of a document is to be an XML declaration.
+fn is_declaration(inside: &[u8]) -> bool
+    ensures { result ≡ spec.is_declaration inside.now }
+{
+    begins(inside, b"xml")
+        && match inside.get(3) {
+            Some(next) => is_space(char::from(*next)) || *next == b'?',
+            None => true,
+        }
+}
+
+/// An XML declaration (XML 1.0, 2.8), by the bytes behind its `<?xml`.
+fn declaration(told: &[u8]) -> Result<Body, Unread>
+    ensures { IsJudged (spec.declaration told.now) result }
+{
+    let Some(told) = declared(told) else {
+        return Err(Unread::Fault(XmlKind::BadDeclaration));
+    };
+    if !is_version(told.version) {
+        return Err(Unread::Fault(XmlKind::BadVersion));
+    }
+    match told.encoding {
+        Some(encoding) if !is_encoding(encoding) => Err(Unread::Fault(XmlKind::Encoding)),
+        _ => Ok(Body::Declaration),
+    }
+}
+
+/// A processing instruction (XML 1.0, 2.6), by the bytes between its words.
+fn instruction(alloc: Global, inside: &[u8]) -> Result<Body, Unread>
+    requires { IsUtf8 inside.now }
+    ensures { IsJudged (spec.instruction inside.now) result }
+{
+    let (target, rest) = inside.split_at(word_len(inside));
+    if !is_target(target) {
+        return Err(Unread::Fault(XmlKind::BadPi));
+    }
+    let target = text_of(alloc, target)?;
+    let text = lines_of(alloc, after_space(rest))?;
+    Ok(Body::Pi { target, text })
+}
+
+/// How many bytes stand before the first white space.
+fn word_len(bytes: &[u8]) -> usize
+    ensures value { result ≡ position_or_len class.is_space bytes.now }
+    ensures bound { result ≤ length bytes.now }
+{
+    bytes
+        .iter()
+        .take_while(|b| !is_space(char::from(**b)))
+        .count()
+}
+
+/// A target that an instruction may have (PITarget; XML 1.0, 2.6, and Namespaces in XML 1.0, 7).
+fn is_target(name: &[u8]) -> bool
+    requires { IsUtf8 name.now }
+    ensures { result ≡ spec.is_target name.now }
+{
+    match std::str::from_utf8(name) {
+        Ok(text) => is_ncname(text) && !name.eq_ignore_ascii_case(b"xml"),
+        Err(_) => unreachable!(),
+    }
+}
+
+/// A document type declaration without an internal subset (XML 1.0, 2.8).
+fn doctype(bytes: &[u8]) -> Result<Body, Unread>
+    requires { IsUtf8 bytes.now }
+    ensures { IsJudged (spec.doctype bytes.now) result }
+{
+    if begins(bytes, b"<!DOCTYPE") && bytes.last() == Some(&b'[') {
+        return Err(Unread::Fault(XmlKind::InternalSubset));
+    }
+    match between(bytes, b"<!DOCTYPE", b">") {
+        Some(inside) if is_doctype(inside) => Ok(Body::Doctype),
+        _ => Err(Unread::Fault(XmlKind::BadMarkup)),
+    }
+}
+
+/// A tag, by the bytes between its `<` and its `>`.
+fn tag_or_fault(alloc: Global, inside: &[u8]) -> Result<Body, Unread>
+    requires { IsUtf8 inside.now }
+    ensures { IsJudged (spec.tag_or_fault (tags.tag inside.now)) result }
+{
+    match tag(alloc, inside)? {
+        Some(body) => Ok(body?),
+        None => Err(Unread::Fault(XmlKind::BadTag)),
+    }
 }

@@ -1,7 +1,7 @@
 //! Laws about the definitions that the lexer's contract cites. They do nothing.
 ghost use Rattle.xml_tokens.specs.Cuts.{JoinedAgain, OneCut, RestUnended, SomeCut};
 ghost use Rattle.xml_tokens.specs.Run.{AnswersStay, FewUnread, LexemesStay, OneRun, SayingShapesAreRead, ShapesSayLexemes};
-ghost use Rattle.xml_tokens.specs.Spelling.{ReadIsSpelled, SpelledIsRead, SpelledIsShape};
+ghost use Rattle.xml_tokens.specs.Spelling.{LexemesAreSpelled, LinesAreSpelled, SpelledLexemesAreRead, SpelledLexemesAreShapes, SpelledLinesAreRead, SpelledTagsAreRead, SpelledTextsAreRead, TagsAreSpelled, TextsAreSpelled};
 
 /// Each list of bytes is cut into shapes and a rest, and in one way.
 pub fn cuts()
@@ -30,9 +30,23 @@ pub fn answers()
     ensures one { OneRun }
 {}
 
-/// A tag is read exactly where it is spelled as XML has it, so far as tags are read.
+/// What is read is spelled so, and what is spelled so is read.
+pub fn texts()
+    ensures read { SpelledTextsAreRead }
+    ensures spelled { TextsAreSpelled }
+    ensures read_lines { SpelledLinesAreRead }
+    ensures spelled_lines { LinesAreSpelled }
+{}
+
+/// A tag is read exactly where it is spelled as XML has it.
 pub fn tags()
-    ensures spelled { ReadIsSpelled }
-    ensures read { SpelledIsRead }
-    ensures shape { SpelledIsShape }
+    ensures read { SpelledTagsAreRead }
+    ensures spelled { TagsAreSpelled }
+{}
+
+/// Bytes that spell a lexeme are a whole shape, and say it; and a shape says nothing that its bytes don't spell.
+pub fn spelling()
+    ensures shapes { SpelledLexemesAreShapes }
+    ensures read { SpelledLexemesAreRead }
+    ensures spelled { LexemesAreSpelled }
 {}

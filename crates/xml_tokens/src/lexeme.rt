@@ -10,10 +10,14 @@ pub struct RawAttr {
 /// What a lexeme says.
 #[derive(Debug, Drop)]
 pub enum Body {
-    /// Character data (XML 1.0, 2.4). `blank` says that its bytes are white space alone.
+    /// Character data (XML 1.0, 2.4), its references and line ends read. `blank` says that its bytes are white space alone.
     Chars {
         text: Text,
         blank: bool,
+    },
+    /// A CDATA section (XML 1.0, 2.7).
+    CData {
+        text: Text,
     },
     /// A start tag, or with `empty` an empty-element tag (XML 1.0, 3.1).
     Start {
@@ -25,6 +29,19 @@ pub enum Body {
     End {
         name: Text,
     },
+    /// A comment (XML 1.0, 2.5).
+    Comment {
+        text: Text,
+    },
+    /// A processing instruction (XML 1.0, 2.6); the text is what follows the white space behind the target.
+    Pi {
+        target: Text,
+        text: Text,
+    },
+    /// A document type declaration (XML 1.0, 2.8), which is skipped.
+    Doctype,
+    /// The XML declaration (XML 1.0, 2.8).
+    Declaration,
 }
 
 /// A lexeme and where it begins, in bytes from the document's first one, a byte order mark included.

@@ -3,8 +3,9 @@ ghost use Rattle.xml_tokens.specs.Reader as spec;
 ghost use Rattle.xml_tokens.specs.Reader.{after, begun, fed, mark_len_of, is_undecided_at, IsAnswer, MayWant, Shrinks};
 ghost use Rattle.xml_tokens.specs.Look.{begun_scan, reader, rest_ending, GoesOn, IsDue, IsShapeDue};
 
+use crate::cut::{head, tail};
 use crate::form::{Form, begins, form_of, is_part};
-use crate::judge::judge;
+use crate::judge::{Unread, judge};
 use crate::lexeme::{Body, Ending, Lexeme, Step};
 use crate::scan::{Found, Scan, search};
 use std::alloc::Global;
@@ -175,7 +176,7 @@ fn look(alloc: Global, limits: &Limits, unread: &[u8], offset: u64, ended: bool,
     let at = offset + mark as u64;
     let last = is_last(ended, cut);
     match search(bytes, last, scan) {
-        Found::Whole(len) => at_shape(alloc, limits, head(bytes, len), at, mark),
+        Found::Whole(len) => at_shape(alloc, limits, head(bytes, len), offset == 0, at, mark),
         Found::Unended(scan) => {
             let undecided = is_open(last, at, bytes);
             match at_rest(limits, bytes.len(), at, undecided, cut, ended) {
@@ -187,17 +188,17 @@ fn look(alloc: Global, limits: &Limits, unread: &[u8], offset: u64, ended: bool,
 }
 
 /// What a whole shape behind a byte order mark of `mark` bytes gives.
-fn at_shape(alloc: Global, limits: &Limits, bytes: &[u8], at: u64, mark: usize) -> Due
+fn at_shape(alloc: Global, limits: &Limits, bytes: &[u8], first: bool, at: u64, mark: usize) -> Due
     requires { mark + length bytes.now < 2 ^ 64 }
-    ensures { IsShapeDue limits.now bytes.now at mark result }
+    ensures { IsShapeDue limits.now first bytes.now at mark result }
 {
     if bytes.len() as u64 > limits.lexeme {
         return Due::Over(bad(XmlKind::LexemeTooLong, at));
     }
-    match judge(alloc, bytes) {
-        Ok(Some(body)) => Due::Lexeme(body, at, mark + bytes.len()),
-        Ok(None) => Due::Over(bad(XmlKind::NotBuilt, at)),
-        Err(Memory) => Due::Over(Ending::Memory),
+    match judge(alloc, bytes, first) {
+        Ok(body) => Due::Lexeme(body, at, mark + bytes.len()),
+        Err(Unread::Fault(kind)) => Due::Over(bad(kind, at)),
+        Err(Unread::Memory) => Due::Over(Ending::Memory),
     }
 }
 
@@ -241,20 +242,6 @@ fn front(bytes: &[u8], room: u64) -> &[u8]
     } else {
         head(bytes, room as usize)
     }
-}
-
-fn head(bytes: &[u8], len: usize) -> &[u8]
-    requires { len ≤ length bytes.now }
-    ensures { result.now ≡ take len bytes.now }
-{
-    &bytes[..len]
-}
-
-fn tail(bytes: &[u8], from: usize) -> &[u8]
-    requires { from ≤ length bytes.now }
-    ensures { result.now ≡ drop from bytes.now }
-{
-    &bytes[from..]
 }
 
 /// How many bytes a byte order mark takes.

@@ -1,92 +1,31 @@
-ghost use Rattle.std.specs.Prelude.{◌≡◌, ◌≤◌, ◌==◌, false, length, map, slice_get, suc, IfOk};
-ghost use Rattle.std.specs.Str.{IsAscii};
+ghost use Rattle.std.specs.Prelude.{◌≡◌, ◌≤◌, ◌==◌, length, slice_get, suc, IfOk, IsUtf8};
 ghost use Rattle.std.specs.List.{list_any, position_or_len, prefix_len};
-ghost use Rattle.std.specs.Option.{option_map, option_map_or, option_copied};
-ghost use Rattle.stx_base.specs.Character.{is_name_char, is_name_start, is_space};
+ghost use Rattle.std.specs.Option.{option_map, option_copied};
+ghost use Rattle.std.specs.Str.{chars};
+ghost use Rattle.stx_base.specs.Character.{is_space};
 ghost use Rattle.xml_tokens.specs.Places as places;
-ghost use Rattle.xml_tokens.specs.Plain as plain;
+ghost use Rattle.xml_tokens.specs.Tags as spec;
+ghost use Rattle.xml_tokens.specs.Spans as span;
 
+use crate::cut::{head, tail};
 use crate::lexeme::{Body, RawAttr};
-use crate::scan::has_word;
-use std::alloc::{AllocError, Global};
-use stx_base::{List, Memory, Text, is_name_char, is_name_start, is_space};
-
-/// A text of ASCII bytes.
-pub fn text_of(alloc: Global, bytes: &[u8]) -> Result<Text, Memory>
-    requires { IsAscii bytes.now }
-    ensures { IfOk result (λ text. text ≡ bytes.now) }
-{
-    match std::str::from_utf8(bytes) {
-        Ok(text) => Text::of(alloc, text),
-        Err(_) => unreachable!(),
-    }
-}
-
-/// An attribute value: each tab and line feed is read as a space (XML 1.0, 3.3.3).
-fn value_of(alloc: Global, bytes: &[u8]) -> Result<Text, Memory>
-    requires { IsAscii bytes.now }
-    ensures { IfOk result (λ text. text ≡ map plain.as_space bytes.now) }
-{
-    if !has_breaks(bytes) {
-        return text_of(alloc, bytes);
-    }
-    let normal = normal_of(alloc, bytes)?;
-    text_of(alloc, &normal)
-}
-
-fn has_breaks(bytes: &[u8]) -> bool
-    ensures { result ≡ list_any plain.is_break bytes.now }
-{
-    bytes.iter().any(|b| *b == b'\t' || *b == b'\n')
-}
-
-fn normal_of(alloc: Global, bytes: &[u8]) -> Result<Vec<u8>, AllocError>
-    ensures { IfOk result (λ v. v.items ≡ map plain.as_space bytes.now) }
-{
-    bytes.iter().map(|b| as_space(*b)).collect(alloc)
-}
-
-fn as_space(byte: u8) -> u8
-    ensures { result ≡ plain.as_space byte }
-{
-    if byte == b'\t' || byte == b'\n' {
-        b' '
-    } else {
-        byte
-    }
-}
-
-/// A name that is read so far: one without a colon and without `xmlns`.
-#[tactic(auto, unfolding(crate::specs::Plain::is_plain_name))]
-fn is_plain_name(name: &[u8]) -> bool
-    ensures { result ≡ plain.is_plain_name name.now }
-{
-    starts_name(name) && !holds(b':', name) && !has_word(name, b"xmlns")
-}
-
-fn starts_name(name: &[u8]) -> bool
-    ensures { result ≡ option_map_or is_name_start (slice_get name.now 0) false }
-{
-    match name.first() {
-        None => false,
-        Some(first) => is_name_start(char::from(*first)),
-    }
-}
-
-fn holds(byte: u8, bytes: &[u8]) -> bool
-    ensures { result ≡ list_any (λ b. b == byte) bytes.now }
-{
-    bytes.iter().any(|b| *b == byte)
-}
+use crate::text::{BadText, Context, is_name_of, said, text_of, until_byte};
+use memchr::memchr;
+use std::alloc::Global;
+use stx_base::{List, Memory, is_name_char, is_space};
 
 fn name_len(bytes: &[u8]) -> usize
-    ensures value { result ≡ prefix_len is_name_char bytes.now }
+    ensures value { result ≡ prefix_len spec.is_name_byte bytes.now }
     ensures bound { result ≤ length bytes.now }
 {
-    bytes
-        .iter()
-        .take_while(|b| is_name_char(char::from(**b)))
-        .count()
+    bytes.iter().take_while(|b| is_name_byte(**b)).count()
+}
+
+/// A byte of an ASCII NameChar, or of a character beyond ASCII.
+fn is_name_byte(byte: u8) -> bool
+    ensures { result ≡ spec.is_name_byte byte }
+{
+    byte >= 0x80 || is_name_char(char::from(byte))
 }
 
 fn space_len(bytes: &[u8]) -> usize
@@ -99,23 +38,15 @@ fn space_len(bytes: &[u8]) -> usize
         .count()
 }
 
-/// How many bytes stand before the first such byte.
-fn place_of(byte: u8, bytes: &[u8]) -> usize
-    ensures value { result ≡ position_or_len (λ b. b == byte) bytes.now }
-    ensures bound { result ≤ length bytes.now }
-{
-    bytes.iter().take_while(|b| **b != byte).count()
-}
-
-fn after_space(bytes: &[u8]) -> &[u8]
-    ensures { result.now ≡ plain.after_space bytes.now }
+pub fn after_space(bytes: &[u8]) -> &[u8]
+    ensures { result.now ≡ spec.after_space bytes.now }
 {
     let len = space_len(bytes);
-    &bytes[len..]
+    tail(bytes, len)
 }
 
 fn after_byte(byte: u8, bytes: &[u8]) -> Option<&[u8]>
-    ensures { option_copied result ≡ plain.after_byte byte bytes.now }
+    ensures { option_copied result ≡ spec.after_byte byte bytes.now }
 {
     match bytes.split_first() {
         Some((first, rest)) if *first == byte => Some(rest),
@@ -123,29 +54,33 @@ fn after_byte(byte: u8, bytes: &[u8]) -> Option<&[u8]>
     }
 }
 
-#[tactic(auto, unfolding(crate::specs::Plain::named))]
-fn named(bytes: &[u8]) -> Option<(&[u8], &[u8])>
-    ensures { option_map (λ found. (found.0.now, found.1.now)) result ≡ plain.named bytes.now }
+/// A Name (XML 1.0, 2.3), as long as possible, and what follows it.
+#[tactic(auto, unfolding(crate::specs::Tags::named))]
+pub fn named(bytes: &[u8]) -> Option<(&[u8], &[u8])>
+    requires { IsUtf8 bytes.now }
+    ensures { option_map (λ found. (found.0.now, found.1.now)) result ≡ spec.named bytes.now }
 {
     let (name, rest) = bytes.split_at(name_len(bytes));
-    if is_plain_name(name) {
+    if is_name_of(name) {
         Some((name, rest))
     } else {
         None
     }
 }
 
-#[tactic(auto, unfolding(crate::specs::Plain::quoted))]
-fn quoted(bytes: &[u8]) -> Option<(&[u8], &[u8])>
-    ensures { option_map (λ found. (found.0.now, found.1.now)) result ≡ plain.quoted bytes.now }
+/// What stands in quotes, and what follows them.
+#[tactic(auto, unfolding(crate::specs::Tags::quoted))]
+pub fn quoted(bytes: &[u8]) -> Option<(&[u8], &[u8])>
+    ensures { option_map (λ found. (found.0.now, found.1.now)) result ≡ spec.quoted bytes.now }
 {
     let Some((quote, rest)) = bytes.split_first() else {
         return None;
     };
-    if !is_quote(*quote) {
-        return None;
+    if is_quote(*quote) {
+        until_byte(*quote, rest)
+    } else {
+        None
     }
-    until_quote(*quote, rest)
 }
 
 fn is_quote(byte: u8) -> bool
@@ -154,38 +89,59 @@ fn is_quote(byte: u8) -> bool
     byte == b'"' || byte == b'\''
 }
 
-fn until_quote(quote: u8, bytes: &[u8]) -> Option<(&[u8], &[u8])>
-    ensures { option_map (λ found. (found.0.now, found.1.now)) result ≡ plain.until_quote quote bytes.now }
+/// `=` with white space round it, and what stands in quotes behind it (Eq; XML 1.0, 2.8).
+#[tactic(auto, unfolding(crate::specs::Tags::equated))]
+pub fn equated(bytes: &[u8]) -> Option<(&[u8], &[u8])>
+    ensures { option_map (λ found. (found.0.now, found.1.now)) result ≡ spec.equated bytes.now }
 {
-    let len = place_of(quote, bytes);
-    if len == bytes.len() || holds(b'<', &bytes[..len]) {
-        return None;
-    }
-    Some((&bytes[..len], &bytes[len + 1..]))
+    let rest = after_byte(b'=', after_space(bytes))?;
+    quoted(after_space(rest))
 }
 
-/// The name, the value as written, and the bytes after an attribute.
-#[tactic(auto, unfolding(crate::specs::Plain::attribute))]
+fn has_byte(byte: u8, bytes: &[u8]) -> bool
+    ensures { result ≡ list_any (λ b. b == byte) bytes.now }
+{
+    memchr(byte, bytes).is_some()
+}
+
+/// The name, the value as written, and the bytes after an attribute (Attribute; XML 1.0, 3.1).
+#[tactic(auto, unfolding(crate::specs::Tags::attribute))]
 fn attribute(bytes: &[u8]) -> Option<(&[u8], &[u8], &[u8])>
-    ensures { option_map (λ found. (found.0.now, found.1.now, found.2.now)) result ≡ plain.attribute bytes.now }
+    requires { IsUtf8 bytes.now }
+    ensures { option_map (λ found. (found.0.now, found.1.now, found.2.now)) result ≡ spec.attribute bytes.now }
 {
     let (name, rest) = named(bytes)?;
-    let rest = after_byte(b'=', after_space(rest))?;
-    let (value, rest) = quoted(after_space(rest))?;
+    let (value, rest) = equated(rest)?;
+    if has_byte(b'<', value) {
+        return None;
+    }
     Some((name, value, rest))
 }
 
 /// What follows the name in a start tag, up to its `>`.
-fn attributes(alloc: Global, bytes: &[u8]) -> Result<Option<(List<RawAttr>, bool)>, Memory>
-    requires { IsAscii bytes.now }
-    ensures { IfOk result (λ found. found ≡ plain.attributes (suc (length bytes.now)) bytes.now) }
+#[derive(Debug, Drop)]
+struct AttributeList {
+    /// Those before the first fault of a value.
+    attrs: List<RawAttr>,
+    fault: Option<BadText>,
+    empty: bool,
+}
+
+fn attributes(alloc: Global, bytes: &[u8]) -> Result<Option<AttributeList>, Memory>
+    requires { IsUtf8 bytes.now }
+    ensures { IfOk result (λ found. span.AreAttributes bytes.now found) }
 {
     let mut attrs = List::new(alloc);
+    let mut fault = None;
     let mut rest = bytes;
     'more_attrs: loop {
         let next = after_space(rest);
         if let Some(empty) = tag_end(next) {
-            return Ok(Some((attrs, empty)));
+            return Ok(Some(AttributeList {
+                attrs,
+                fault,
+                empty,
+            }));
         }
         if next.len() == rest.len() {
             return Ok(None);
@@ -193,25 +149,41 @@ fn attributes(alloc: Global, bytes: &[u8]) -> Result<Option<(List<RawAttr>, bool
         let Some((name, value, more)) = attribute(next) else {
             return Ok(None);
         };
-        let attr = attr_of(alloc, name, value)?;
-        attrs.push(attr)?;
+        match attr_of(alloc, name, value)? {
+            Ok(attr) => attrs.push(attr)?,
+            Err(other) => fault = Some(worse(fault, other)),
+        }
         rest = more;
     }
 }
 
-fn attr_of(alloc: Global, name: &[u8], value: &[u8]) -> Result<RawAttr, Memory>
-    requires name { IsAscii name.now }
-    requires value { IsAscii value.now }
-    ensures { IfOk result (λ attr. attr ≡ record { name = name.now; value = map plain.as_space value.now }) }
+/// Which of two faults is told, where there is an earlier one.
+fn worse(fault: Option<BadText>, other: BadText) -> BadText
+    ensures { result ≡ span.worse_of fault other }
 {
-    let name = text_of(alloc, name)?;
-    let value = value_of(alloc, value)?;
-    Ok(RawAttr { name, value })
+    match fault {
+        Some(BadText::Reference) => BadText::Reference,
+        Some(BadText::Entity) | None => other,
+    }
+}
+
+fn attr_of(alloc: Global, name: &[u8], value: &[u8]) -> Result<Result<RawAttr, BadText>, Memory>
+    requires name { IsUtf8 name.now }
+    requires value { IsUtf8 value.now }
+    ensures { IfOk result (λ attr. attr ≡ spec.attr_said (name.now, value.now)) }
+{
+    match said(alloc, value, Context::Value)? {
+        Ok(value) => {
+            let name = text_of(alloc, name)?;
+            Ok(Ok(RawAttr { name, value }))
+        }
+        Err(fault) => Ok(Err(fault)),
+    }
 }
 
 /// The end of a start tag: `Some(true)` where the element is empty.
 fn tag_end(bytes: &[u8]) -> Option<bool>
-    ensures { result ≡ plain.tag_end bytes.now }
+    ensures { result ≡ spec.tag_end bytes.now }
 {
     match bytes {
         [] => Some(false),
@@ -220,10 +192,10 @@ fn tag_end(bytes: &[u8]) -> Option<bool>
     }
 }
 
-/// What a tag says, by the bytes between its `<` and its `>`.
-pub fn tag(alloc: Global, inside: &[u8]) -> Result<Option<Body>, Memory>
-    requires { IsAscii inside.now }
-    ensures { IfOk result (λ body. body ≡ plain.tag inside.now) }
+/// What a tag says, by the bytes between its `<` and its `>`; `None` where these are no tag.
+pub fn tag(alloc: Global, inside: &[u8]) -> Result<Option<Result<Body, BadText>>, Memory>
+    requires { IsUtf8 inside.now }
+    ensures { IfOk result (λ body. body ≡ spec.tag inside.now) }
 {
     match after_byte(b'/', inside) {
         Some(inside) => end_tag(alloc, inside),
@@ -231,9 +203,9 @@ pub fn tag(alloc: Global, inside: &[u8]) -> Result<Option<Body>, Memory>
     }
 }
 
-fn end_tag(alloc: Global, bytes: &[u8]) -> Result<Option<Body>, Memory>
-    requires { IsAscii bytes.now }
-    ensures { IfOk result (λ body. body ≡ plain.end_tag bytes.now) }
+fn end_tag(alloc: Global, bytes: &[u8]) -> Result<Option<Result<Body, BadText>>, Memory>
+    requires { IsUtf8 bytes.now }
+    ensures { IfOk result (λ body. body ≡ spec.end_tag bytes.now) }
 {
     let Some((name, rest)) = named(bytes) else {
         return Ok(None);
@@ -242,19 +214,26 @@ fn end_tag(alloc: Global, bytes: &[u8]) -> Result<Option<Body>, Memory>
         return Ok(None);
     }
     let name = text_of(alloc, name)?;
-    Ok(Some(Body::End { name }))
+    Ok(Some(Ok(Body::End { name })))
 }
 
-fn start_tag(alloc: Global, bytes: &[u8]) -> Result<Option<Body>, Memory>
-    requires { IsAscii bytes.now }
-    ensures { IfOk result (λ body. body ≡ plain.start_tag bytes.now) }
+fn start_tag(alloc: Global, bytes: &[u8]) -> Result<Option<Result<Body, BadText>>, Memory>
+    requires { IsUtf8 bytes.now }
+    ensures { IfOk result (λ body. body ≡ spec.start_tag bytes.now) }
 {
     let Some((name, rest)) = named(bytes) else {
         return Ok(None);
     };
-    let Some((attrs, empty)) = attributes(alloc, rest)? else {
+    let Some(found) = attributes(alloc, rest)? else {
         return Ok(None);
     };
+    if let Some(fault) = found.fault {
+        return Ok(Some(Err(fault)));
+    }
     let name = text_of(alloc, name)?;
-    Ok(Some(Body::Start { name, attrs, empty }))
+    Ok(Some(Ok(Body::Start {
+        name,
+        attrs: found.attrs,
+        empty: found.empty,
+    })))
 }

@@ -1,28 +1,20 @@
-use Rattle.std.proofs.Common.{◌≡◌, sym, ◌∙◌, length, drop, ◌-◌, subst, Option}
-use Rattle.std.specs.Prelude.{IfOk}
-use Rattle.std.specs.Str.{IsAscii}
-use Rattle.std.proofs.lemmas.Str.{IsAscii-take, IsAscii-drop}
-use Rattle.xml_tokens.specs.declared.lexeme.Body.{Body}
-use Rattle.xml_tokens.specs.Plain.{judged, tag, chars}
-use Rattle.xml_tokens.proofs.PlainLemmas.{plain-ascii, judged-tag, judged-chars}
+use Rattle.std.proofs.Common.{sym, ap, ◌∙◌, subst}
+use Rattle.std.specs.List.{list_all}
+use Rattle.std.specs.Str.{chars}
+use Rattle.stx_base.specs.Character.{is_char}
+use Rattle.xml_tokens.specs.Spans.{IsJudged}
+use Rattle.xml_tokens.proofs.JudgedLemmas.{judged-not_utf8, judged-not_chars, judged-by_form}
 use Rattle.xml_tokens.proofs.judge.judge.Goals as goal
 
-pub tag-requires : goal.tag-requires
-tag-requires c =
-    let ascii = plain-ascii c.args.bytes.now (sym c.are_plain.ensures ∙ c.if-not-are_plain.false) in
-    subst IsAscii (sym c.inside.ensures) (IsAscii-take (drop 1 c.args.bytes.now) (length c.args.bytes.now - 2) (IsAscii-drop c.args.bytes.now 1 ascii))
+pub returns-in_default : goal.returns-in_default
+returns-in_default c = judged-not_utf8 c.args.first c.args.bytes.now c.in_default.ensures.cases.0
 
-pub chars-requires : goal.chars-requires
-chars-requires c = plain-ascii c.args.bytes.now (sym c.are_plain.ensures ∙ c.if-not-are_plain.false)
+pub returns-then-not-are_chars : goal.returns-then-not-are_chars
+returns-then-not-are_chars c =
+    judged-not_chars c.args.first c.args.bytes.now c.in-Ok.ensures.cases.1 (ap (λ l. list_all is_char (chars l)) (sym c.in-Ok.ensures.cases.0) ∙ (sym c.are_chars.ensures ∙ c.if-not-are_chars.true))
 
-pub returns-then-begins : goal.returns-then-begins
-returns-then-begins c =
-    let e : tag c.inside.result.now ≡ judged c.args.bytes.now =
-    judged-tag c.args.bytes.now c.inside.result.now (sym c.are_plain.ensures ∙ c.if-not-are_plain.false) (sym c.begins.ensures ∙ c.if-begins.true) c.inside.ensures in
-    subst (λ (x : Option Body). IfOk c.tag.result (λ body. body ≡ x)) e c.tag.ensures
-
-pub returns-else-begins : goal.returns-else-begins
-returns-else-begins c =
-    let e : chars c.args.bytes.now ≡ judged c.args.bytes.now =
-    judged-chars c.args.bytes.now (sym c.are_plain.ensures ∙ c.if-not-are_plain.false) (sym c.begins.ensures ∙ c.if-begins.false) in
-    subst (λ (x : Option Body). IfOk c.chars.result (λ body. body ≡ x)) e c.chars.ensures
+pub returns : goal.returns
+returns c =
+    subst (λ j. IsJudged j c.by_form.result)
+    (sym (judged-by_form c.args.first c.args.bytes.now c.in-Ok.ensures.cases.1 (ap (λ l. list_all is_char (chars l)) (sym c.in-Ok.ensures.cases.0) ∙ (sym c.are_chars.ensures ∙ c.if-not-are_chars.false))))
+    c.by_form.ensures

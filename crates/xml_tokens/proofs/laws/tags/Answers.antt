@@ -1,6 +1,6 @@
-use Rattle.xml_tokens.proofs.SpellingLemmas.{read-is-spelled, spelled-is-read}
-use Rattle.xml_tokens.proofs.TagLemmas.{spelled-is-shape}
+use Rattle.xml_tokens.proofs.TagSpelling.{spelled-tags}
+use Rattle.xml_tokens.proofs.TagReading.{tags-spelled}
 use Rattle.xml_tokens.proofs.laws.tags.Goals as goal
 
 pub returns : goal.returns
-returns c = record { spelled = read-is-spelled; read = spelled-is-read; shape = spelled-is-shape }
+returns c = record { read = spelled-tags; spelled = tags-spelled }

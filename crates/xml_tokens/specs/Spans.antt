@@ -1,0 +1,99 @@
+-- How texts are read span by span.
+use Rattle.std.specs.Prelude.{◌≡◌, ℕ, ◌+◌, ◌<◌, Bool, not, ◌&&◌, ◌||◌, ◌==◌, nat_lt, suc, List, [], ◌∷◌, ◌++◌, Option, Some, None, Result, Ok, Err, length, take, drop, if◌then◌else◌}
+use Rattle.std.specs.List.{list_any, position_or_len}
+use Rattle.std.specs.Option.{option_copied}
+use Rattle.std.specs.Str.{chars}
+use Rattle.std.specs.declared.vec.Vec.{Vec}
+use Rattle.std.specs.declared.alloc.Global.{Global}
+use Rattle.xml_tokens.specs.Texts.{first_part, is_ampersand, later_parts, result_map, said, worse}
+use Rattle.xml_tokens.specs.Tags.{attributes, attrs_said}
+use Rattle.stx_base.specs.declared.fault.XmlKind.{XmlKind}
+use Rattle.xml_tokens.specs.declared.judge.Unread.{Unread}
+use Rattle.xml_tokens.specs.declared.judge.Unread.TheVariants.{Fault, Memory}
+use Rattle.xml_tokens.specs.declared.lexeme.Body.{Body}
+use Rattle.xml_tokens.specs.declared.lexeme.RawAttr.{RawAttr}
+use Rattle.xml_tokens.specs.declared.prolog.XmlDeclaration.{XmlDeclaration}
+use Rattle.xml_tokens.specs.declared.tag.AttributeList.{AttributeList}
+use Rattle.xml_tokens.specs.declared.text.BadText.{BadText}
+use Rattle.xml_tokens.specs.declared.text.Context.{Context}
+use Rattle.xml_tokens.specs.declared.text.Context.TheVariants.{Content, Value}
+
+-- the characters that bytes say
+abbrev pub text_said : Context → List ℕ → Result (List ℕ) BadText
+text_said place bytes = result_map chars (said place bytes)
+
+-- the bytes in a vector
+abbrev pub bytes_of : Result (Vec ℕ Global) BadText → Result (List ℕ) BadText
+bytes_of made = result_map (λ out. out.items) made
+
+-- carriage return, line feed, and tab
+abbrev pub is_break : ℕ → Bool
+is_break b = b == 13 || b == 10 || b == 9
+
+-- a byte that doesn't say itself where no reference stands
+abbrev pub is_changed : Context → ℕ → Bool
+is_changed Content b = b == 13
+is_changed Value b = is_break b
+
+-- no byte begins a reference, and none is changed
+abbrev pub is_literal : Context → List ℕ → Bool
+is_literal place bytes = not (list_any is_ampersand bytes) && not (list_any (is_changed place) bytes)
+
+-- what a byte that is changed says
+abbrev pub break_as : Context → ℕ
+break_as Content = 10
+break_as Value = 32
+
+-- what follows a byte, or CR LF
+abbrev pub behind_break : List ℕ → List ℕ
+behind_break [] = []
+behind_break (b ∷ []) = []
+behind_break (b ∷ c ∷ bs) = if b == 13 && c == 10 then bs else c ∷ bs
+
+-- the first such byte's place, if there is one
+abbrev pub IsFirstOf : (ℕ → Bool) → List ℕ → Option ℕ → Type 0
+IsFirstOf test bytes None = position_or_len test bytes ≡ length bytes
+IsFirstOf test bytes (Some at) = (position_or_len test bytes ≡ at) × (at < length bytes)
+
+-- the bytes are cut at the first such byte, if there is one
+abbrev pub cut_at : (ℕ → Bool) → List ℕ → Option (List ℕ × List ℕ)
+cut_at test bytes =
+    let len = position_or_len test bytes in
+    if nat_lt len (length bytes) then Some (take len bytes, drop (len + 1) bytes) else None
+
+-- the parts that follow an ampersand, if one came
+abbrev pub parts_of : Option (List ℕ) → List (List ℕ)
+parts_of None = []
+parts_of (Some later) = first_part is_ampersand later ∷ later_parts is_ampersand later
+
+-- what a part says was appended, or it has this fault and nothing was
+abbrev pub IsPushed : (old new : List ℕ) → Result (List ℕ) BadText → Result (Unit {0}) BadText → Type 0
+IsPushed old new said (Ok done) = (bytes : List ℕ) × (said ≡ Ok bytes) × (new ≡ old ++ bytes)
+IsPushed old new said (Err fault) = (said ≡ Err fault) × (new ≡ old)
+
+-- a fault behind those before it
+abbrev pub worse_of : Option BadText → BadText → BadText
+worse_of None other = other
+worse_of (Some fault) other = worse fault other
+
+-- attributes as they are said, or the fault that they have
+abbrev pub IsRead : List RawAttr → Option BadText → Result (List RawAttr) BadText → Type 0
+IsRead attrs None said = said ≡ Ok attrs
+IsRead attrs (Some fault) said = said ≡ Err fault
+
+-- what was found of attributes behind a name is what they say
+abbrev pub AreAttributes : List ℕ → Option AttributeList → Type 0
+AreAttributes bytes None = attributes (suc (length bytes)) bytes ≡ None
+AreAttributes bytes (Some found) =
+    (written : List (List ℕ × List ℕ)) × (attributes (suc (length bytes)) bytes ≡ Some (written, found.empty))
+    × IsRead found.attrs found.fault (attrs_said written)
+
+-- what an XML declaration tells, by its bytes
+abbrev pub as_told : XmlDeclaration → List ℕ × Option (List ℕ)
+as_told told = (told.version.now, option_copied told.encoding)
+
+-- a shape says this, or has this fault, unless memory was wanting
+abbrev pub IsJudged : Result Body XmlKind → Result Body Unread → Type 0
+IsJudged judged (Ok body) = judged ≡ Ok body
+IsJudged judged (Err (Fault kind)) = judged ≡ Err kind
+IsJudged judged (Err Memory) = Unit {0}
