@@ -1,5 +1,5 @@
 -- What an engine gives from its start on.
-use Rattle.std.proofs.Common.{◌≡◌, ℕ, ◌+◌, ◌-◌, ◌^◌, ◌<◌, Bool, false, not, ◌&&◌, if◌then◌else◌, nat_lt, List, [], ◌++◌, length, take, drop, reverse, Option, Some, None, arith, sym, ap, ◌∙◌}
+use Rattle.std.proofs.Common.{◌≡◌, ℕ, ◌+◌, ◌-◌, ◌^◌, ◌<◌, Bool, true, false, not, ◌&&◌, if◌then◌else◌, nat_lt, List, [], ◌++◌, length, take, drop, reverse, Option, Some, None, arith, sym, ap, ◌∙◌}
 use Rattle.std.proofs.Math.Seq.{take-nil}
 use Rattle.std.proofs.lemmas.Bool.{le-ltb}
 use Rattle.stx_base.specs.declared.limits.Limits.{Limits}
@@ -48,7 +48,7 @@ given-started limits pass w h bytes ended =
 module _ (limits : Limits) where
   -- what comes first, by the length of the first shape
   abbrev due_by_len : (coming : List ℕ) → (place : ℕ) → (cut : Bool) → Option ℕ → Step
-  due_by_len coming place cut (Some len) = at_shape limits (take len coming) place
+  due_by_len coming place cut (Some len) = at_shape limits true (take len coming) place
   due_by_len coming place cut None =
       step_or_need
       (if not (not (false && not cut) && is_undecided_at place coming) && nat_lt limits.lexeme (length coming) then Some (bad LexemeTooLong place)

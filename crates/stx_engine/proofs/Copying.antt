@@ -143,6 +143,11 @@ followed_plain why (body.Start name attrs false) f h =
     let g = outer_expanded f h in
     (nested_plain name attrs (inner why f) (inner why (outer f)) (inner_expanded why f h) (inner_expanded why (outer f) g), outer_expanded (outer f) g)
 followed_plain why (body.End name) f h = (refl, h)
+followed_plain why (body.CData text) f h = h
+followed_plain why (body.Comment text) f h = h
+followed_plain why (body.Pi target text) f h = h
+followed_plain why body.Doctype f h = h
+followed_plain why body.Declaration f h = h
 
 future_plain : (why : Option Why) (bs : List Body) → AreExpanded (future why bs)
 future_plain why [] = tt

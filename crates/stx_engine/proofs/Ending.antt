@@ -1,11 +1,11 @@
 -- A whole document needs no more bytes, and a run on a document's first bytes is not done.
-use Rattle.std.proofs.Common.{◌≡◌, ◌≢◌, ℕ, suc, ◌+◌, Bool, true, false, List, [], ◌∷◌, Option, Some, None, length, refl, sym, ap, ◌∙◌, arith}
+use Rattle.std.proofs.Common.{◌≡◌, ◌≢◌, ℕ, suc, ◌+◌, Bool, true, false, List, [], ◌∷◌, Option, Some, None, Result, Ok, Err, length, refl, sym, ap, ◌∙◌, arith}
 use Rattle.std.specs.Prelude.{cond, not, ◌&&◌, ◌==◌, nat_lt, take}
 use Rattle.stx_base.specs.declared.fault.XmlFault.{XmlFault}
 use Rattle.stx_base.specs.declared.fault.XmlKind.{XmlKind}
 use Rattle.stx_base.specs.declared.fault.XmlKind.TheVariants.{LexemeTooLong, InputTooLong}
 use Rattle.stx_base.specs.declared.limits.Limits.{Limits}
-use Rattle.xml_tokens.specs.Plain.{judged as judged_bytes}
+use Rattle.xml_tokens.specs.Judged.{judged as judged_bytes}
 use Rattle.xml_tokens.specs.Reader.{Reader, bad, is_cut, is_last, is_open, coming, place, due, at_shape_or_rest, lexeme_or_fault, step_or_need}
 use Rattle.xml_tokens.specs.Shape.{shape_len}
 use Rattle.xml_tokens.specs.declared.lexeme.Body.{Body}
@@ -22,16 +22,17 @@ use Rattle.stx_engine.specs.Lexed.{lexed, unread}
 use Rattle.stx_engine.specs.Meaning.{Complete, Unready, end_parts, start_parts}
 use Rattle.stx_engine.specs.Passed.{Passed, put, unless_stopped, then_put, once_ready, passed, ending_of}
 use Rattle.stx_engine.specs.Tree.{Why, Need, Bad, Mark, Fresh, Told, Begun, Chars, Element, Forest, End, Cut, Single, Nested}
+use Rattle.stx_engine.proofs.Reading.{in-place}
 use Rattle.stx_engine.proofs.Passing.{run-passed}
 use Rattle.stx_engine.proofs.Settling.{left, no_end}
 
 -- Answers of a reader
 
-no_memory_judged : (o : Option Body) (at : ℕ) → lexeme_or_fault o at ≢ step.Memory
-no_memory_judged None at h = cc
-no_memory_judged (Some body) at h = cc
+no_memory_judged : (o : Result Body XmlKind) (at : ℕ) → lexeme_or_fault o at ≢ step.Memory
+no_memory_judged (Err kind) at h = cc
+no_memory_judged (Ok body) at h = cc
 
-no_memory_shape : (long : Bool) (o : Option Body) (at : ℕ) → cond long (step.Bad (record { kind = LexemeTooLong; offset = at })) (lexeme_or_fault o at) ≢ step.Memory
+no_memory_shape : (long : Bool) (o : Result Body XmlKind) (at : ℕ) → cond long (step.Bad (record { kind = LexemeTooLong; offset = at })) (lexeme_or_fault o at) ≢ step.Memory
 no_memory_shape true o at h = cc
 no_memory_shape false o at h = no_memory_judged o at h
 
@@ -46,7 +47,7 @@ no_memory_rest false false false none a b k h = cc
 no-memory : (r : Reader) → r.over ≡ None → due r ≢ step.Memory
 no-memory r fresh h = by_shape (shape_len (is_last r) (coming r)) (sym (due-fresh r fresh) ∙ h) where
   by_shape : (o : Option ℕ) → at_shape_or_rest r o ≡ step.Memory → ⊥
-  by_shape (Some len) k = no_memory_shape (nat_lt r.limits.lexeme (length (take len (coming r)))) (judged_bytes (take len (coming r))) (place r) k
+  by_shape (Some len) k = no_memory_shape (nat_lt r.limits.lexeme (length (take len (coming r)))) (judged_bytes (r.offset == 0) (take len (coming r))) (place r) k
   by_shape None k =
       no_memory_rest (not (is_open r) && nat_lt r.limits.lexeme (length (coming r))) (is_cut r) r.ended (length (coming r) == 0)
       (place r) r.limits.input (r.offset + length r.unread) k
@@ -84,6 +85,11 @@ why_first b (body.Chars text blank) r = by_place (is_inside b.names) where
   by_place false = refl
 why_first b (body.Start name attrs empty) r = refl
 why_first b (body.End name) r = refl
+why_first b (body.CData text) r = refl
+why_first b (body.Comment text) r = refl
+why_first b (body.Pi target text) r = refl
+why_first b body.Doctype r = refl
+why_first b body.Declaration r = refl
 
 over_end : (t : Bool) (f : XmlFault) → cond t None (Some (Bad f)) ≢ Some Need
 over_end true f h = cc
@@ -145,6 +151,11 @@ followed_over why (body.Start name attrs false) f o h =
     let g = outer_over f h in
     ((inner_over why f o h, inner_over why (outer f) o g), outer_over (outer f) g)
 followed_over why (body.End name) f o h = (tt, h)
+followed_over why (body.CData text) f o h = h
+followed_over why (body.Comment text) f o h = h
+followed_over why (body.Pi target text) f o h = h
+followed_over why body.Doctype f o h = h
+followed_over why body.Declaration f o h = h
 
 future_over : (why : Option Why) (bs : List Body) → why ≢ Some Need → NoneNeeds (future why bs)
 future_over why [] o = tt
@@ -222,8 +233,13 @@ deep_first limits (n ∷ ns) rooted run (body.Chars text blank) r none h = h
 deep_first limits ns rooted run (body.Start name attrs true) r none h = deep_start ns r.why (element_of name attrs) (End Fresh) (future r.why r.bodies) h
 deep_first limits ns rooted run (body.Start name attrs false) r none h =
     deep_start ns r.why (element_of name attrs) (inner r.why (future r.why r.bodies)) (outer (future r.why r.bodies)) h
-deep_first limits [] rooted run (body.End name) r none h = absurd cc
+deep_first limits [] rooted run (body.End name) r none h = let lone = in-place limits (record { names = []; rooted = rooted; run = run }) (body.End name) none in absurd cc
 deep_first limits (n ∷ ns) rooted run (body.End name) r none h = h
+deep_first limits ns rooted run (body.CData text) r none h = h
+deep_first limits ns rooted run (body.Comment text) r none h = h
+deep_first limits ns rooted run (body.Pi target text) r none h = h
+deep_first limits ns rooted run body.Doctype r none h = h
+deep_first limits ns rooted run body.Declaration r none h = h
 
 abbrev DeepReading : Before → Reading → Type 0
 DeepReading b r = (r.why ≢ None) × Deep b.names r.why (future r.why r.bodies)

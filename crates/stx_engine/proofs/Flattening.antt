@@ -13,6 +13,7 @@ use Rattle.xml_tokens.specs.declared.lexeme.Step.TheVariants as step
 use Rattle.stx_engine.specs.Document.{Before, Reading, Future, at_start, at_end, is_inside, fault_of, before_next, element_of, plain_name, judged, reading, with_first, inner, outer, future, text_before, tree_of}
 use Rattle.stx_engine.specs.Flatten.{Piece, Opens, Closes, is_closed, flatten, said_before, pieces}
 use Rattle.stx_engine.specs.Tree.{Why, Fresh, Chars, Element, Forest, End, Cut, Single, Nested}
+use Rattle.stx_engine.proofs.Reading.{in-place}
 
 -- a list, and then the end of the element that it stands in, if the list ends
 abbrev then_closed : Forest → List Piece → List Piece
@@ -61,10 +62,16 @@ flat_first limits (n ∷ ns) rooted run (body.Start name attrs false) r none h =
     let f = future r.why r.bodies in
     ap (λ l. Opens (element_of name attrs) ∷ l) h
     ∙ nested_closed (element_of name attrs) (inner r.why f) (inner r.why (outer f)) (Closes (plain_name n) ∷ unrolled r.why ns (outer (outer f)))
-flat_first limits [] rooted run (body.End name) r none h = absurd cc
+flat_first limits [] rooted run (body.End name) r none h = let lone = in-place limits (record { names = []; rooted = rooted; run = run }) (body.End name) none in absurd cc
 flat_first limits (n ∷ ns) rooted run (body.End name) r none h =
+    let same = same_name name n (in-place limits (record { names = n ∷ ns; rooted = rooted; run = run }) (body.End name) none) in
     ap (λ l. Closes (plain_name name) ∷ l) h
-    ∙ ap (λ m. Closes (plain_name m) ∷ unrolled r.why ns (future r.why r.bodies)) (sym (same_name name n none))
+    ∙ ap (λ m. Closes (plain_name m) ∷ unrolled r.why ns (future r.why r.bodies)) (sym same)
+flat_first limits ns rooted run (body.CData text) r none h = h
+flat_first limits ns rooted run (body.Comment text) r none h = h
+flat_first limits ns rooted run (body.Pi target text) r none h = h
+flat_first limits ns rooted run body.Doctype r none h = h
+flat_first limits ns rooted run body.Declaration r none h = h
 
 -- nothing is read any more
 flat_cut : (ns : List (List ℕ)) (why : Why) → [] ≡ unrolled (Some why) ns []

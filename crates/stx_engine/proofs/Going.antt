@@ -14,7 +14,7 @@ use Rattle.xml_tokens.proofs.RunLemmas.{with_rest, due-more, after_more, after-f
 use Rattle.xml_tokens.proofs.AnswerLemmas.{answer-fed}
 use Rattle.stx_engine.specs.declared.walk.Tag.{Tag}
 use Rattle.stx_engine.specs.declared.walk.Walk.{Walk}
-use Rattle.stx_engine.specs.Document.{Before, Future, is_inside, is_complete, fault_of, before_next, judged, reading, ends_in, reported, at_end, text_before, element_of}
+use Rattle.stx_engine.specs.Document.{Before, Future, is_inside, is_complete, fault_of, before_next, judged, reading, ends_in, at_end, text_before, element_of}
 use Rattle.stx_engine.specs.Engine.{given_from, later, all_given, ended_reading, IsTidy, ReadsOn}
 use Rattle.stx_engine.specs.declared.engine.Reading.TheVariants.{Wants as WantsMore, Complete, Faulty}
 use Rattle.stx_engine.specs.Lexed.{lexed_from}
@@ -131,6 +131,11 @@ tidy-next b (body.Chars text blank) tidy = by_place (is_inside b.names) refl whe
   by_place false outside = rw outside tidy
 tidy-next b (body.Start name attrs empty) tidy = λ _. refl
 tidy-next b (body.End name) tidy = λ _. refl
+tidy-next b (body.CData text) tidy = tidy
+tidy-next b (body.Comment text) tidy = tidy
+tidy-next b (body.Pi target text) tidy = tidy
+tidy-next b body.Doctype tidy = tidy
+tidy-next b body.Declaration tidy = tidy
 
 -- a walk that took a lexeme is tidy where it was
 pub tidy-taken : (old new : Walk) (l : Body) → IsTidy old → Takes l old new → IsTidy new
@@ -186,9 +191,9 @@ module _ (start w : Walk) (was r : Reader) (fresh : r.over ≡ None) (tidy : IsT
   waits q d is = (λ more ended. so_far more ended ∙ ap (λ x. given_from w (later x more ended)) (sym is), ap due is ∙ sym d, ap (λ x. x.over) is ∙ fresh, tidy)
 
   -- the document has a fault
-  pub stops : (q : Reader) (fault : XmlFault) → step.Bad fault ≡ due r → ReadsOn start w was q (Faulty (record fault { kind = reported fault.kind }))
+  pub stops : (q : Reader) (fault : XmlFault) → step.Bad fault ≡ due r → ReadsOn start w was q (Faulty fault)
   stops q fault d = λ more ended.
-      so_far more ended ∙ given-last r more ended fresh w (step.Bad fault) (λ l e. cc) (λ e. cc) (sym d) ∙ given-cut w (Bad (record fault { kind = reported fault.kind }))
+      so_far more ended ∙ given-last r more ended fresh w (step.Bad fault) (λ l e. cc) (λ e. cc) (sym d) ∙ given-cut w (Bad fault)
 
   -- the document ends
   pub ends : (q : Reader) → step.End ≡ due r → r.ended ≡ true → fed q ≡ fed r → ReadsOn start w was q (ended_reading w (fed q))

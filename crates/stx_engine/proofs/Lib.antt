@@ -12,6 +12,7 @@ pub mod Names
 pub mod Planting
 pub mod Twins
 pub mod Rereading
+pub mod Reading
 pub mod Ending
 pub mod Faults
 pub mod Forms

@@ -8,8 +8,6 @@ use Rattle.stx_base.specs.StandardLimits.{standard_limits}
 use Rattle.stx_base.specs.declared.limits.Limits.{Limits}
 use Rattle.stx_base.specs.declared.part.Part.{Part}
 use Rattle.stx_base.specs.declared.part.Part.TheVariants as part
-use Rattle.xml_tokens.specs.Plain.{is_plain_name}
-use Rattle.xml_tokens.specs.Spelling.{IsName}
 use Rattle.xml_tokens.specs.declared.lexeme.RawAttr.{RawAttr}
 use Rattle.stx_host.specs.Outside.{document}
 use Rattle.stx_host.specs.declared.act.Doc.{Doc}
@@ -31,15 +29,9 @@ use Rattle.stx_engine.proofs.Matching.{Matched, nothing_matched, shape_matched, 
 use Rattle.stx_engine.proofs.Named.{HasNames, doc_has_names}
 use Rattle.stx_engine.proofs.Passing.{run-passed}
 use Rattle.stx_engine.proofs.Starting.{text_after-start}
-use Rattle.stx_engine.proofs.Tagging.{AreNames, is_inner, name_inner, escaped_text, start_whole, start_effect, empty_whole, empty_effect, end_whole, end_effect}
+use Rattle.stx_engine.proofs.Tagging.{IsName, AreNames, is_inner, name_inner, escaped_text, start_whole, start_effect, empty_whole, empty_effect, end_whole, end_effect}
 
 -- Tags
-
--- a name is not empty
-name_not_empty : (name : List ℕ) → is_plain_name name ≡ true → 1 ≤ length name
-unfolding is_plain_name
-name_not_empty [] h = absurd cc
-name_not_empty (c ∷ cs) h = omega arith
 
 not_empty : (bytes : List ℕ) → 1 ≤ length bytes → (b : ℕ) × (bs : List ℕ) × (bytes ≡ b ∷ bs)
 not_empty [] h = absurd (omega arith)
@@ -79,7 +71,7 @@ module _ (b : ℕ) (bytes : List ℕ) (attrs : List RawAttr) (inner : list_all i
 
 module _ (name : List ℕ) (attrs : List RawAttr) (is : IsName name) (good : AreNames attrs) (names : List (List ℕ)) (more : List ℕ) where
   word_is : (b : ℕ) × (bs : List ℕ) × (encode_utf8_all name ≡ b ∷ bs)
-  word_is = not_empty (encode_utf8_all name) (omega (arith, name_not_empty name is.plain, length-le-encodes name))
+  word_is = not_empty (encode_utf8_all name) (omega (arith, is.some, length-le-encodes name))
 
   start_written : Matched (encode_utf8_all name ∷ names) more → Matched names ((open_tag (encode_utf8_all name) attrs ++ 62 ∷ []) ++ more)
   start_written =

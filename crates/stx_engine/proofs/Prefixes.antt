@@ -124,6 +124,11 @@ followed-grows why (body.Start name attrs false) f g h =
     let o = outer-grows f g h in
     ((inner why g, inner why (outer g), refl, inner-grows why f g h, inner-grows why (outer f) (outer g) o), outer-grows (outer f) (outer g) o)
 followed-grows why (body.End name) f g h = (refl, h)
+followed-grows why (body.CData text) f g h = h
+followed-grows why (body.Comment text) f g h = h
+followed-grows why (body.Pi target text) f g h = h
+followed-grows why body.Doctype f g h = h
+followed-grows why body.Declaration f g h = h
 
 future-grows : (why : Option Why) (bs cs : List Body) → FutureGrows (future (Some Need) bs) (future why (bs ++ cs))
 future-grows why [] cs = tt
@@ -146,6 +151,11 @@ within_first b (body.Chars text blank) r s (inr h) = by_place (is_inside b.names
   by_place false = inr h
 within_first b (body.Start name attrs empty) r s (inr h) = inr (h.0, (h.1.0, ap (λ l. body.Start name attrs empty ∷ l) h.1.1))
 within_first b (body.End name) r s (inr h) = inr (h.0, (h.1.0, ap (λ l. body.End name ∷ l) h.1.1))
+within_first b (body.CData text) r s (inr h) = inr h
+within_first b (body.Comment text) r s (inr h) = inr h
+within_first b (body.Pi target text) r s (inr h) = inr h
+within_first b body.Doctype r s (inr h) = inr h
+within_first b body.Declaration r s (inr h) = inr h
 
 pub reading-more : (limits : Limits) (n m : ℕ) (last : Step) (b : Before) (ls ms : List Lexeme) → ReadWithin (reading limits n step.Need b ls) (reading limits m last b (ls ++ ms))
 reading-more limits n m last b [] ms = inr (refl, begins_nothing (reading limits m last b ms).bodies)

@@ -22,6 +22,11 @@ joined_first bs b (body.Chars text blank) r = by_place (is_inside b.names) where
   by_place false = ap (λ l. record { bodies = l ++ r.bodies; why = r.why }) (append-nil bs)
 joined_first bs b (body.Start name attrs empty) r = ap (λ l. record { bodies = l; why = r.why }) (append_assoc bs (body.Start name attrs empty ∷ []) r.bodies)
 joined_first bs b (body.End name) r = ap (λ l. record { bodies = l; why = r.why }) (append_assoc bs (body.End name ∷ []) r.bodies)
+joined_first bs b (body.CData text) r = ap (λ l. record { bodies = l ++ r.bodies; why = r.why }) (append-nil bs)
+joined_first bs b (body.Comment text) r = ap (λ l. record { bodies = l ++ r.bodies; why = r.why }) (append-nil bs)
+joined_first bs b (body.Pi target text) r = ap (λ l. record { bodies = l ++ r.bodies; why = r.why }) (append-nil bs)
+joined_first bs b body.Doctype r = ap (λ l. record { bodies = l ++ r.bodies; why = r.why }) (append-nil bs)
+joined_first bs b body.Declaration r = ap (λ l. record { bodies = l ++ r.bodies; why = r.why }) (append-nil bs)
 
 module _ (limits : Limits) (len : ℕ) (last : Step) (bs : List Body) (b : Before) (l : Lexeme) (ls : List Lexeme) where
   pub joined-next : fault_of limits b l.body ≡ None →

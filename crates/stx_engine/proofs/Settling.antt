@@ -1,13 +1,14 @@
 -- The lexemes of a document's first bytes, and what they settle.
-use Rattle.std.proofs.Common.{◌≡◌, ◌≢◌, ◌⊎◌, inl, inr, ℕ, zero, suc, ◌+◌, ◌<◌, Bool, true, false, List, [], ◌∷◌, ◌++◌, Option, Some, None, length, refl, sym, ap, ◌∙◌, subst, arith, append-nil, append_assoc}
+use Rattle.std.proofs.Common.{◌≡◌, ◌≢◌, ◌⊎◌, inl, inr, ℕ, zero, suc, ◌+◌, ◌<◌, Bool, true, false, List, [], ◌∷◌, ◌++◌, Option, Some, None, Result, Ok, Err, length, refl, sym, ap, ◌∙◌, subst, arith, append-nil, append_assoc}
 use Rattle.std.specs.Prelude.{cond, not, ◌&&◌, ◌==◌, nat_lt, take}
 use Rattle.std.specs.Option.{option_and_then}
 use Rattle.stx_base.specs.Course.{Begins}
 use Rattle.stx_base.specs.StandardLimits.{standard_limits}
+use Rattle.stx_base.specs.declared.fault.XmlKind.{XmlKind}
 use Rattle.stx_base.specs.declared.fault.XmlKind.TheVariants.{LexemeTooLong, InputTooLong}
 use Rattle.stx_base.specs.declared.limits.Limits.{Limits}
 use Rattle.xml_tokens.specs.Shape.{shape_len}
-use Rattle.xml_tokens.specs.Plain.{judged}
+use Rattle.xml_tokens.specs.Judged.{judged}
 use Rattle.xml_tokens.specs.Reader.{Reader, bad, is_cut, is_last, is_open, coming, place, due, after, at_shape_or_rest, at_rest, lexeme_or_fault, step_or_need}
 use Rattle.xml_tokens.specs.Run.{Taken}
 use Rattle.xml_tokens.proofs.RunLemmas.{with_rest, due-fresh, due-more, taken-more, taken-fresh, taken-ended, after-shorter, after-fresh}
@@ -153,11 +154,11 @@ module _ (limits : Limits) (bytes more : List ℕ) (ended : Bool) where
 
 -- The end of a document comes only where it has ended.
 
-no_end_judged : (o : Option Body) (at : ℕ) → lexeme_or_fault o at ≢ step.End
-no_end_judged None at h = cc
-no_end_judged (Some body) at h = cc
+no_end_judged : (o : Result Body XmlKind) (at : ℕ) → lexeme_or_fault o at ≢ step.End
+no_end_judged (Err kind) at h = cc
+no_end_judged (Ok body) at h = cc
 
-no_end_shape : (long : Bool) (o : Option Body) (at : ℕ) → cond long (step.Bad (record { kind = LexemeTooLong; offset = at })) (lexeme_or_fault o at) ≢ step.End
+no_end_shape : (long : Bool) (o : Result Body XmlKind) (at : ℕ) → cond long (step.Bad (record { kind = LexemeTooLong; offset = at })) (lexeme_or_fault o at) ≢ step.End
 no_end_shape true o at h = cc
 no_end_shape false o at h = no_end_judged o at h
 
@@ -176,7 +177,7 @@ end_open false false false none a b k h = absurd cc
 pub end-ended : (r : Reader) → r.over ≡ None → due r ≡ step.End → r.ended ≡ true
 end-ended r fresh h = by_shape (shape_len (is_last r) (coming r)) (sym (due-fresh r fresh) ∙ h) where
   by_shape : (o : Option ℕ) → at_shape_or_rest r o ≡ step.End → r.ended ≡ true
-  by_shape (Some len) k = absurd (no_end_shape (nat_lt r.limits.lexeme (length (take len (coming r)))) (judged (take len (coming r))) (place r) k)
+  by_shape (Some len) k = absurd (no_end_shape (nat_lt r.limits.lexeme (length (take len (coming r)))) (judged (r.offset == 0) (take len (coming r))) (place r) k)
   by_shape None k =
       end_open (not (is_open r) && nat_lt r.limits.lexeme (length (coming r))) (is_cut r) r.ended (length (coming r) == 0)
       (place r) r.limits.input (r.offset + length r.unread) (end_so (at_rest r) k)

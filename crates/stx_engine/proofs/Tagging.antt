@@ -10,10 +10,9 @@ use Rattle.stx_base.specs.Character.{is_space, is_name_char}
 use Rattle.xml_tokens.specs.Cuts.{IsWhole}
 use Rattle.xml_tokens.specs.Places.{is_quote, first_outside}
 use Rattle.xml_tokens.specs.Shape.{form, ends_tag, end_by, behind}
-use Rattle.xml_tokens.specs.Spelling.{IsName}
 use Rattle.xml_tokens.specs.declared.form.Form.TheVariants.{Tag}
 use Rattle.xml_tokens.specs.declared.lexeme.RawAttr.{RawAttr}
-use Rattle.xml_tokens.proofs.SpellingLemmas.{prefix-append, stops}
+use Rattle.xml_tokens.proofs.ListLemmas.{prefix-append, stops}
 use Rattle.stx_engine.specs.declared.escape.Context.TheVariants.{Content, Value}
 use Rattle.stx_engine.specs.Escape.{written, escaped}
 use Rattle.stx_engine.specs.Nesting.{ends_name, name_of, Opens, Closes, Neither, effect_by, effect}
@@ -22,6 +21,11 @@ use lib.Utf8.{encode}
 use lib.Pointwise.{pointwise}
 
 -- Bytes of names
+
+-- a name has a character, and its characters are those of names
+pub record IsName (name : List ℕ) : Type 0 where
+  pub some : 1 ≤ length name
+  pub chars : list_all is_name_char name ≡ true
 
 -- a byte that ends neither a name nor a tag, opens no quote, and makes no other markup of a tag
 abbrev pub is_inner : ℕ → Bool

@@ -70,6 +70,11 @@ followed_tidy why (body.Start name attrs false) f h =
     let g = outer_tidy why f h in
     ((refl, inner_proper why f h, inner_proper why (outer f) g, cut_behind why f h), start_tied why f h (is_closed (inner why f)) refl, outer_tidy why (outer f) g)
 followed_tidy why (body.End name) f h = (refl, λ c. cc, h)
+followed_tidy why (body.CData text) f h = h
+followed_tidy why (body.Comment text) f h = h
+followed_tidy why (body.Pi target text) f h = h
+followed_tidy why body.Doctype f h = h
+followed_tidy why body.Declaration f h = h
 
 future_tidy : (why : Option Why) (bs : List Body) → Tidy why (future why bs)
 future_tidy why [] = tt

@@ -2,7 +2,7 @@
 use Rattle.std.specs.Prelude.{ℕ, Bool, true, false, not, ◌&&◌, ◌||◌, nat_lt, nat_le, bytes_eq, encode_utf8_all, if◌then◌else◌, List, [], ◌∷◌, ◌++◌, length, map, Option, Some, None}
 use Rattle.std.specs.List.{list_any}
 use Rattle.stx_base.specs.declared.fault.XmlKind.{XmlKind}
-use Rattle.stx_base.specs.declared.fault.XmlKind.TheVariants.{LexemeTooLong, NotBuilt, Mismatch, Truncated}
+use Rattle.stx_base.specs.declared.fault.XmlKind.TheVariants.{NotBuilt, Mismatch, Truncated}
 use Rattle.stx_base.specs.declared.limits.Limits.{Limits}
 use Rattle.stx_base.specs.declared.name.Name.{Name}
 use Rattle.stx_base.specs.declared.name.Attr.{Attr}
@@ -12,6 +12,7 @@ use Rattle.xml_tokens.specs.declared.lexeme.Lexeme.{Lexeme}
 use Rattle.xml_tokens.specs.declared.lexeme.RawAttr.{RawAttr}
 use Rattle.xml_tokens.specs.declared.lexeme.Step.{Step}
 use Rattle.xml_tokens.specs.declared.lexeme.Step.TheVariants as step
+use Rattle.stx_engine.specs.Built.{is_built}
 use Rattle.stx_engine.specs.Tree.{Why, Need, Bad, Fresh, Chars, Element, Forest, End, Cut, Single, Nested}
 
 -- what stands before a lexeme: the names of the open elements, the innermost first, whether the root's start tag was
@@ -52,28 +53,34 @@ repeats earlier (a ∷ others) = has_name earlier (encode_utf8_all a.name) || re
 abbrev pub has_twins : List RawAttr → Bool
 has_twins attrs = repeats [] attrs
 
--- the fault of a lexeme at its place, if it has one: text outside the root, a text that is too long, a second root, an
+-- the fault that a lexeme has at its place, if it has one: text outside the root, a text that is too long, a second root, an
 -- attribute twice or too many open elements, all of which are reported as not built; an end without its start
-abbrev pub fault_of : Limits → Before → Body → Option XmlKind
-fault_of limits b (body.Chars text blank) =
+abbrev pub misplaced : Limits → Before → Body → Option XmlKind
+misplaced limits b (body.Chars text blank) =
     if is_inside b.names
     then (if nat_lt limits.text (length (b.run ++ text)) then Some NotBuilt else None)
     else (if blank then None else Some NotBuilt)
-fault_of limits b (body.Start name attrs empty) =
+misplaced limits b (body.Start name attrs empty) =
     if is_complete b || nat_le limits.depth (length b.names) || has_twins attrs then Some NotBuilt else None
-fault_of limits b (body.End name) = if is_innermost name b.names then None else Some Mismatch
+misplaced limits b (body.End name) = if is_innermost name b.names then None else Some Mismatch
+misplaced limits b other = None
+
+-- the fault of a lexeme, if it has one: one that isn't read yet has it wherever it stands
+abbrev pub fault_of : Limits → Before → Body → Option XmlKind
+fault_of limits b x = if is_built x then misplaced limits b x else Some NotBuilt
 
 -- all but the innermost
 abbrev pub outer_names : List (List ℕ) → List (List ℕ)
 outer_names [] = []
 outer_names (name ∷ names) = names
 
--- what stands before the next lexeme
+-- what stands before the next lexeme; one that isn't read yet has a fault, so that none follows it
 abbrev pub before_next : Before → Body → Before
 before_next b (body.Chars text blank) = if is_inside b.names then record b { run = b.run ++ text } else b
 before_next b (body.Start name attrs empty) =
     record { names = if empty then b.names else name ∷ b.names; rooted = true; run = [] }
 before_next b (body.End name) = record b { names = outer_names b.names; run = [] }
+before_next b other = b
 
 -- The lexemes of a document that make its tree, up to its first fault, and why there are no more of them; `None` where
 -- the document is complete.
@@ -87,14 +94,10 @@ with_first b (body.Chars text blank) r =
     if is_inside b.names then record r { bodies = body.Chars text blank ∷ r.bodies } else r
 with_first b (body.Start name attrs empty) r = record r { bodies = body.Start name attrs empty ∷ r.bodies }
 with_first b (body.End name) r = record r { bodies = body.End name ∷ r.bodies }
+with_first b other r = r
 
 abbrev pub ends_in : Option Why → Reading
 ends_in why = record { bodies = []; why = why }
-
--- a fault as it is reported: a lexeme that is too long as a form that isn't read yet
-abbrev pub reported : XmlKind → XmlKind
-reported LexemeTooLong = NotBuilt
-reported kind = kind
 
 -- why there is no lexeme any more, where the document has this many bytes
 abbrev pub at_end : Before → (length : ℕ) → Step → Option Why
@@ -102,7 +105,7 @@ at_end b length (step.Lexeme l) = Some Need
 at_end b length step.Need = Some Need
 at_end b length step.End =
     if is_complete b then None else Some (Bad (record { kind = Truncated; offset = length }))
-at_end b length (step.Bad fault) = Some (Bad (record fault { kind = reported fault.kind }))
+at_end b length (step.Bad fault) = Some (Bad fault)
 at_end b length step.Memory = Some Need
 
 module _ (limits : Limits) (length : ℕ) (last : Step) where
@@ -160,6 +163,7 @@ module _ (why : Option Why) where
       then Nested Fresh (element_of name attrs) (End Fresh) (inner why f) ∷ outer f
       else Nested Fresh (element_of name attrs) (inner why f) (inner why (outer f)) ∷ outer (outer f)
   followed (body.End name) f = End Fresh ∷ f
+  followed other f = f
 
   -- lexemes, and then nothing that is known
   abbrev pub future : List Body → Future

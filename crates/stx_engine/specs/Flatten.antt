@@ -41,6 +41,7 @@ pieces (body.Chars text blank ∷ bs) = said_before text (pieces bs)
 pieces (body.Start name attrs empty ∷ bs) =
     Opens (element_of name attrs) ∷ (if empty then Closes (plain_name name) ∷ pieces bs else pieces bs)
 pieces (body.End name ∷ bs) = Closes (plain_name name) ∷ pieces bs
+pieces (other ∷ bs) = pieces bs
 
 -- a list that may follow a text: it has another node first, or ends
 abbrev pub IsAfterText : Forest → Type 0

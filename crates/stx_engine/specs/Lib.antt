@@ -1,4 +1,5 @@
 pub mod Answer
+pub mod Built
 pub mod Document
 pub mod Driving
 pub mod Engine

@@ -1,5 +1,5 @@
 -- What the values of the plain program mean.
-use Rattle.std.specs.Prelude.{◌≡◌, Bool, true, List, [], map, reverse, Option, Some, None, string_bytes}
+use Rattle.std.specs.Prelude.{◌≡◌, Bool, true, false, List, [], map, reverse, Option, Some, None, string_bytes}
 use Rattle.xml_tokens.specs.declared.lexeme.Body.{Body}
 use Rattle.xml_tokens.specs.declared.lexeme.Body.TheVariants as body
 use Rattle.stx_engine.specs.declared.plain.answer.Answer.{Answer as PlainAnswer}
@@ -35,11 +35,12 @@ lists_of lists = map forest_of (reverse lists)
 abbrev pub before_of : PlainBefore → Before
 before_of b = record { names = b.names.items; rooted = b.rooted; run = b.run }
 
--- white space outside the root is no part of the tree
+-- white space outside the root is no part of the tree, nor is what isn't read yet
 abbrev pub is_kept : Before → Body → Bool
 is_kept b (body.Chars text blank) = is_inside b.names
 is_kept b (body.Start name attrs empty) = true
 is_kept b (body.End name) = true
+is_kept b other = false
 
 abbrev pub run_of : PlainPassed → Run
 run_of p = record { parts = p.parts; ending = ending_of (why_of p.stop) }

@@ -1,6 +1,5 @@
 ghost use Rattle.std.specs.Prelude.{◌≡◌, ◌<◌, ◌^◌, IfOk, OnErr, None, Ok};
 ghost use Rattle.xml_tokens.specs.Reader.{begun, fed};
-ghost use Rattle.stx_engine.specs.Document.{reported};
 ghost use Rattle.stx_engine.specs.Engine.{ended_reading, Expects, GoesOn, IsReady, IsWaiting, Means, Pumps, ReadsOn, Wants, more, more_of};
 ghost use Rattle.stx_engine.specs.declared.engine.Pumped.TheVariants as pumped;
 ghost use Rattle.stx_engine.specs.declared.engine.Reading.TheVariants as reading;
@@ -167,7 +166,7 @@ impl Engine {
                 }
                 Step::Need => return Ok(Reading::Wants),
                 Step::End => return Ok(self.at_end()),
-                Step::Bad(fault) => return Ok(Reading::Faulty(as_reported(fault))),
+                Step::Bad(fault) => return Ok(Reading::Faulty(fault)),
                 Step::Memory => return Err(Memory),
             }
         }
@@ -185,18 +184,5 @@ impl Engine {
                 offset: self.lexer.fed(),
             })
         }
-    }
-}
-
-// A lexeme that is too long is reported as a form that isn't read yet.
-fn as_reported(fault: XmlFault) -> XmlFault
-    ensures { result ≡ record fault { kind = reported fault.kind } }
-{
-    match fault.kind {
-        XmlKind::LexemeTooLong => XmlFault {
-            kind: XmlKind::NotBuilt,
-            offset: fault.offset,
-        },
-        _ => fault,
     }
 }

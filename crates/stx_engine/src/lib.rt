@@ -3,6 +3,7 @@
 #![tactic(auto)]
 
 mod attributes;
+mod built;
 mod copier;
 mod driver;
 mod engine;

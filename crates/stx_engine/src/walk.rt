@@ -2,6 +2,7 @@ ghost use Rattle.std.specs.Prelude.{◌≡◌, ◌++◌, true, None, OnOk, OnErr
 ghost use Rattle.xml_tokens.specs.declared.lexeme.Body.TheVariants as body;
 
 use crate::attributes::has_duplicate;
+use crate::built::is_built;
 use crate::copier::Copier;
 use crate::pass::Pass;
 use std::alloc::Global;
@@ -33,7 +34,7 @@ pub struct Walk {
 }
 
 impl Walk {
-    ghost use Rattle.stx_engine.specs.Document.{fault_of, is_complete, is_innermost, is_inside};
+    ghost use Rattle.stx_engine.specs.Document.{fault_of, is_complete, is_innermost, is_inside, misplaced};
     ghost use Rattle.stx_engine.specs.More.{HandsOut, IsBegun, IsSettled, IsWritten, StartsAs, Taken, Takes, before_of, names_of};
 
     pub fn new(alloc: Global, limits: Limits, pass: Pass) -> Walk
@@ -69,6 +70,13 @@ impl Walk {
             Body::Chars { text, blank } => self.take_chars(text, blank)?,
             Body::Start { name, attrs, empty } => self.take_start(Tag { name, attrs }, empty)?,
             Body::End { name } => self.take_end(&name)?,
+            // These have a fault.
+            Body::CData { text: _text } | Body::Comment { text: _text } => {}
+            Body::Pi {
+                target: _target,
+                text: _text,
+            } => {}
+            Body::Doctype | Body::Declaration => {}
         }
         Ok(None)
     }
@@ -123,6 +131,17 @@ impl Walk {
     fn fault_of(&self, body: &Body) -> Result<Option<XmlKind>, Memory>
         ensures { IfOk result (λ fault. fault ≡ fault_of self.now.limits (before_of self.now) body.now) }
     {
+        if is_built(body) {
+            self.misplaced(body)
+        } else {
+            Ok(Some(XmlKind::NotBuilt))
+        }
+    }
+
+    // The fault that a lexeme has at its place.
+    fn misplaced(&self, body: &Body) -> Result<Option<XmlKind>, Memory>
+        ensures { IfOk result (λ fault. fault ≡ misplaced self.now.limits (before_of self.now) body.now) }
+    {
         let fault = match body {
             Body::Chars { text, blank } => {
                 let is_refused = if self.is_inside() {
@@ -139,6 +158,11 @@ impl Walk {
                 is_refused.then_some(XmlKind::NotBuilt)
             }
             Body::End { name } => (!self.is_innermost(name)).then_some(XmlKind::Mismatch),
+            Body::CData { .. }
+            | Body::Comment { .. }
+            | Body::Pi { .. }
+            | Body::Doctype
+            | Body::Declaration => None,
         };
         Ok(fault)
     }

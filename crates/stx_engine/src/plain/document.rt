@@ -8,6 +8,7 @@ ghost use Rattle.stx_engine.specs.Document.{at_start, before_next, reading};
 ghost use Rattle.stx_engine.specs.Plain.{before_of, forest_of, is_kept, why_of};
 
 use crate::attributes::has_equal_pair;
+use crate::built::is_built;
 use crate::plain::lexemes::{Lexed, lexemes};
 use crate::plain::tree::{Tree, Why, build};
 use std::alloc::Global;
@@ -127,22 +128,32 @@ impl Before {
                 }
                 self.run = Text::new(alloc);
             }
+            Body::CData { .. }
+            | Body::Comment { .. }
+            | Body::Pi { .. }
+            | Body::Doctype
+            | Body::Declaration => {}
         }
         Ok(())
     }
 }
 
-// White space outside the root is no part of the tree.
+// White space outside the root is no part of the tree, nor is what isn't read yet.
 fn is_part_of_tree(before: &Before, body: &Body) -> bool
     ensures { result ≡ is_kept (before_of before.now) body.now }
 {
     match body {
         Body::Chars { .. } => before.is_inside(),
         Body::Start { .. } | Body::End { .. } => true,
+        Body::CData { .. }
+        | Body::Comment { .. }
+        | Body::Pi { .. }
+        | Body::Doctype
+        | Body::Declaration => false,
     }
 }
 
-// The fault of a lexeme at its place.
+// The fault of a lexeme.
 fn fault_of(
     alloc: Global,
     limits: &Limits,
@@ -150,6 +161,22 @@ fn fault_of(
     body: &Body,
 ) -> Result<Option<XmlKind>, Memory>
     ensures { IfOk result (λ kind. kind ≡ spec.fault_of limits.now (before_of before.now) body.now) }
+{
+    if is_built(body) {
+        misplaced(alloc, limits, before, body)
+    } else {
+        Ok(Some(XmlKind::NotBuilt))
+    }
+}
+
+// The fault that a lexeme has at its place.
+fn misplaced(
+    alloc: Global,
+    limits: &Limits,
+    before: &Before,
+    body: &Body,
+) -> Result<Option<XmlKind>, Memory>
+    ensures { IfOk result (λ kind. kind ≡ spec.misplaced limits.now (before_of before.now) body.now) }
 {
     match body {
         Body::Chars { text, blank } => {
@@ -167,6 +194,11 @@ fn fault_of(
             Ok(is_refused.then_some(XmlKind::NotBuilt))
         }
         Body::End { name } => Ok((!is_innermost(before, name)).then_some(XmlKind::Mismatch)),
+        Body::CData { .. }
+        | Body::Comment { .. }
+        | Body::Pi { .. }
+        | Body::Doctype
+        | Body::Declaration => Ok(None),
     }
 }
 
@@ -210,19 +242,6 @@ fn at_end(before: &Before, len: u64, last: &Step) -> Option<Why>
                 Some(Why::Bad(XmlFault { kind, offset: len }))
             }
         }
-        Step::Bad(fault) => Some(Why::Bad(reported(*fault))),
-    }
-}
-
-// A fault as it is reported.
-fn reported(fault: XmlFault) -> XmlFault
-    ensures { result ≡ record fault { kind = spec.reported fault.kind } }
-{
-    match fault.kind {
-        XmlKind::LexemeTooLong => XmlFault {
-            kind: XmlKind::NotBuilt,
-            offset: fault.offset,
-        },
-        _ => fault,
+        Step::Bad(fault) => Some(Why::Bad(*fault)),
     }
 }

@@ -65,6 +65,12 @@ fn follow(alloc: Global, body: Body, why: Option<Why>, lists: &mut List<Tree>) -
             element(alloc, &name, &attrs, kids, take_inner(lists, why))?
         }
         Body::End { name: _name } => Tree::End,
+        Body::CData { text: _text } | Body::Comment { text: _text } => return Ok(()),
+        Body::Pi {
+            target: _target,
+            text: _text,
+        } => return Ok(()),
+        Body::Doctype | Body::Declaration => return Ok(()),
     };
     lists.push(list)
 }

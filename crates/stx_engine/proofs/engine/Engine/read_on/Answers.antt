@@ -2,7 +2,6 @@ use Rattle.std.proofs.Common.{◌∙◌, ap, sym, subst, arith}
 use Rattle.stx_engine.specs.Engine.{ReadsOn}
 use Rattle.stx_engine.specs.More.{Taken}
 use Rattle.stx_engine.proofs.Going.{goes-on, stops-at, waits, stops, ends}
-use Rattle.stx_engine.specs.declared.engine.Reading.TheVariants.{Faulty}
 use Rattle.stx_engine.proofs.engine.Engine.read_on.Goals as goal
 
 pub returns-in-Some-clause-going : goal.returns-in-Some-clause-going
@@ -42,6 +41,5 @@ pub returns-in-Bad-clause-going : goal.returns-in-Bad-clause-going
 returns-in-Bad-clause-going c =
     let i = c.loop-lexeme.invariant in
     let d = c.in-Bad.ensures in
-    subst (λ fault. ReadsOn c.args.self.now.walk c.loop-lexeme.self.walk c.args.self.now.lexer c.next.new.self (Faulty fault)) (sym c.as_reported.ensures)
-    (stops c.args.self.now.walk c.loop-lexeme.self.walk c.args.self.now.lexer c.loop-lexeme.self.lexer i.3 i.4 i.5
-    c.next.new.self c.in-Bad.fault d.answer)
+    stops c.args.self.now.walk c.loop-lexeme.self.walk c.args.self.now.lexer c.loop-lexeme.self.lexer i.3 i.4 i.5
+    c.next.new.self c.in-Bad.fault d.answer
