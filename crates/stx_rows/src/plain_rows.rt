@@ -84,26 +84,30 @@ fn settled_bytes(rt: HostRuntime) -> Result<(), Fail> {
     Ok(())
 }
 
-// A limit is reached where the count would become the limit plus one: of open elements, and of a text's characters.
+// A limit is reached where the count would become the limit plus one: of open elements, of a text's characters, and of a
+// lexeme's bytes.
 #[test]
 fn limits(rt: HostRuntime) -> Result<(), Fail> {
     let limits = Limits {
         depth: 2,
         text: 3,
+        lexeme: 12,
         ..Limits::standard()
     };
-    let rows: [(&str, Option<u64>); 6] = [
+    let rows: [(&str, Option<(XmlKind, u64)>); 9] = [
         ("<a><b></b></a>", None),
-        ("<a><b><c/></b></a>", Some(6)),
+        ("<a><b><c/></b></a>", Some((XmlKind::NotBuilt, 6))),
         ("<a><b/><b/></a>", None),
         ("<a>abc</a>", None),
-        ("<a>abcd</a>", Some(3)),
+        ("<a>abcd</a>", Some((XmlKind::NotBuilt, 3))),
         ("<a>abc<b/>abc</a>", None),
+        ("<a>&#x00061;b</a>", None),
+        ("<a><b c='de' /></a>", None),
+        ("<a><b c='def' /></a>", Some((XmlKind::LexemeTooLong, 3))),
     ];
-    for (main, at) in rows {
+    for (main, fault) in rows {
         let run = run_on(rt.alloc(), limits, Pass::All, main.as_bytes(), true)?;
-        let kind = XmlKind::NotBuilt;
-        let wanted = at.map(|offset| Why::Bad(XmlFault { kind, offset }));
+        let wanted = fault.map(|(kind, offset)| Why::Bad(XmlFault { kind, offset }));
         assert_eq!(rt; run.stop, wanted, "{main}");
     }
     Ok(())

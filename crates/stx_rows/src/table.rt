@@ -31,7 +31,7 @@ pub struct Row {
     pub note: &'static str,
 }
 
-pub const ROWS: [Row; 25] = [
+pub const ROWS: [Row; 48] = [
     // The rows of the language.
     Row {
         sheet: PASS_ALL,
@@ -156,6 +156,21 @@ pub const ROWS: [Row; 25] = [
         status: 0,
         note: "",
     },
+    // References to characters of ASCII, and line ends.
+    Row {
+        sheet: PASS_ALL,
+        main: "<a b='x&#65;&quot;'>x&amp;&lt;&#x3e;</a>",
+        content: "<a b=\"xA&quot;\">x&amp;&lt;&gt;</a>",
+        status: 0,
+        note: "",
+    },
+    Row {
+        sheet: PASS_ALL,
+        main: "<a>x\r\ny\rz</a>\r\n",
+        content: "<a>x\ny\nz</a>",
+        status: 0,
+        note: "",
+    },
     // What isn't read yet.
     Row {
         sheet: PASS_ALL,
@@ -166,10 +181,31 @@ pub const ROWS: [Row; 25] = [
     },
     Row {
         sheet: PASS_ALL,
-        main: "<a>x&amp;</a>",
+        main: "<a>1<?c d?></a>",
+        content: "",
+        status: 4,
+        note: "stx: -: NotBuilt at 4\n",
+    },
+    Row {
+        sheet: PASS_ALL,
+        main: "<a><![CDATA[x]]></a>",
         content: "",
         status: 4,
         note: "stx: -: NotBuilt at 3\n",
+    },
+    Row {
+        sheet: PASS_ALL,
+        main: "<?xml version='1.0'?><a/>",
+        content: "",
+        status: 4,
+        note: "stx: -: NotBuilt at 0\n",
+    },
+    Row {
+        sheet: PASS_ALL,
+        main: "<!DOCTYPE a><a/>",
+        content: "",
+        status: 4,
+        note: "stx: -: NotBuilt at 0\n",
     },
     Row {
         sheet: PASS_ALL,
@@ -180,17 +216,31 @@ pub const ROWS: [Row; 25] = [
     },
     Row {
         sheet: PASS_ALL,
+        main: "<a><b p:c='1'/></a>",
+        content: "",
+        status: 4,
+        note: "stx: -: NotBuilt at 3\n",
+    },
+    Row {
+        sheet: PASS_ALL,
+        main: "<a><xmlnsb/></a>",
+        content: "",
+        status: 4,
+        note: "stx: -: NotBuilt at 3\n",
+    },
+    Row {
+        sheet: PASS_ALL,
+        main: "<a></p:a>",
+        content: "",
+        status: 4,
+        note: "stx: -: NotBuilt at 3\n",
+    },
+    Row {
+        sheet: PASS_ALL,
         main: "<a b='1' b='2'/>",
         content: "",
         status: 4,
         note: "stx: -: NotBuilt at 0\n",
-    },
-    Row {
-        sheet: PASS_ALL,
-        main: "<a>]]></a>",
-        content: "",
-        status: 4,
-        note: "stx: -: NotBuilt at 3\n",
     },
     Row {
         sheet: PASS_ALL,
@@ -212,6 +262,119 @@ pub const ROWS: [Row; 25] = [
         content: "",
         status: 4,
         note: "stx: -: NotBuilt at 3\n",
+    },
+    Row {
+        sheet: PASS_ALL,
+        main: "<a>&#233;</a>",
+        content: "",
+        status: 4,
+        note: "stx: -: NotBuilt at 3\n",
+    },
+    Row {
+        sheet: PASS_ALL,
+        main: "<a>&#13;</a>",
+        content: "",
+        status: 4,
+        note: "stx: -: NotBuilt at 3\n",
+    },
+    Row {
+        sheet: PASS_ALL,
+        main: "<a b='&#9;'/>",
+        content: "",
+        status: 4,
+        note: "stx: -: NotBuilt at 0\n",
+    },
+    Row {
+        sheet: PASS_ALL,
+        main: "<\u{e9}/>",
+        content: "",
+        status: 4,
+        note: "stx: -: NotBuilt at 0\n",
+    },
+    // What isn't well-formed has the first kind of fault that applies to the lexeme.
+    Row {
+        sheet: PASS_ALL,
+        main: "<a>\u{1}&b;</a>",
+        content: "",
+        status: 4,
+        note: "stx: -: BadChar at 3\n",
+    },
+    Row {
+        sheet: PASS_ALL,
+        main: "<!DOCTYPE a [<!ENTITY b 'c'>]><a/>",
+        content: "",
+        status: 4,
+        note: "stx: -: InternalSubset at 0\n",
+    },
+    Row {
+        sheet: PASS_ALL,
+        main: "<!ELEMENT a ANY><a/>",
+        content: "",
+        status: 4,
+        note: "stx: -: BadMarkup at 0\n",
+    },
+    Row {
+        sheet: PASS_ALL,
+        main: "<?xml encoding='UTF-8'?><a/>",
+        content: "",
+        status: 4,
+        note: "stx: -: BadDeclaration at 0\n",
+    },
+    Row {
+        sheet: PASS_ALL,
+        main: "<?xml version='2.0'?><a/>",
+        content: "",
+        status: 4,
+        note: "stx: -: BadVersion at 0\n",
+    },
+    Row {
+        sheet: PASS_ALL,
+        main: "<?xml version='1.0' encoding='UTF-16'?><a/>",
+        content: "",
+        status: 4,
+        note: "stx: -: Encoding at 0\n",
+    },
+    Row {
+        sheet: PASS_ALL,
+        main: "<a><!--b--c--></a>",
+        content: "",
+        status: 4,
+        note: "stx: -: BadComment at 3\n",
+    },
+    Row {
+        sheet: PASS_ALL,
+        main: "<a/><?xml version='1.0'?>",
+        content: "<a/>",
+        status: 4,
+        note: "stx: -: BadPi at 4\n",
+    },
+    Row {
+        sheet: PASS_ALL,
+        main: "<a>]]></a>",
+        content: "",
+        status: 4,
+        note: "stx: -: CdataEnd at 3\n",
+    },
+    Row {
+        sheet: PASS_ALL,
+        main: "<a><p:b c=d/></a>",
+        content: "",
+        status: 4,
+        note: "stx: -: BadTag at 3\n",
+    },
+    Row {
+        sheet: PASS_ALL,
+        main: "<a>& &b;</a>",
+        content: "",
+        status: 4,
+        note: "stx: -: BadReference at 3\n",
+    },
+    Row {
+        sheet: PASS_ALL,
+        main: "<a>&b;\u{e9}</a>",
+        content: "",
+        status: 4,
+        note: "stx: -: UnknownEntity at 3\n",
     },
 ];
 
