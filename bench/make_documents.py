@@ -4,9 +4,9 @@
 Usage: make_documents.py SHAPE MEGABYTES > DOCUMENT
 
 A document is one root element and a line feed. It holds start tags, end tags,
-attributes and text in ASCII, with no references and no prefixed names, so that
-every program under comparison can read it. It ends with the first unit that
-reaches MEGABYTES (of 1,000,000 bytes).
+attributes and text in ASCII, with no prefixed names and, but for the shape
+`references`, no references, so that every program under comparison can read it.
+It ends with the first unit that reaches MEGABYTES (of 1,000,000 bytes).
 """
 
 import sys
@@ -14,6 +14,8 @@ import sys
 PIECE_UNITS = 256
 DEPTH = 200
 PARAGRAPH_BYTES = 2000
+BETWEEN_REFERENCES = 100
+REFERENCES = ("&amp;", "&#65;", "&lt;", "&#x7a;", "&quot;")
 
 WORDS = (
     "a stream of events passes through the rules in the order of the document "
@@ -71,6 +73,17 @@ def text(number):
     return "".join(parts)
 
 
+def references(number):
+    # A paragraph of `text` in which one character in a hundred is a reference.
+    words = text(number)[len("<p>") : -len("</p>\n")]
+    parts = ["<p>"]
+    for start in range(0, len(words), BETWEEN_REFERENCES):
+        parts.append(REFERENCES[(number + start // BETWEEN_REFERENCES) % len(REFERENCES)])
+        parts.append(words[start + 1 : start + BETWEEN_REFERENCES])
+    parts.append("</p>\n")
+    return "".join(parts)
+
+
 def deep(number):
     # The root is one level more, so the depth is DEPTH in all.
     return f"{OPENING}bottom {number}{CLOSING}\n"
@@ -84,6 +97,7 @@ SHAPES = {
     "records": records,
     "attributes": attributes,
     "text": text,
+    "references": references,
     "deep": deep,
     "one_text": one_text,
 }
