@@ -153,7 +153,7 @@ read-instruction first target text behind inside is other b lines_ declares =
     ∙ (ap (λ x. if x then declaration (drop 3 all) else instruction all) declares
     ∙ (ap (λ l. if is_target l then Ok (Pi (chars l) (chars (lines (after_space (drop (position_or_len is_space all) all))))) else Err kind.BadPi) front
     ∙ (ap (λ x. if x then Ok (Pi (chars t) (chars (lines (after_space (drop (position_or_len is_space all) all))))) else Err kind.BadPi) good
-    ∙ (λ i. Ok (Pi (again i) ((ap (λ l. chars (lines (after_space l))) rest ∙ (ap (λ l. chars (lines l)) (behind-after behind inside b) ∙ lines-again text inside lines_)) i))))) ) where
+    ∙ (λ i. Ok (Pi (again i) ((ap (λ l. chars (lines (after_space l))) rest ∙ (ap (λ l. chars (lines l)) (behind-after behind inside b) ∙ lines-again text inside lines_)) i)))))) where
       both_true : (s t : Bool) → s ≡ true → t ≡ true → (s && t) ≡ true
       both_true s t a b = rw (a, b) refl
 

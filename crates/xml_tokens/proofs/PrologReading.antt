@@ -91,15 +91,19 @@ pub declaration-is : (bytes : List ℕ) (told : List ℕ × Option (List ℕ)) �
 unfolding declared
 declaration-is bytes told h v e =
     let b = bind_some (λ version.
-      let encoding = maybe_declared (codes "encoding") version.1 in
-      let standalone = maybe_declared (codes "standalone") encoding.1 in
-      if is_standalone standalone.0 && is_over standalone.1 then Some (version.0, encoding.0) else None) (declared_as (codes "version") bytes) told h in
+    let encoding = maybe_declared (codes "encoding") version.1 in
+    let standalone = maybe_declared (codes "standalone") encoding.1 in
+    if is_standalone standalone.0 && is_over standalone.1 then Some (version.0, encoding.0) else None) (declared_as (codes "version") bytes) told h in
     let d = declared-is (codes "version") bytes b.0 b.1 in
     let encoding = maybe_declared (codes "encoding") b.0.1 in
     let standalone = maybe_declared (codes "standalone") encoding.1 in
-    let ends = by_test (is_standalone standalone.0 && is_over standalone.1) refl (b.0.0, encoding.0) b.2 in
-    (d.0, b.0.1, d.1, ap is_version (d.2 ∙ ap (λ (t : List ℕ × Option (List ℕ)). t.0) ends.1) ∙ v,
-    encoding-is b.0.1 (ap (λ (t : List ℕ × Option (List ℕ)). option_map_or is_encoding t.1 true) ends.1 ∙ e) (standalone-is encoding.1 ends.0)) where
+    let ends = by_test (is_standalone standalone.0 && is_over standalone.1) refl (b.0.0, encoding.0) b.2 in (
+      d.0,
+      b.0.1,
+      d.1,
+      ap is_version (d.2 ∙ ap (λ (t : List ℕ × Option (List ℕ)). t.0) ends.1) ∙ v,
+      encoding-is b.0.1 (ap (λ (t : List ℕ × Option (List ℕ)). option_map_or is_encoding t.1 true) ends.1 ∙ e) (standalone-is encoding.1 ends.0),
+    ) where
       by_test : (t : Bool) → {u : Bool} → u ≡ t → (x : List ℕ × Option (List ℕ)) → cond t (Some x) None ≡ Some told → (u ≡ true) × (x ≡ told)
       by_test true e x k = (e, some_if true x told k)
       by_test false e x k = absurd cc

@@ -100,13 +100,16 @@ declaration-of bytes h =
     let encoding = maybe_declared (codes "encoding") h.1 in
     let s = standalone-of encoding.1 e.1 in
     let standalone = maybe_declared (codes "standalone") encoding.1 in
-    let ends : (is_standalone standalone.0 && is_over standalone.1) ≡ true = rw (s.0, s.1) refl in
-    ((h.0.value, encoding.0),
-    ap (option_and_then (λ version.
-      let encoding = maybe_declared (codes "encoding") version.1 in
-      let standalone = maybe_declared (codes "standalone") encoding.1 in
-      if is_standalone standalone.0 && is_over standalone.1 then Some (version.0, encoding.0) else None)) v
-    ∙ ap (λ t. if t then Some (h.0.value, encoding.0) else None) ends, h.3, e.0)
+    let ends : (is_standalone standalone.0 && is_over standalone.1) ≡ true = rw (s.0, s.1) refl in (
+      (h.0.value, encoding.0),
+      ap (option_and_then (λ version.
+          let encoding = maybe_declared (codes "encoding") version.1 in
+          let standalone = maybe_declared (codes "standalone") encoding.1 in
+          if is_standalone standalone.0 && is_over standalone.1 then Some (version.0, encoding.0) else None)) v
+          ∙ ap (λ t. if t then Some (h.0.value, encoding.0) else None) ends,
+      h.3,
+      e.0,
+    )
 
 -- literals and identifiers
 literal-of : (bytes more : List ℕ) → SpellsQuoted bytes more → behind_literal bytes ≡ Some more
@@ -116,16 +119,25 @@ literal-of bytes more (first, space, quote, value, s, q, unquoted, whole) =
 
 pub identifier-of : (bytes : List ℕ) → SpellsIdentifier bytes → (rest : List ℕ) × (behind_identifier bytes ≡ Some rest) × (is_over rest ≡ true)
 unfolding behind_identifier
-identifier-of bytes (inl s) =
-    (bytes, ap (λ o. option_map_or behind_literal o (option_map_or (λ rest. option_and_then behind_literal (behind_literal rest)) (behind_word (codes "PUBLIC") bytes) (Some bytes))) (no-word 83 (codes "YSTEM") bytes s)
-    ∙ ap (λ o. option_map_or (λ rest. option_and_then behind_literal (behind_literal rest)) o (Some bytes)) (no-word 80 (codes "UBLIC") bytes s), is-over bytes s)
-identifier-of bytes (inr (inl (more, rest, w, q, s))) =
-    (rest, ap (λ o. option_map_or behind_literal o (option_map_or (λ rest. option_and_then behind_literal (behind_literal rest)) (behind_word (codes "PUBLIC") bytes) (Some bytes))) (behind_word-of (codes "SYSTEM") bytes more refl w)
-    ∙ literal-of more rest q, is-over rest s)
-identifier-of bytes (inr (inr (more, middle, rest, w, p, q, s))) =
-    (rest, ap (λ o. option_map_or behind_literal o (option_map_or (λ rest. option_and_then behind_literal (behind_literal rest)) (behind_word (codes "PUBLIC") bytes) (Some bytes))) (other-word (codes "SYSTEM") (codes "PUBLIC") bytes more refl refl w)
-    ∙ (ap (λ o. option_map_or (λ rest. option_and_then behind_literal (behind_literal rest)) o (Some bytes)) (behind_word-of (codes "PUBLIC") bytes more refl w)
-    ∙ (ap (option_and_then behind_literal) (literal-of more middle p) ∙ literal-of middle rest q)), is-over rest s)
+identifier-of bytes (inl s) = (
+  bytes,
+  ap (λ o. option_map_or behind_literal o (option_map_or (λ rest. option_and_then behind_literal (behind_literal rest)) (behind_word (codes "PUBLIC") bytes) (Some bytes))) (no-word 83 (codes "YSTEM") bytes s)
+      ∙ ap (λ o. option_map_or (λ rest. option_and_then behind_literal (behind_literal rest)) o (Some bytes)) (no-word 80 (codes "UBLIC") bytes s),
+  is-over bytes s,
+)
+identifier-of bytes (inr (inl (more, rest, w, q, s))) = (
+  rest,
+  ap (λ o. option_map_or behind_literal o (option_map_or (λ rest. option_and_then behind_literal (behind_literal rest)) (behind_word (codes "PUBLIC") bytes) (Some bytes))) (behind_word-of (codes "SYSTEM") bytes more refl w)
+      ∙ literal-of more rest q,
+  is-over rest s,
+)
+identifier-of bytes (inr (inr (more, middle, rest, w, p, q, s))) = (
+  rest,
+  ap (λ o. option_map_or behind_literal o (option_map_or (λ rest. option_and_then behind_literal (behind_literal rest)) (behind_word (codes "PUBLIC") bytes) (Some bytes))) (other-word (codes "SYSTEM") (codes "PUBLIC") bytes more refl refl w)
+      ∙ (ap (λ o. option_map_or (λ rest. option_and_then behind_literal (behind_literal rest)) o (Some bytes)) (behind_word-of (codes "PUBLIC") bytes more refl w)
+      ∙ (ap (option_and_then behind_literal) (literal-of more middle p) ∙ literal-of middle rest q)),
+  is-over rest s,
+)
 
 -- no name goes on where an identifier begins
 identifier-stops : (bytes : List ℕ) → SpellsIdentifier bytes → stops is_name_byte bytes ≡ true

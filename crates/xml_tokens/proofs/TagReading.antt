@@ -102,13 +102,15 @@ spells-attribute a more attr is good h =
     let m = map-ok (λ value. record { name = chars a.name; value = chars value }) (said Value a.value) attr h in
     let t = texts-spelled Value a.value m.0 parts.1.utf8 parts.1.chars m.1 in
     let name : attr.name ≡ chars a.name = ap (λ (x : RawAttr). x.name) (sym m.2) in
-    let value : attr.value ≡ t.0 = ap (λ (x : RawAttr). x.value) (sym m.2) ∙ (ap chars t.1 ∙ text-again t.0 (text-chars Value t.0 a.value t.2)) in
-    (record {
-      name = ap is_name name ∙ is.name.named;
-      quoted = record { space = is.space; before = is.before; behind = is.behind; quote = is.quote; unquoted = is.unquoted };
-      markless = is.markless;
-      value = subst (λ (l : List ℕ). SpellsText Value l a.value) (sym value) t.2;
-    }, ap encode_utf8_all name ∙ again-bytes a.name parts.0)
+    let value : attr.value ≡ t.0 = ap (λ (x : RawAttr). x.value) (sym m.2) ∙ (ap chars t.1 ∙ text-again t.0 (text-chars Value t.0 a.value t.2)) in (
+      record {
+        name = ap is_name name ∙ is.name.named;
+        quoted = record { space = is.space; before = is.before; behind = is.behind; quote = is.quote; unquoted = is.unquoted };
+        markless = is.markless;
+        value = subst (λ (l : List ℕ). SpellsText Value l a.value) (sym value) t.2;
+      },
+      ap encode_utf8_all name ∙ again-bytes a.name parts.0,
+    )
 
 spells-attributes : (pairs : List (List ℕ × List ℕ)) (empty : Bool) (bytes : List ℕ) (attrs : List RawAttr) → AreWritten pairs empty bytes → IsGood bytes → attrs_said pairs ≡ Ok attrs → SpellsAttributes attrs empty bytes
 spells-attributes [] empty bytes attrs w good h = subst (λ (l : List RawAttr). SpellsAttributes l empty bytes) (ok_is attrs h) w where

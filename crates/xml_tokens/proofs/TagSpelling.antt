@@ -135,9 +135,11 @@ are-written : (attrs : List RawAttr) (empty : Bool) (bytes : List ℕ) → Spell
 are-written [] empty bytes h = ([], h, refl)
 are-written (attr ∷ attrs) empty bytes h =
     let a = h.0 in
-    let later = are-written attrs empty h.1 h.4 in
-    ((encode_utf8_all attr.name, a.value) ∷ later.0, (written_of attr a, h.1, is-written attr a h.2, refl, h.3, later.1),
-    ap (λ r. both (λ x xs. x ∷ xs) r (attrs_said later.0)) (attr-said attr a h.2) ∙ ap (both (λ x xs. x ∷ xs) (Ok attr)) later.2)
+    let later = are-written attrs empty h.1 h.4 in (
+      (encode_utf8_all attr.name, a.value) ∷ later.0,
+      (written_of attr a, h.1, is-written attr a h.2, refl, h.3, later.1),
+      ap (λ r. both (λ x xs. x ∷ xs) r (attrs_said later.0)) (attr-said attr a h.2) ∙ ap (both (λ x xs. x ∷ xs) (Ok attr)) later.2,
+    )
 
 start-of : (name rest : List ℕ) (pairs : List (List ℕ × List ℕ)) (empty : Bool) (attrs : List RawAttr) → list_all is_char name ≡ true → named (encode_utf8_all name ++ rest) ≡ Some (encode_utf8_all name, rest) →
     attributes (suc (length rest)) rest ≡ Some (pairs, empty) → attrs_said pairs ≡ Ok attrs → start_tag (encode_utf8_all name ++ rest) ≡ Some (Ok (Start name attrs empty))
