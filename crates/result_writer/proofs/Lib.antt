@@ -3,6 +3,7 @@ mod Bound
 mod Judging
 mod Nesting
 mod Opening
+mod Prefixing
 mod Tabling
 mod Texts
 mod Trees

@@ -29,9 +29,13 @@ abbrev pub agree : Bool → Bool → Bool
 agree true b = b
 agree false b = not b
 
+-- an NCName, or none
+abbrev pub is_prefix : List ℕ → Bool
+is_prefix p = is_empty p || is_ncname p
+
 -- an NCName, or two with a colon between them
 abbrev pub is_qname : Name → Bool
-is_qname n = (is_empty n.prefix || is_ncname n.prefix) && is_ncname n.local
+is_qname n = is_prefix n.prefix && is_ncname n.local
 
 -- `xml` and its namespace stand together only, `xmlns` and its namespace are no name's, and a prefix has a namespace
 abbrev pub is_well_bound : Name → Bool

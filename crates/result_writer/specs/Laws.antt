@@ -6,7 +6,7 @@ use Rattle.stx_base.specs.declared.name.Binding.{Binding}
 use Rattle.stx_base.specs.declared.name.Name.{Name}
 use Rattle.stx_base.specs.declared.part.Part.{Part}
 use Rattle.stx_base.specs.declared.part.Part.TheVariants as part
-use Rattle.result_writer.specs.Allowed.{is_good_attribute, is_good_name, is_word}
+use Rattle.result_writer.specs.Allowed.{is_good_attribute, is_good_name, is_prefix, is_word}
 use Rattle.result_writer.specs.Nodes.{Nodes, End, Chars, Comment, Instruction, Nested, forest, inside, nodes_fault, parts_of, plain, unprefixed, written}
 use Rattle.result_writer.specs.Table.{bound, has_prefix, with_attributes, with_element}
 use Rattle.result_writer.specs.Tag.{dressed}
@@ -139,3 +139,13 @@ AcceptsNodes =
     (limit : ℕ) (ps : List Part)
     → whole_fault limit ps ≡ None
     → (nodes : Nodes) × (map unprefixed ps ≡ map unprefixed (parts_of nodes)) × (text ps ≡ written [] nodes)
+
+-- The prefixes that a tag of good names is written with are NCNames, or none, as long as those of its scope are.
+abbrev pub WritesPrefixes : Type 0
+WritesPrefixes =
+    (in_force : List Binding) (tag : HeldTag)
+    → is_good_name tag.name ≡ true
+    → list_all (λ a. is_good_attribute a.name) tag.attrs ≡ true
+    → list_all (λ b. is_prefix b.prefix) tag.scope ≡ true
+    → (list_all (λ b. is_prefix b.prefix) (dressed in_force tag).declared ≡ true)
+    × (list_all is_prefix (dressed in_force tag).prefixes ≡ true)

@@ -1,6 +1,6 @@
 //! Laws of the definitions, as contracts.
 
-ghost use Rattle.result_writer.specs.Laws.{AcceptsNodes, Appends, DeclaresOnce, HoldsGoodTags, JudgesNodes, WritesOnce, BindsAttributes, BindsElement, BindsScope, MakesProper, ReadsNodes, Replaces, TextGrows, TextsJoin, WritesNodes};
+ghost use Rattle.result_writer.specs.Laws.{AcceptsNodes, Appends, DeclaresOnce, HoldsGoodTags, JudgesNodes, WritesOnce, BindsAttributes, BindsElement, BindsScope, MakesProper, ReadsNodes, Replaces, TextGrows, TextsJoin, WritesNodes, WritesPrefixes};
 
 /// The text of parts begins the text of these parts and more.
 pub fn text_grows()
@@ -18,6 +18,11 @@ pub fn prefixes_are_bound()
     ensures element { BindsElement }
     ensures attributes { BindsAttributes }
     ensures scope { BindsScope }
+{}
+
+/// The prefixes of a tag are names, where those of its scope are.
+pub fn prefixes_are_names()
+    ensures { WritesPrefixes }
 {}
 
 /// A tag has no name twice.
