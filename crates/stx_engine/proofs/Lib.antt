@@ -20,7 +20,11 @@ pub mod Loading
 pub mod Flattening
 pub mod Unflattening
 pub mod Treeing
+pub mod Markup
 pub mod Tagging
+pub mod Dressing
+pub mod Leaves
+pub mod Parts
 pub mod Matching
 pub mod Named
 pub mod Nesting

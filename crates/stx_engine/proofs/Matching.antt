@@ -11,7 +11,7 @@ use Rattle.xml_tokens.specs.declared.form.Form.TheVariants.{Text}
 use Rattle.xml_tokens.proofs.CutLemmas.{some-cut, one-cut}
 use Rattle.xml_tokens.proofs.WholeLemmas.{shape_len-more, whole-within}
 use Rattle.stx_engine.specs.Nesting.{Neither, Turns, EndsMatch, EndsHaveStarts, effect, effect_by}
-use Rattle.stx_engine.proofs.Tagging.{is_text, negated}
+use Rattle.stx_engine.proofs.Markup.{is_text, negated}
 
 -- each end tag in the bytes has the name of the innermost start tag that is open there; these names are open before them
 abbrev pub Matched : (names : List (List ℕ)) → List ℕ → Type 0

@@ -29,7 +29,8 @@ use Rattle.stx_engine.proofs.Matching.{Matched, nothing_matched, shape_matched, 
 use Rattle.stx_engine.proofs.Named.{HasNames, doc_has_names}
 use Rattle.stx_engine.proofs.Passing.{run-passed}
 use Rattle.stx_engine.proofs.Starting.{text_after-start}
-use Rattle.stx_engine.proofs.Tagging.{IsName, AreNames, is_inner, name_inner, escaped_text, start_whole, start_effect, empty_whole, empty_effect, end_whole, end_effect}
+use Rattle.stx_engine.proofs.Markup.{end_effect, end_whole, is_inner, name_inner}
+use Rattle.stx_engine.proofs.Tagging.{IsName, AreNames, escaped_text, start_whole, start_effect, empty_whole, empty_effect}
 
 -- Tags
 

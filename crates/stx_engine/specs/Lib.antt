@@ -13,6 +13,7 @@ pub mod Line
 pub mod Loading
 pub mod Meaning
 pub mod Nesting
+pub mod Output
 pub mod Passed
 pub mod Plain
 pub mod Result

@@ -13,6 +13,7 @@ ghost use Rattle.stx_engine.specs.Meaning.{Said, Put, Ending, Complete, Unready,
 ghost use Rattle.stx_engine.specs.Passed.{passed, ending_of};
 ghost use Rattle.stx_engine.specs.Laws.{CopiesAll, CopiesDocuments, CopiesNothing, CopiesTexts, FirstFault, Flattened, IsTree, MakeExpanded, MakeTree, NoEmptyText, NoFault, OnlyTree, TextsJoin};
 ghost use Rattle.stx_engine.specs.Nesting.{EndsHaveStarts};
+ghost use Rattle.stx_engine.specs.Output.{PartsNest};
 ghost use Rattle.stx_engine.specs.Result.{text};
 ghost use Rattle.stx_engine.specs.Document.{Reading, tree_of};
 
@@ -71,6 +72,13 @@ pub fn ends_have_starts()
     // So it is with all that the program writes.
     ensures answer { (words : List (List ℕ)) (docs : List Doc) (main front : List ℕ) → Begins front (answer words docs main).out → EndsHaveStarts front }
 {}
+
+/// No end tag in a result of accepted parts lacks its start tag, wherever the result stops.
+pub fn parts_nest()
+    ensures { PartsNest }
+{
+    result_writer::law::prefixes_are_names();
+}
 
 /// Which end tags lack their start tags.
 pub fn lone_ends()
