@@ -4,6 +4,7 @@ mod Judging
 mod Nesting
 mod Opening
 mod Prefixing
+mod Steadying
 mod Tabling
 mod Texts
 mod Trees

@@ -3,6 +3,7 @@ pub mod Escape
 pub mod Laws
 pub mod Nodes
 pub mod Opened
+pub mod Steady
 pub mod Table
 pub mod Tag
 pub mod Target

@@ -7,6 +7,7 @@ mod fault;
 pub mod law;
 mod opened;
 mod order;
+mod steady;
 mod table;
 mod tag;
 #[cfg(test)]

@@ -1,4 +1,4 @@
-ghost use Rattle.std.specs.Prelude.{◌≡◌, ◌<◌, ◌+◌, ◌++◌, ◌∷◌, [], ℕ, List as Items, IfOk, IfErr, IfSome, MatchOption, OnOk, OnErr, length, slice_get, slice_set};
+ghost use Rattle.std.specs.Prelude.{◌≡◌, ◌<◌, ◌+◌, ◌++◌, ◌∷◌, [], ℕ, List as Items, IfOk, IfErr, IfSome, MatchOption, OnOk, OnErr, length, slice_get, slice_set, vec_capacity, vec_len, ◌≤◌};
 ghost use Rattle.std.specs.Option.{option_copied};
 ghost use Rattle.stx_base.specs.declared.name.Attr.{Attr};
 ghost use Rattle.stx_base.specs.declared.name.Name.{Name};
@@ -75,6 +75,7 @@ impl Opened {
             return Err(WriteStop::Fault(fault));
         }
         let dressed = self.dressed_for(part)?;
+        let part = part.copy(self.alloc)?;
         self.take(part, dressed)?;
         Ok(())
     }
@@ -252,42 +253,44 @@ impl Opened {
     }
 
     /// Takes a part that is accepted. After a refusal all is unchanged.
-    pub(crate) fn take(&mut self, part: &Part, dressed: Option<Dressed>) -> Result<(), Memory>
-        requires { dressed ≡ spec.dressed_for self.old.left part.now }
-        ensures ok { OnOk result (self.new ≡ behind self.old part.now) }
+    pub(crate) fn take(&mut self, part: Part, dressed: Option<Dressed>) -> Result<(), Memory>
+        requires { dressed ≡ spec.dressed_for self.old.left part }
+        ensures ok { OnOk result (self.new ≡ behind self.old part) }
         ensures err { OnErr result (self.new ≡ self.old) }
     {
         match part {
             Part::Start { name, scope } => self.start(name, scope, dressed),
             Part::Attribute { name, value } => self.add_attribute(name, value),
-            Part::End { .. } => {
+            Part::End { name: _name } => {
                 self.end();
                 Ok(())
             }
-            Part::Chars { .. } | Part::Comment { .. } | Part::Pi { .. } => self.settle(dressed),
+            Part::Chars { text: _text } | Part::Comment { text: _text } => self.settle(dressed),
+            Part::Pi {
+                target: _target,
+                text: _text,
+            } => self.settle(dressed),
         }
     }
 
     fn start(
         &mut self,
-        name: &Name,
-        scope: &List<Binding>,
+        name: Name,
+        scope: List<Binding>,
         dressed: Option<Dressed>,
     ) -> Result<(), Memory>
         requires { dressed ≡ dressed_in self.old.left.elements self.old.left.held }
-        ensures ok { OnOk result (self.new ≡ behind self.old (Start name.now scope.now)) }
+        ensures ok { OnOk result (self.new ≡ behind self.old (Start name scope)) }
         ensures err { OnErr result (self.new ≡ self.old) }
     {
-        let name = name.copy(self.alloc)?;
-        let scope = scope.copy(self.alloc)?;
-        let attrs = List::new(self.alloc);
         self.settle(dressed)?;
+        let attrs = List::new(self.alloc);
         self.held = Some(HeldTag { name, scope, attrs });
         Ok(())
     }
 
-    fn add_attribute(&mut self, name: &Name, value: &Text) -> Result<(), Memory>
-        ensures ok { OnOk result (self.new ≡ behind self.old (Attribute name.now value.now)) }
+    fn add_attribute(&mut self, name: Name, value: Text) -> Result<(), Memory>
+        ensures ok { OnOk result (self.new ≡ behind self.old (Attribute name value)) }
         ensures err { OnErr result (self.new ≡ self.old) }
     {
         match &mut self.held {
@@ -313,17 +316,14 @@ impl Opened {
         ensures ok { OnOk result (self.new ≡ behind self.old (Chars [])) }
         ensures err { OnErr result (self.new ≡ self.old) }
     {
-        let (Some(tag), Some(dressed)) = (&self.held, dressed) else {
+        let Some(Dressed { declared, .. }) = dressed else {
             return Ok(());
         };
-        push_element(
-            self.alloc,
-            &mut self.elements,
-            &mut self.bindings,
-            &tag.name,
-            dressed.declared,
-        )?;
-        self.held = None;
+        self.elements.reserve(1)?;
+        self.bindings.reserve(declared.len())?;
+        if let Some(tag) = self.held.take() {
+            open_element(&mut self.elements, &mut self.bindings, tag.name, declared);
+        }
         Ok(())
     }
 }
@@ -384,32 +384,24 @@ fn append_instruction(target: &Text, text: &Text, out: &mut Vec<u8>) -> Result<(
     Ok(())
 }
 
-/// Opens an element that declares these bindings. After a refusal all is unchanged.
-fn push_element(
-    alloc: Global,
+/// Opens an element that declares these bindings.
+fn open_element(
     elements: &mut Vec<OpenElement>,
     bindings: &mut Vec<Binding>,
-    name: &Name,
+    name: Name,
     declared: List<Binding>,
-) -> Result<(), Memory>
-    ensures elements { OnOk result (elements.new.items ≡ elements.old.items ++ record { name = name.now; declared = length declared } ∷ []) }
-    ensures bindings { OnOk result (bindings.new.items ≡ bindings.old.items ++ declared) }
-    ensures same_elements { OnErr result (elements.new.items ≡ elements.old.items) }
-    ensures same_bindings { OnErr result (bindings.new.items ≡ bindings.old.items) }
+)
+    requires room { vec_len elements.old < vec_capacity elements.old }
+    requires room_for_bindings { vec_len bindings.old + length declared ≤ vec_capacity bindings.old }
+    ensures elements { elements.new.items ≡ elements.old.items ++ record { name = name; declared = length declared } ∷ [] }
+    ensures bindings { bindings.new.items ≡ bindings.old.items ++ declared }
 {
-    let name = name.copy(alloc)?;
-    let count = declared.len();
-    let outer = bindings.len();
-    bindings.append(&mut declared.into_vec())?;
     let element = OpenElement {
         name,
-        declared: count,
+        declared: declared.len(),
     };
-    if elements.push(element).is_err() {
-        bindings.truncate(outer);
-        return Err(Memory);
-    }
-    Ok(())
+    let _ = elements.push(element);
+    let _ = bindings.append(&mut declared.into_vec());
 }
 
 /// Gives an attribute its value: in its place where there is one of the name, else behind the others. After a refusal
@@ -417,23 +409,19 @@ fn push_element(
 fn set_attribute(
     alloc: Global,
     attrs: &mut List<Attr>,
-    name: &Name,
-    value: &Text,
+    name: Name,
+    value: Text,
 ) -> Result<(), Memory>
-    ensures ok { OnOk result (attrs.new ≡ with_attribute attrs.old name.now value.now) }
+    ensures ok { OnOk result (attrs.new ≡ with_attribute attrs.old name value) }
     ensures err { OnErr result (attrs.new ≡ attrs.old) }
 {
-    let value = value.copy(alloc)?;
-    match attribute_named(attrs.as_slice(), name) {
+    match attribute_named(attrs.as_slice(), &name) {
         Some(at) => {
             let name = attrs.as_slice()[at].name.copy(alloc)?;
             attrs.set(at, Attr { name, value });
             Ok(())
         }
-        None => {
-            let name = name.copy(alloc)?;
-            attrs.push(Attr { name, value })
-        }
+        None => attrs.push(Attr { name, value }),
     }
 }
 

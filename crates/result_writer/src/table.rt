@@ -116,7 +116,7 @@ pub fn enter_scope(
 }
 
 /// Whether the last of the bindings of this prefix has this URI; none has the empty one.
-fn is_bound(in_force: &[Binding], prefix: &Text, uri: &Text) -> bool
+pub fn is_bound(in_force: &[Binding], prefix: &Text, uri: &Text) -> bool
     ensures { result ≡ same (bound in_force.now prefix.now) uri.now }
 {
     let mut rest = in_force;

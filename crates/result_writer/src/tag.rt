@@ -5,6 +5,7 @@ ghost use Rattle.result_writer.specs.Tag.{attribute, attributes, declaration, dr
 
 use crate::escape::{Context, append_escaped};
 use crate::order::declarations;
+use crate::steady::{is_steady, undressed};
 use crate::table::{enter, enter_attributes, enter_scope};
 use crate::words::is_empty;
 use std::alloc::Global;
@@ -29,6 +30,16 @@ pub struct Dressed {
 
 /// What a tag declares, where these bindings are in force, and the prefixes of its attributes.
 pub fn dress(alloc: Global, in_force: &[Binding], tag: &HeldTag) -> Result<Dressed, Memory>
+    ensures { IfOk result (λ made. made ≡ dressed in_force.now tag.now) }
+{
+    if is_steady(in_force, tag) {
+        undressed(alloc, tag)
+    } else {
+        dress_by_table(alloc, in_force, tag)
+    }
+}
+
+fn dress_by_table(alloc: Global, in_force: &[Binding], tag: &HeldTag) -> Result<Dressed, Memory>
     ensures { IfOk result (λ made. made ≡ dressed in_force.now tag.now) }
 {
     let mut table = List::new(alloc);

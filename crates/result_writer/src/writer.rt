@@ -6,11 +6,12 @@ use crate::fault::{ResultFault, WriteStop};
 use crate::opened::Opened;
 use std::alloc::Global;
 use std::marker::Model;
-use stx_base::{List, Part};
+use stx_base::{Copied, List, Part};
 
 /// Writes the parts of a result.
 #[derive(Debug, Drop)]
 pub struct Writer {
+    alloc: Global,
     opened: Opened,
     /// What the part that is being put settles. It is kept for its room.
     bytes: Vec<u8>,
@@ -30,6 +31,7 @@ impl Writer {
         ensures { result ≡ fresh limit }
     {
         Writer {
+            alloc,
             opened: Opened::new(alloc, limit),
             bytes: Vec::new(alloc),
         }
@@ -45,12 +47,26 @@ impl Writer {
         ensures written { OnOk result (out.new.items ≡ out.old.items ++ settles self.old.left part.now) }
         ensures unwritten { OnErr result (out.new.items ≡ out.old.items) }
     {
-        if let Some(fault) = self.opened.fault(part) {
+        let part = part.copy(self.alloc)?;
+        self.put_owned(part, out)
+    }
+
+    /// The same of a part that is handed over, whose name and attributes needn't be copied. After a refusal the part is
+    /// dropped, and all else is unchanged.
+    pub fn put_owned(&mut self, part: Part, out: &mut Vec<u8>) -> Result<(), WriteStop>
+        ensures taken { OnOk result (spec.fault self.old.limit self.old.left part ≡ None) }
+        ensures fault { IfErr result (IsCause (spec.fault self.old.limit self.old.left part)) }
+        ensures ok { OnOk result (self.new ≡ behind self.old part) }
+        ensures err { OnErr result (self.new ≡ self.old) }
+        ensures written { OnOk result (out.new.items ≡ out.old.items ++ settles self.old.left part) }
+        ensures unwritten { OnErr result (out.new.items ≡ out.old.items) }
+    {
+        if let Some(fault) = self.opened.fault(&part) {
             return Err(WriteStop::Fault(fault));
         }
-        let dressed = self.opened.dressed_for(part)?;
+        let dressed = self.opened.dressed_for(&part)?;
         self.bytes.clear();
-        self.opened.append(part, &dressed, &mut self.bytes)?;
+        self.opened.append(&part, &dressed, &mut self.bytes)?;
         let len = out.len();
         out.extend_from_slice(&self.bytes)?;
         if self.opened.take(part, dressed).is_err() {
