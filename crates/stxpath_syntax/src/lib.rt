@@ -14,6 +14,8 @@ mod stack;
 mod state;
 mod step;
 mod stop;
+#[cfg(test)]
+mod tests;
 mod token;
 mod words;
 
