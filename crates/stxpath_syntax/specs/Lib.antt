@@ -1,0 +1,13 @@
+pub mod Words
+pub mod Tokens
+pub mod Lexing
+pub mod Meaning
+pub mod Grammar
+pub mod Reading
+pub mod Template
+pub mod Templating
+pub mod Stacks
+pub mod Machine
+pub mod Ending
+pub mod Running
+pub mod Laws

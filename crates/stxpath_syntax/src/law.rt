@@ -1,0 +1,8 @@
+//! Laws of the grammar.
+
+ghost use Rattle.stxpath_syntax.specs.Laws as law;
+
+/// Tokens have one reading at most.
+pub fn one_reading()
+    ensures { law.OneReading }
+{}

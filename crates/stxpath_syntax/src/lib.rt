@@ -1,0 +1,25 @@
+//! The path language: its expressions, patterns and templates, how they are read and how they are printed.
+#![tactic(auto)]
+
+mod avt;
+mod expr;
+mod fault;
+pub mod law;
+mod lex;
+mod meant;
+mod operand;
+mod parse;
+mod path;
+mod stack;
+mod state;
+mod step;
+mod stop;
+#[cfg(test)]
+mod tests;
+mod token;
+mod words;
+
+pub use avt::parse_avt;
+pub use expr::{Alternative, Avt, AvtPart, Bin, Expr, Link, PathStep, Pattern};
+pub use fault::{ParseFault, PathFault, PathKind};
+pub use parse::{parse_expr, parse_pattern};
