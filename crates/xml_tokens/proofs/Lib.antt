@@ -32,3 +32,5 @@ pub mod LexemeReading
 pub mod PassedLemmas
 pub mod CloserLemmas
 pub mod ShapeSpelling
+pub mod AloneLemmas
+pub mod SayableLemmas

@@ -76,7 +76,7 @@ end-empty r w h = by_shape (shape_len (is_last r) (coming r)) refl (sym (due-fre
       (record { kind = LexemeTooLong; offset = place r }) (record { kind = InputTooLong; offset = r.limits.input }) (r.offset + length r.unread) k)
 
 -- what a lexeme is made of
-made_of : (limits : Limits) (first : Bool) (bytes : List ℕ) (at : ℕ) (l : Lexeme) → at_shape limits first bytes at ≡ step.Lexeme l → (l.offset ≡ at) × (judged first bytes ≡ Ok l.body)
+pub made_of : (limits : Limits) (first : Bool) (bytes : List ℕ) (at : ℕ) (l : Lexeme) → at_shape limits first bytes at ≡ step.Lexeme l → (l.offset ≡ at) × (judged first bytes ≡ Ok l.body)
 made_of limits first bytes at l h = by_test (nat_lt limits.lexeme (length bytes)) h where
   by_body : (o : Result Body XmlKind) → judged first bytes ≡ o → lexeme_or_fault o at ≡ step.Lexeme l → (l.offset ≡ at) × (judged first bytes ≡ Ok l.body)
   by_body (Err kind) e k = absurd cc

@@ -8,6 +8,7 @@ pub mod Prolog
 pub mod Judged
 pub mod Spans
 pub mod Reader
+pub mod Sayable
 pub mod Run
 pub mod Resume
 pub mod Look

@@ -1,6 +1,7 @@
 //! Laws about the definitions that the lexer's contract cites. They do nothing.
 ghost use Rattle.xml_tokens.specs.Cuts.{JoinedAgain, OneCut, RestUnended, SomeCut};
 ghost use Rattle.xml_tokens.specs.Run.{AnswersStay, FewUnread, LexemesStay, OneRun, SayingShapesAreRead, ShapesSayLexemes};
+ghost use Rattle.xml_tokens.specs.Sayable.{LexemesAreSayable};
 ghost use Rattle.xml_tokens.specs.Spelling.{LexemesAreSpelled, LinesAreSpelled, SpelledLexemesAreRead, SpelledLexemesAreShapes, SpelledLinesAreRead, SpelledTagsAreRead, SpelledTextsAreRead, TagsAreSpelled, TextsAreSpelled};
 
 /// Each list of bytes is cut into shapes and a rest, and in one way.
@@ -49,4 +50,9 @@ pub fn spelling()
     ensures shapes { SpelledLexemesAreShapes }
     ensures read { SpelledLexemesAreRead }
     ensures spelled { LexemesAreSpelled }
+{}
+
+/// Which characters and names stand in lexemes that are read.
+pub fn said()
+    ensures { LexemesAreSayable }
 {}
