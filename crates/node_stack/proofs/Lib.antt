@@ -1,0 +1,6 @@
+mod Counting
+mod Listing
+mod Naming
+mod Opening
+mod Stacking
+mod Tallying

@@ -1,0 +1,109 @@
+-- What counters tell after one node more.
+use Rattle.std.proofs.Common.{◌≡◌, ℕ, ◌+◌, ◌<◌, ◌==◌, Bool, true, false, if◌then◌else◌, List, Option, Some, None, refl, ap, ◌∙◌, arith, encode_utf8_all}
+use Rattle.std.proofs.lemmas.Bool.{eqb-true}
+use Rattle.std.specs.BTreeMap.{get_by_text, btree_map_len}
+use Rattle.std.specs.Option.{is_none}
+use Rattle.stx_base.specs.declared.name.Name.{Name}
+use Rattle.stx_base.specs.declared.node.NodeTest.{NodeTest}
+use Rattle.stx_base.specs.declared.node.NodeTest.TheVariants as test
+use Rattle.node_stack.specs.Counts.{Counts, capped, counted, raised}
+use Rattle.node_stack.specs.Names.{CountsName, again_of, elements_of, names_of}
+use Rattle.node_stack.specs.Tally.{counts}
+use Rattle.node_stack.specs.Test.{Element, Pi}
+use Rattle.node_stack.specs.Times.{CountsText, more, once_more, times}
+use Rattle.node_stack.specs.declared.tally.Tally.{Tally}
+
+same_counts : (c d : Counts) → ((t : NodeTest) → c.passing t ≡ d.passing t) → c.names ≡ d.names → c ≡ d
+same_counts c d passing names = λ i. record { passing = λ t. passing t i; names = names i }
+
+times_at : (b : Bool) (o : Option ℕ) → capped (times (if b then once_more o else o)) ≡ (if b then raised (capped (times o)) else capped (times o))
+times_at true None = refl
+times_at true (Some n) = omega arith
+times_at false o = refl
+
+count_at : (b : Bool) (n : ℕ) → capped (if b then more n else n) ≡ (if b then raised (capped n) else capped n)
+count_at true n = omega arith
+count_at false n = refl
+
+not_zero_at : (n : ℕ) (b : Bool) → (n == 0) ≡ b → 0 < n → b ≡ false
+not_zero_at n true e h = let z : n ≡ 0 = eqb-true n 0 e in absurd (omega arith)
+not_zero_at n false e h = refl
+
+pub not_zero : (n : ℕ) → 0 < n → (n == 0) ≡ false
+not_zero n h = not_zero_at n (n == 0) refl h
+
+-- what came never is what has no entry
+new_at : (o : Option ℕ) → (capped (times o) == 0) ≡ is_none o
+new_at None = refl
+new_at (Some n) = not_zero _ (omega arith)
+
+-- the counters of new are those of old with one element of the name more
+record OneElement (old new : Tally) (name : Name) : Type 0 where
+  names : CountsName old.namespaces new.namespaces (encode_utf8_all name.uri) (encode_utf8_all name.local)
+  targets : new.targets ≡ old.targets
+  elements : new.elements ≡ more old.elements
+  nodes : new.nodes ≡ more old.nodes
+  chars : new.chars ≡ old.chars
+  comments : new.comments ≡ old.comments
+  instructions : new.instructions ≡ old.instructions
+
+element_passing : (old new : Tally) (name : Name) → OneElement old new name → (t : NodeTest) → (counts new).passing t ≡ (counted (Element name) (counts old)).passing t
+element_passing old new name h test.Document = refl
+element_passing old new name h (test.Name n) = ap (λ o. capped (times o)) (h.names.counted _ _) ∙ times_at _ _
+element_passing old new name h (test.Prefix b) = ap capped (h.names.elements _) ∙ count_at _ _
+element_passing old new name h test.AnyElement = ap capped h.elements ∙ count_at true _
+element_passing old new name h test.AnyNode = ap capped h.nodes ∙ count_at true _
+element_passing old new name h test.Chars = ap capped h.chars
+element_passing old new name h test.Comment = ap capped h.comments
+element_passing old new name h test.AnyPi = ap capped h.instructions
+element_passing old new name h (test.Pi t) = ap (λ m. capped (times (get_by_text m (encode_utf8_all t)))) h.targets
+element_passing old new name h (test.AttrName n) = refl
+element_passing old new name h (test.AttrPrefix b) = refl
+element_passing old new name h test.AnyAttr = refl
+
+pub element_counted : (old new : Tally) (name : Name)
+    → CountsName old.namespaces new.namespaces (encode_utf8_all name.uri) (encode_utf8_all name.local)
+    → new.targets ≡ old.targets → new.elements ≡ more old.elements → new.nodes ≡ more old.nodes
+    → new.chars ≡ old.chars → new.comments ≡ old.comments → new.instructions ≡ old.instructions
+    → counts new ≡ counted (Element name) (counts old)
+element_counted old new name names targets elements nodes chars comments instructions =
+    let o : Option ℕ = again_of old.namespaces (encode_utf8_all name.uri) (encode_utf8_all name.local) in
+    same_counts (counts new) (counted (Element name) (counts old))
+    (element_passing old new name (record { names = names; targets = targets; elements = elements; nodes = nodes; chars = chars; comments = comments; instructions = instructions }))
+    (ap (λ n. n + btree_map_len new.targets) names.len ∙ ap (λ t. names_of old.namespaces + (if is_none o then 1 else 0) + btree_map_len t) targets
+    ∙ rw (new_at o) (omega arith))
+
+-- the counters of new are those of old with one instruction for the target more
+record OneInstruction (old new : Tally) (target : List ℕ) : Type 0 where
+  texts : CountsText old.targets new.targets (encode_utf8_all target)
+  namespaces : new.namespaces ≡ old.namespaces
+  instructions : new.instructions ≡ more old.instructions
+  nodes : new.nodes ≡ more old.nodes
+  chars : new.chars ≡ old.chars
+  comments : new.comments ≡ old.comments
+  elements : new.elements ≡ old.elements
+
+instruction_passing : (old new : Tally) (target : List ℕ) → OneInstruction old new target → (t : NodeTest) → (counts new).passing t ≡ (counted (Pi target) (counts old)).passing t
+instruction_passing old new target h test.Document = refl
+instruction_passing old new target h (test.Name n) = ap (λ m. capped (times (again_of m (encode_utf8_all n.uri) (encode_utf8_all n.local)))) h.namespaces
+instruction_passing old new target h (test.Prefix b) = ap (λ m. capped (elements_of m (encode_utf8_all b.uri))) h.namespaces
+instruction_passing old new target h test.AnyElement = ap capped h.elements
+instruction_passing old new target h test.AnyNode = ap capped h.nodes ∙ count_at true _
+instruction_passing old new target h test.Chars = ap capped h.chars
+instruction_passing old new target h test.Comment = ap capped h.comments
+instruction_passing old new target h test.AnyPi = ap capped h.instructions ∙ count_at true _
+instruction_passing old new target h (test.Pi t) = ap (λ o. capped (times o)) (h.texts.counted _) ∙ times_at _ _
+instruction_passing old new target h (test.AttrName n) = refl
+instruction_passing old new target h (test.AttrPrefix b) = refl
+instruction_passing old new target h test.AnyAttr = refl
+
+pub instruction_counted : (old new : Tally) (target : List ℕ)
+    → CountsText old.targets new.targets (encode_utf8_all target)
+    → new.namespaces ≡ old.namespaces → new.instructions ≡ more old.instructions → new.nodes ≡ more old.nodes
+    → new.chars ≡ old.chars → new.comments ≡ old.comments → new.elements ≡ old.elements
+    → counts new ≡ counted (Pi target) (counts old)
+instruction_counted old new target texts namespaces instructions nodes chars comments elements =
+    let o : Option ℕ = get_by_text old.targets (encode_utf8_all target) in
+    same_counts (counts new) (counted (Pi target) (counts old))
+    (instruction_passing old new target (record { texts = texts; namespaces = namespaces; instructions = instructions; nodes = nodes; chars = chars; comments = comments; elements = elements }))
+    (ap (λ n. names_of n + btree_map_len new.targets) namespaces ∙ ap (λ n. names_of old.namespaces + n) texts.len ∙ rw (new_at o) (omega arith))

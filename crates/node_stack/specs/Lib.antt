@@ -1,0 +1,9 @@
+pub mod Counts
+pub mod Laws
+pub mod Names
+pub mod Open
+pub mod Path
+pub mod Stack
+pub mod Tally
+pub mod Test
+pub mod Times

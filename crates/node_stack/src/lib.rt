@@ -1,0 +1,17 @@
+//! The path from the document node to the current node, and positions on it.
+#![tactic(auto)]
+
+mod fault;
+pub mod law;
+mod node;
+mod open;
+mod stack;
+mod tally;
+mod test;
+#[cfg(test)]
+mod tests;
+
+pub use fault::StackFault;
+pub use node::{Leaf, NodeView};
+pub use stack::NodeStack;
+pub use test::passes;

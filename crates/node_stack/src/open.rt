@@ -1,0 +1,166 @@
+//! Open elements, and what stands on the innermost.
+
+ghost use Rattle.std.specs.Prelude.{◌≡◌, ◌+◌, ◌<◌, ◌≤◌, ◌^◌, [], OnOk, OnErr, Some, None, count_by, length, option_map, slice_get, take};
+ghost use Rattle.node_stack.specs.Counts.{capped};
+ghost use Rattle.node_stack.specs.Open.{at_tip, attributes_in, element_of, has_leaf, leaf_of, node_of, nodes_of, tally_in, tip_node, HasChild};
+ghost use Rattle.node_stack.specs.Path as node;
+ghost use Rattle.node_stack.specs.Path.{position_at};
+ghost use Rattle.node_stack.specs.Tally.{kind_of};
+ghost use Rattle.node_stack.specs.Test as spec;
+
+use crate::node::{Leaf, NodeView};
+use crate::tally::{Child, MOST, Tally};
+use crate::test::passes;
+use stx_base::{Attr, Binding, First, List, Memory, Name, NodeTest};
+
+/// An element whose end is still to come.
+#[derive(Drop)]
+pub(crate) struct OpenElement {
+    pub name: Name,
+    pub attrs: List<Attr>,
+    pub decls: List<Binding>,
+    pub first: First,
+    /// Its children so far.
+    pub children: Tally,
+}
+
+impl OpenElement {
+    pub fn view(&self) -> NodeView<'_>
+        ensures { node_of result ≡ element_of self.now }
+    {
+        NodeView::Element {
+            name: &self.name,
+            attrs: &self.attrs,
+            decls: &self.decls,
+            first: &self.first,
+        }
+    }
+}
+
+/// What stands on the innermost element, or on the document node.
+#[derive(Drop)]
+pub(crate) enum Tip {
+    Leaf(Leaf),
+    /// An attribute of the innermost element, by its number.
+    Attribute(usize),
+}
+
+/// Counts a node among the children of the innermost element. After a refusal nothing has changed.
+pub(crate) fn count_child(
+    document: &mut Tally,
+    elements: &mut [OpenElement],
+    child: Child<'_>,
+) -> Result<(), Memory>
+    ensures ok { OnOk result (HasChild document.old elements.old document.new elements.new (kind_of child.entry)) }
+    ensures err { OnErr result (nodes_of document.new elements.new None ≡ nodes_of document.old elements.old None) }
+{
+    match elements.last_mut() {
+        Some(element) => element.children.add(child),
+        None => document.add(child),
+    }
+}
+
+pub(crate) fn child_of(leaf: &Leaf) -> Child<'_>
+    ensures { kind_of result ≡ node.kind_of (leaf_of leaf.now) }
+{
+    match leaf {
+        Leaf::Chars(_) => Child::Chars,
+        Leaf::Comment(_) => Child::Comment,
+        Leaf::Pi { target, .. } => Child::Pi(target),
+    }
+}
+
+/// Whether a leaf stands there.
+pub(crate) fn is_leaf(tip: &Option<Tip>) -> bool
+    ensures { result ≡ has_leaf tip.now }
+{
+    matches!(tip, Some(Tip::Leaf(_)))
+}
+
+/// The counters of the list in which a node stands that has so many elements outside of it.
+pub(crate) fn siblings<'a>(
+    document: &'a Tally,
+    elements: &'a [OpenElement],
+    outer: usize,
+) -> &'a Tally
+    requires { outer ≤ length elements.now }
+    ensures { result.now ≡ tally_in document.now (take outer elements.now) }
+{
+    match outer.checked_sub(1) {
+        Some(parent) => &elements[parent].children,
+        None => document,
+    }
+}
+
+/// The attributes of the innermost element.
+pub(crate) fn attributes(elements: &[OpenElement]) -> &[Attr]
+    ensures { result.now ≡ attributes_in [] elements.now }
+{
+    match elements.last() {
+        Some(element) => element.attrs.as_slice(),
+        None => &[],
+    }
+}
+
+/// The position of what stands there, in the list that the counters count, or among the attributes.
+pub(crate) fn tip_position(
+    tip: &Option<Tip>,
+    siblings: &Tally,
+    attrs: &[Attr],
+    test: &NodeTest,
+) -> u64
+    requires { 0 < length (at_tip siblings.now attrs.now tip.now) }
+    ensures value { result ≡ position_at test.now (slice_get (at_tip siblings.now attrs.now tip.now) 0) }
+    ensures bound { result < 2 ^ 63 }
+{
+    match tip {
+        Some(tip) => standing_position(tip, siblings, attrs, test),
+        None => 1,
+    }
+}
+
+fn standing_position(tip: &Tip, siblings: &Tally, attrs: &[Attr], test: &NodeTest) -> u64
+    requires { 0 < length (at_tip siblings.now attrs.now (Some tip.now)) }
+    ensures value { result ≡ position_at test.now (slice_get (at_tip siblings.now attrs.now (Some tip.now)) 0) }
+    ensures bound { result < 2 ^ 63 }
+{
+    match tip {
+        Tip::Leaf(leaf) => siblings.earlier(test, passes(test, view_leaf(leaf))) + 1,
+        Tip::Attribute(index) => attribute_position(attrs, *index, test),
+    }
+}
+
+/// The position of an attribute among those of its element.
+fn attribute_position(attrs: &[Attr], index: usize, test: &NodeTest) -> u64
+    requires { index ≤ length attrs.now }
+    ensures value { result ≡ capped (count_by (λ a. spec.passes test.now (spec.Attribute a.name)) (take index attrs.now)) + 1 }
+    ensures bound { result < 2 ^ 63 }
+{
+    let earlier = attrs[..index]
+        .iter()
+        .filter(|attr| passes(test, NodeView::Attribute(attr)));
+    (earlier.count() as u64).min(MOST) + 1
+}
+
+fn view_leaf(leaf: &Leaf) -> NodeView<'_>
+    ensures { node_of result ≡ leaf_of leaf.now }
+{
+    match leaf {
+        Leaf::Chars(text) => NodeView::Chars(text),
+        Leaf::Comment(text) => NodeView::Comment(text),
+        Leaf::Pi { target, text } => NodeView::Pi { target, text },
+    }
+}
+
+pub(crate) fn view_tip<'a>(tip: &'a Option<Tip>, attrs: &'a [Attr]) -> Option<NodeView<'a>>
+    ensures { option_map node_of result ≡ tip_node attrs.now tip.now }
+{
+    match tip {
+        Some(Tip::Leaf(leaf)) => Some(view_leaf(leaf)),
+        Some(Tip::Attribute(index)) => match attrs.get(*index) {
+            Some(attr) => Some(NodeView::Attribute(attr)),
+            None => None,
+        },
+        None => None,
+    }
+}
