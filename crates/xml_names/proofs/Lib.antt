@@ -1,0 +1,10 @@
+pub mod Texts
+pub mod QNames
+pub mod Places
+pub mod Index
+pub mod Lists
+pub mod Tags
+pub mod Alike
+pub mod Paths
+pub mod Nearest
+pub mod Taken

@@ -1,0 +1,7 @@
+use Rattle.std.proofs.Common.{◌≡◌, drop}
+use Rattle.xml_names.specs.Tag.{has_twins, same_written}
+use Rattle.xml_names.proofs.twins.has_equal_pair.Given as goal
+
+-- no attribute so far is like a later one
+abbrev pub invariant-loop-at : goal.invariant-loop-at
+invariant-loop-at l = has_twins same_written (drop l.at l.attrs) ≡ has_twins same_written l.attrs

@@ -1,0 +1,266 @@
+ghost use Rattle.std.specs.Prelude.{◌≡◌, ◌<◌, ◌-◌, ◌++◌, ◌∷◌, [], None, IfOk, IfErr, OnOk, OnErr, length, take, unwrap_or};
+ghost use Rattle.std.specs.List.{list_all};
+ghost use Rattle.std.specs.Option.{option_map};
+ghost use Rattle.std.specs.Str.{chars};
+ghost use Rattle.xml_names.specs.QName.{is_qname};
+ghost use Rattle.xml_names.specs.Scope as scope;
+ghost use Rattle.xml_names.specs.Scope.{bound};
+ghost use Rattle.xml_names.specs.Tag as spec;
+ghost use Rattle.xml_names.specs.Tag.{declarations, name_fault, resolved, scope_fault, IsCause};
+
+use crate::declaration::{XML_URI, declarations, declared_prefix, has_bad_binding};
+use crate::in_force::InForce;
+use crate::parts::{Parts, is_qname, parts_of};
+use crate::resolved::{NameFault, Resolved};
+use crate::twins::has_duplicate;
+use crate::words::{is_empty, is_word};
+use std::alloc::Global;
+use std::marker::Model;
+use stx_base::{Attr, Binding, Copied, List, Memory, Name, Text, XmlKind};
+use xml_tokens::RawAttr;
+
+/// The elements from the document's root to where it is read, with what each of them declares.
+#[derive(Debug, Drop)]
+pub struct Scopes {
+    alloc: Global,
+    in_force: InForce,
+    /// How many of these each element declares, the innermost last.
+    counts: List<usize>,
+}
+
+impl Model for Scopes {
+    ghost use Rattle.std.specs.Prelude.{List};
+    ghost use Rattle.stx_base.specs.declared.name.Binding.{Binding};
+
+    ghost Value = { List (List Binding) };
+
+    ghost use Rattle.xml_names.specs.Scopes.{path_of, IsCounted};
+
+    ghost view = { path_of };
+
+    ghost invariant = { IsCounted };
+}
+
+impl Scopes {
+    /// No element is entered. Allocates nothing.
+    pub fn new(alloc: Global) -> Scopes
+        ensures { result ≡ [] }
+    {
+        Scopes {
+            alloc,
+            in_force: InForce::new(alloc),
+            counts: List::new(alloc),
+        }
+    }
+
+    /// How many elements are entered.
+    pub fn depth(&self) -> usize
+        ensures { result ≡ length self.now }
+    {
+        self.counts.len()
+    }
+
+    /// Enters an element by its start tag. After a refusal all is unchanged.
+    pub fn enter(&mut self, name: &Text, attrs: &List<RawAttr>) -> Result<Resolved, NameFault>
+        // It is taken only where it has no fault.
+        ensures taken { OnOk result (name_fault self.old name.now attrs.now ≡ None) }
+        ensures fault { IfErr result (IsCause (name_fault self.old name.now attrs.now)) }
+        ensures value { IfOk result (λ tag. tag ≡ resolved self.old name.now attrs.now) }
+        ensures ok { OnOk result (self.new ≡ self.old ++ declarations attrs.now ∷ []) }
+        ensures err { OnErr result (self.new ≡ self.old) }
+    {
+        let attrs = attrs.as_slice();
+        if has_bad_name(name, attrs) {
+            return Err(NameFault::Xml(XmlKind::BadName));
+        }
+        if has_bad_binding(attrs) {
+            return Err(NameFault::Xml(XmlKind::BadBinding));
+        }
+        let decls = declarations(self.alloc, attrs)?;
+        self.declare(&decls)?;
+        match self.resolve(name, attrs, decls) {
+            Ok(tag) => Ok(tag),
+            Err(fault) => {
+                self.leave();
+                Err(fault)
+            }
+        }
+    }
+
+    /// Leaves the innermost element. Allocates nothing.
+    pub fn leave(&mut self)
+        requires { 0 < length self.old }
+        ensures { self.new ≡ take (length self.old - 1) self.old }
+    {
+        if let Some(count) = self.counts.pop() {
+            let len = self.in_force.len() - count;
+            self.in_force.truncate(len);
+        }
+    }
+
+    /// The URI that a prefix is bound to now, and the empty prefix that of the default namespace. Allocates nothing.
+    pub fn lookup(&self, prefix: &Text) -> Option<&str>
+        ensures { option_map (λ uri. chars uri.now) result ≡ bound self.now prefix.now }
+    {
+        self.uri(prefix.as_str())
+    }
+
+    fn uri(&self, prefix: &str) -> Option<&str>
+        ensures { option_map (λ uri. chars uri.now) result ≡ bound self.now (chars prefix.now) }
+    {
+        if is_word(prefix, "xml") {
+            return Some(XML_URI);
+        }
+        let uri = self.in_force.uri(prefix)?.as_str();
+        if is_empty(uri) {
+            // It takes the default namespace away.
+            None
+        } else {
+            Some(uri)
+        }
+    }
+
+    /// Enters an element that declares these. After a refusal all is unchanged.
+    fn declare(&mut self, decls: &List<Binding>) -> Result<(), Memory>
+        ensures ok { OnOk result (self.new ≡ self.old ++ decls.now ∷ []) }
+        ensures err { OnErr result (self.new ≡ self.old) }
+    {
+        let len = self.in_force.len();
+        self.in_force.extend(decls.as_slice())?;
+        match self.counts.push(decls.len()) {
+            Ok(()) => Ok(()),
+            Err(_) => {
+                self.in_force.truncate(len);
+                Err(Memory)
+            }
+        }
+    }
+
+    /// What the tag of the innermost element says.
+    fn resolve(
+        &self,
+        name: &Text,
+        attrs: &[RawAttr],
+        decls: List<Binding>,
+    ) -> Result<Resolved, NameFault>
+        ensures taken { OnOk result (scope_fault self.now name.now attrs.now ≡ None) }
+        ensures fault { IfErr result (IsCause (scope_fault self.now name.now attrs.now)) }
+        ensures value { IfOk result (λ tag. tag ≡ spec.said self.now name.now attrs.now decls) }
+    {
+        if self.has_undeclared_prefix(name.as_str(), attrs) {
+            return Err(NameFault::Xml(XmlKind::UndeclaredPrefix));
+        }
+        let resolved = self.attributes(attrs)?;
+        if has_duplicate(self.alloc, attrs, resolved.as_slice())? {
+            return Err(NameFault::Xml(XmlKind::DuplicateAttribute));
+        }
+        let name = self.element_name(name.as_str())?;
+        Ok(Resolved {
+            name,
+            attrs: resolved,
+            decls,
+        })
+    }
+
+    fn is_prefix_bound(&self, prefix: &str) -> bool
+        ensures { result ≡ spec.is_prefix_bound self.now (chars prefix.now) }
+    {
+        is_empty(prefix) || self.uri(prefix).is_some()
+    }
+
+    fn is_element_bound(&self, name: &str) -> bool
+        ensures { result ≡ spec.is_element_bound self.now (chars name.now) }
+    {
+        let prefix = parts_of(name).prefix;
+        !is_word(prefix, "xmlns") && self.is_prefix_bound(prefix)
+    }
+
+    fn is_attribute_bound(&self, name: &str) -> bool
+        ensures { result ≡ spec.is_attribute_bound self.now (chars name.now) }
+    {
+        declared_prefix(name).is_some() || self.is_prefix_bound(parts_of(name).prefix)
+    }
+
+    fn are_attributes_bound(&self, attrs: &[RawAttr]) -> bool
+        ensures { result ≡ list_all (λ a. spec.is_attribute_bound self.now a.name) attrs.now }
+    {
+        attrs
+            .iter()
+            .all(|attr| self.is_attribute_bound(attr.name.as_str()))
+    }
+
+    fn has_undeclared_prefix(&self, name: &str, attrs: &[RawAttr]) -> bool
+        ensures { result ≡ spec.has_undeclared_prefix self.now (chars name.now) attrs.now }
+    {
+        !(self.is_element_bound(name) && self.are_attributes_bound(attrs))
+    }
+
+    /// The URI that a prefix is bound to, and the empty text where it isn't.
+    fn bound_uri(&self, prefix: &str) -> &str
+        ensures { chars result.now ≡ unwrap_or (bound self.now (chars prefix.now)) [] }
+    {
+        match self.uri(prefix) {
+            Some(uri) => uri,
+            None => "",
+        }
+    }
+
+    fn element_name(&self, name: &str) -> Result<Name, Memory>
+        ensures { IfOk result (λ made. made ≡ scope.element_name self.now (chars name.now)) }
+    {
+        let parts = parts_of(name);
+        self.name(self.bound_uri(parts.prefix), parts)
+    }
+
+    fn attribute_uri(&self, prefix: &str) -> &str
+        ensures { chars result.now ≡ scope.attribute_uri self.now (chars prefix.now) }
+    {
+        if is_empty(prefix) {
+            ""
+        } else {
+            self.bound_uri(prefix)
+        }
+    }
+
+    fn attribute_name(&self, name: &str) -> Result<Name, Memory>
+        ensures { IfOk result (λ made. made ≡ scope.attribute_name self.now (chars name.now)) }
+    {
+        let parts = parts_of(name);
+        self.name(self.attribute_uri(parts.prefix), parts)
+    }
+
+    fn name(&self, uri: &str, parts: Parts<'_>) -> Result<Name, Memory>
+        ensures { IfOk result (λ made. made ≡ record { uri = chars uri.now; local = chars parts.entry.local.now; prefix = chars parts.entry.prefix.now }) }
+    {
+        let uri = Text::of(self.alloc, uri)?;
+        let local = Text::of(self.alloc, parts.local)?;
+        let prefix = Text::of(self.alloc, parts.prefix)?;
+        Ok(Name { uri, local, prefix })
+    }
+
+    fn attributes(&self, attrs: &[RawAttr]) -> Result<List<Attr>, Memory>
+        ensures { IfOk result (λ made. made ≡ spec.attributes self.now attrs.now) }
+    {
+        let mut made = List::new(self.alloc);
+        for attr in attrs {
+            if declared_prefix(attr.name.as_str()).is_none() {
+                let name = self.attribute_name(attr.name.as_str())?;
+                let value = attr.value.copy(self.alloc)?;
+                made.push(Attr { name, value })?;
+            }
+        }
+        Ok(made)
+    }
+}
+
+fn are_qnames(attrs: &[RawAttr]) -> bool
+    ensures { result ≡ list_all (λ a. is_qname a.name) attrs.now }
+{
+    attrs.iter().all(|attr| is_qname(attr.name.as_str()))
+}
+
+fn has_bad_name(name: &Text, attrs: &[RawAttr]) -> bool
+    ensures { result ≡ spec.has_bad_name name.now attrs.now }
+{
+    !(is_qname(name.as_str()) && are_qnames(attrs))
+}
