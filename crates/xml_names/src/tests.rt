@@ -2,8 +2,6 @@
 
 mod rows;
 
-use self::rows::Given;
-use self::rows::Given::{Enter, Leave, Look};
 use crate::{NameFault, Resolved, Scopes};
 use std::alloc::Global;
 use std::fmt::Write;
@@ -12,14 +10,51 @@ use std::test::Fail;
 use stx_base::{List, Memory, Name, Text};
 use xml_tokens::RawAttr;
 
-fn raw(alloc: Global, attrs: &[(&str, &str)]) -> Result<List<RawAttr>, Memory> {
-    let mut made = List::new(alloc);
-    for (name, value) in attrs {
-        let name = Text::of(alloc, name)?;
-        let value = Text::of(alloc, value)?;
-        made.push(RawAttr { name, value })?;
+const XML_URI: &str = "http://www.w3.org/XML/1998/namespace";
+
+const XMLNS_URI: &str = "http://www.w3.org/2000/xmlns/";
+
+/// A start tag, as a step has it.
+#[derive(Debug, Drop)]
+struct Tag {
+    name: Text,
+    attrs: List<RawAttr>,
+}
+
+fn value_of(alloc: Global, written: &str) -> Result<Text, Memory> {
+    if written == "XML" {
+        return Text::of(alloc, XML_URI);
     }
-    Ok(made)
+    if written == "XMLNS" {
+        return Text::of(alloc, XMLNS_URI);
+    }
+    let mut value = Text::new(alloc);
+    for c in written.chars() {
+        value.push(if c == '~' { ' ' } else { c })?;
+    }
+    Ok(value)
+}
+
+fn attr_of(alloc: Global, written: &str) -> Result<RawAttr, Memory> {
+    let (name, value) = written.split_once('=').unwrap_or((written, ""));
+    let name = Text::of(alloc, name)?;
+    let value = value_of(alloc, value)?;
+    Ok(RawAttr { name, value })
+}
+
+fn add_attrs(alloc: Global, attrs: &mut List<RawAttr>, written: &str) -> Result<(), Memory> {
+    for attr in written.split_whitespace() {
+        attrs.push(attr_of(alloc, attr)?)?;
+    }
+    Ok(())
+}
+
+fn tag_of(alloc: Global, step: &str) -> Result<Tag, Memory> {
+    let (name, others) = step.split_once(' ').unwrap_or((step, ""));
+    let name = Text::of(alloc, name)?;
+    let mut attrs = List::new(alloc);
+    add_attrs(alloc, &mut attrs, others)?;
+    Ok(Tag { name, attrs })
 }
 
 /// A name as `prefix{URI}local`, or its local part alone where it is in no namespace.
@@ -66,42 +101,35 @@ fn leave(scopes: &mut Scopes, out: &mut String) -> Result<(), Fail> {
     Ok(())
 }
 
-fn tell_step(
-    alloc: Global,
-    scopes: &mut Scopes,
-    step: &Given,
-    out: &mut String,
-) -> Result<(), Fail> {
-    if !out.is_empty() && !matches!(step, Leave) {
+fn answer(alloc: Global, scopes: &mut Scopes, step: &str, out: &mut String) -> Result<(), Fail> {
+    if step == "/" {
+        return leave(scopes, out);
+    }
+    if !out.is_empty() {
         out.push_str("; ")?;
     }
-    match step {
-        Enter(name, attrs) => {
-            let entered = scopes.enter(&Text::of(alloc, name)?, &raw(alloc, attrs)?);
-            tell_tag(&entered, out)
-        }
-        Leave => leave(scopes, out),
-        Look(prefix) => {
-            let uri = scopes.lookup(&Text::of(alloc, prefix)?);
-            Ok(write!(out, "{prefix}={}", uri.unwrap_or("none"))?)
-        }
+    if let Some(prefix) = step.strip_prefix('?') {
+        let uri = scopes.lookup(&Text::of(alloc, prefix)?);
+        return Ok(write!(out, "{prefix}={}", uri.unwrap_or("none"))?);
     }
+    let tag = tag_of(alloc, step)?;
+    tell_tag(&scopes.enter(&tag.name, &tag.attrs), out)
 }
 
 /// The answers to the steps that have one. After a refusal nothing has changed, so the steps go on.
-fn told(alloc: Global, steps: &[Given]) -> Result<String, Fail> {
+fn told(alloc: Global, steps: &str) -> Result<String, Fail> {
     let mut scopes = Scopes::new(alloc);
     let mut out = String::new(alloc);
-    for step in steps {
-        tell_step(alloc, &mut scopes, step, &mut out)?;
+    for step in steps.split(" | ") {
+        answer(alloc, &mut scopes, step, &mut out)?;
     }
     Ok(out)
 }
 
-fn check_rows(rt: &impl Abort, alloc: Global, rows: &[(&[Given], &str)]) -> Result<(), Fail> {
+fn check_rows(rt: &impl Abort, alloc: Global, rows: &[(&str, &str)]) -> Result<(), Fail> {
     for (steps, wanted) in rows {
         let found = told(alloc, steps)?;
-        assert_eq!(rt; found.as_str(), *wanted, "of {steps:?}");
+        assert_eq!(rt; found.as_str(), *wanted, "of {steps}");
     }
     Ok(())
 }
@@ -116,24 +144,15 @@ fn refused(rt: HostRuntime) -> Result<(), Fail> {
     check_rows(&rt, rt.alloc(), &rows::REFUSED)
 }
 
-/// As many attributes `a0`, `a1`, .. and then these two.
-fn many(
-    alloc: Global,
-    count: u32,
-    first: (&str, &str),
-    second: (&str, &str),
-) -> Result<List<RawAttr>, Fail> {
+/// As many attributes `a0`, `a1`, .. and then these.
+fn many(alloc: Global, count: u32, others: &str) -> Result<List<RawAttr>, Fail> {
     let mut attrs = List::new(alloc);
     for number in 0..count {
-        let name = Text::of(alloc, format!(in alloc; "a{number}")?.as_str())?;
-        let value = Text::of(alloc, "")?;
+        let name = Text::from_string(format!(in alloc; "a{number}")?);
+        let value = Text::new(alloc);
         attrs.push(RawAttr { name, value })?;
     }
-    for (name, value) in [first, second] {
-        let name = Text::of(alloc, name)?;
-        let value = Text::of(alloc, value)?;
-        attrs.push(RawAttr { name, value })?;
-    }
+    add_attrs(alloc, &mut attrs, others)?;
     Ok(attrs)
 }
 
@@ -145,12 +164,12 @@ fn count(alloc: Global, entered: &Result<Resolved, NameFault>) -> Result<String,
     })
 }
 
-/// Two attributes behind 10,000 others, and what comes of the tag.
-static MANY: [((&str, &str), (&str, &str), &str); 4] = [
-    (("x", "1"), ("xmlns", "u"), "10001 attributes"),
-    (("x", "1"), ("x", "2"), "DuplicateAttribute"),
-    (("x", "1"), ("a9999", "2"), "DuplicateAttribute"),
-    (("a0", "1"), ("x", "2"), "DuplicateAttribute"),
+/// Attributes behind 10,000 others, and what comes of the tag.
+static MANY: [(&str, &str); 4] = [
+    ("x=1 xmlns=u", "10001 attributes"),
+    ("x=1 x=2", "DuplicateAttribute"),
+    ("x=1 a9999=2", "DuplicateAttribute"),
+    ("a0=1 x=2", "DuplicateAttribute"),
 ];
 
 // A tag's cost grows nearly as its attributes do, or this takes too long.
@@ -158,10 +177,10 @@ static MANY: [((&str, &str), (&str, &str), &str); 4] = [
 fn many_attributes(rt: HostRuntime) -> Result<(), Fail> {
     let alloc = rt.alloc();
     let name = Text::of(alloc, "a")?;
-    for (first, second, wanted) in &MANY {
-        let attrs = many(alloc, 10_000, *first, *second)?;
+    for (others, wanted) in &MANY {
+        let attrs = many(alloc, 10_000, others)?;
         let found = count(alloc, &Scopes::new(alloc).enter(&name, &attrs))?;
-        assert_eq!(rt; found.as_str(), *wanted, "with {first:?} and {second:?}");
+        assert_eq!(rt; found.as_str(), *wanted, "with {others}");
     }
     Ok(())
 }
