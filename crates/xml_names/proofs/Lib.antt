@@ -1,5 +1,6 @@
 pub mod Texts
 pub mod QNames
+pub mod Declared
 pub mod Places
 pub mod Index
 pub mod Lists

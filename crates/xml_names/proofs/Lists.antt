@@ -1,7 +1,7 @@
 -- Lists that are read item by item.
-use Rattle.std.proofs.Common.{◌≡◌, ℕ, ◌+◌, ◌<◌, List, [], ◌∷◌, ◌++◌, Option, Some, None, length, take, get_or, refl, sym, ap, ◌∙◌}
+use Rattle.std.proofs.Common.{◌≡◌, ℕ, ◌+◌, ◌<◌, List, [], ◌∷◌, ◌++◌, Option, Some, None, length, take, get_or, refl, sym, ap, ◌∙◌, append_assoc}
 use Rattle.std.specs.List.{filter_map, cons_option}
-use Rattle.std.proofs.lemmas.List.{take_more, append-nil}
+use Rattle.std.proofs.lemmas.List.{take_more}
 
 module _ {X Y : Type 0} (f : X → Option Y) where
   filter_map-some : (xs : List X) (x : X) (y : Y) → f x ≡ Some y → filter_map f (xs ++ x ∷ []) ≡ filter_map f xs ++ y ∷ []
@@ -25,3 +25,11 @@ module _ {X Y : Type 0} (f : X → Option Y) where
 
     pub filter_map-more_none : f x ≡ None → filter_map f (take (i + 1) xs) ≡ filter_map f (take i xs)
     filter_map-more_none p = ap (filter_map f) taken ∙ filter_map-none (take i xs) x p
+
+  -- one item less is left
+  module _ (made : List Y) (x : X) (rest : List X) where
+    pub filter_map-next_some : (y : Y) → f x ≡ Some y → (made ++ y ∷ []) ++ filter_map f rest ≡ made ++ filter_map f (x ∷ rest)
+    filter_map-next_some y e = append_assoc made (y ∷ []) (filter_map f rest) ∙ ap (λ o. made ++ cons_option o (filter_map f rest)) (sym e)
+
+    pub filter_map-next_none : f x ≡ None → made ++ filter_map f rest ≡ made ++ filter_map f (x ∷ rest)
+    filter_map-next_none e = ap (λ o. made ++ cons_option o (filter_map f rest)) (sym e)

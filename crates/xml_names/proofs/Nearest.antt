@@ -1,11 +1,11 @@
 -- The nearest declaration of a prefix.
-use Rattle.std.proofs.Common.{◌≡◌, ◌≢◌, ◌⊎◌, inl, inr, ℕ, Bool, true, false, not, ◌||◌, ◌&&◌, List, [], ◌∷◌, ◌++◌, Option, Some, None, refl, sym, ap, ◌∙◌, codes, append_assoc}
+use Rattle.std.proofs.Common.{◌≡◌, ◌≢◌, ◌⊎◌, inl, inr, ℕ, Bool, true, false, not, List, [], ◌∷◌, ◌++◌, Option, Some, None, refl, sym, ap, ◌∙◌, codes, append_assoc}
 use Rattle.std.specs.Prelude.{is_some, unwrap_or, if◌then◌else◌}
-use Rattle.std.specs.List.{list_all, list_any}
+use Rattle.std.specs.List.{list_all}
 use Rattle.std.specs.Option.{option_or}
 use Rattle.std.proofs.lemmas.Bool.{and_parts, or_parts, not-true, cases_Bool}
 use Rattle.stx_base.specs.declared.name.Binding.{Binding}
-use Rattle.xml_names.specs.Scope.{same, last_uri, declared_on, unless_empty, bound, xml_uri, is_empty}
+use Rattle.xml_names.specs.Scope.{same, last_uri, declared_on, unless_empty, bound, xml_uri}
 use Rattle.xml_names.specs.Laws.{declares, AreSilent}
 use Rattle.xml_names.proofs.Paths.{bound-is}
 use Rattle.xml_names.proofs.Places.{last_uri-append}

@@ -1,12 +1,13 @@
 -- Paths of declarations.
-use Rattle.std.proofs.Common.{◌≡◌, ℕ, zero, suc, ◌+◌, ◌-◌, ◌<◌, ◌≤◌, Bool, true, false, List, [], ◌∷◌, ◌++◌, Option, Some, None, length, take, drop, refl, sym, ap, ◌∙◌, arith, codes}
+use Rattle.std.proofs.Common.{◌≡◌, ℕ, suc, ◌+◌, ◌-◌, ◌≤◌, true, false, List, [], ◌∷◌, ◌++◌, Some, None, length, take, drop, refl, sym, ap, ◌∙◌, arith, codes}
 use Rattle.std.specs.Prelude.{if◌then◌else◌}
-use Rattle.std.specs.List.{flat_map}
 use Rattle.std.proofs.lemmas.List.{length-append, length-take, length-drop, take-append-drop, take-append-le, drop-append-le, take_at, take_all, nil_from_length}
 use Rattle.stx_base.specs.declared.name.Binding.{Binding}
 use Rattle.stx_base.specs.declared.name.Name.{Name}
-use Rattle.xml_names.specs.Scope.{same, last_uri, declared_on, unless_empty, bound, xml_uri, is_empty}
+use Rattle.xml_names.specs.QName.{has_colon}
+use Rattle.xml_names.specs.Scope.{same, last_uri, declared_on, unless_empty, bound, xml_uri, is_empty, attribute_uri, attribute_name}
 use Rattle.xml_names.specs.Scopes.{parted, total}
+use Rattle.xml_names.proofs.QNames.{prefix_of-none, local_of-none}
 
 -- one element more
 pub parted-more : (ns : List ℕ) (n : ℕ) (bs d : List Binding) → total ns ≡ length bs → length d ≡ n → parted (ns ++ n ∷ []) (bs ++ d) ≡ parted ns bs ++ d ∷ []
@@ -75,3 +76,9 @@ same-names u v l m p q e f g =
     ap (λ x. let a : Name = record { uri = x; local = l; prefix = p } in a) e
     ∙ ap (λ x. let a : Name = record { uri = v; local = x; prefix = p } in a) f
     ∙ ap (λ x. let a : Name = record { uri = v; local = m; prefix = x } in a) g
+
+-- an attribute without a prefix has the name that is written
+pub unprefixed-name : (path : List (List Binding)) (name : List ℕ) → has_colon name ≡ false → (let a : Name = record { uri = []; local = name; prefix = [] } in a ≡ attribute_name path name)
+unprefixed-name path name none =
+    let p = prefix_of-none name none in
+    same-names _ _ _ _ _ _ (sym (ap (attribute_uri path) p)) (sym (local_of-none name none)) (sym p)

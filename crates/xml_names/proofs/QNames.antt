@@ -1,7 +1,7 @@
 -- Names that are taken apart at their first colon.
-use Rattle.std.proofs.Common.{◌≡◌, ◌≢◌, ◌⊎◌, inl, inr, ℕ, zero, suc, ◌+◌, ◌<◌, ◌≤◌, Bool, true, false, not, cond, ◌==◌, ◌||◌, ◌&&◌, List, [], ◌∷◌, ◌++◌, length, take, drop, get_or, Option, Some, None, Bor, refl, sym, ap, ◌∙◌, arith, subst, IsUtf8, encode_utf8_all}
-use Rattle.std.specs.Prelude.{if◌then◌else◌}
-use Rattle.std.specs.List.{list_any, list_all, before_first, after_first, position_or_len, prefix_len}
+use Rattle.std.proofs.Common.{◌≡◌, ◌⊎◌, inl, inr, ℕ, zero, suc, ◌+◌, ◌<◌, Bool, true, false, not, cond, ◌==◌, ◌||◌, ◌&&◌, List, [], ◌∷◌, ◌++◌, length, take, drop, get_or, Option, Some, None, Bor, refl, sym, ap, ◌∙◌, arith, subst, IsUtf8}
+use Rattle.std.specs.Prelude.{if◌then◌else◌, is_some}
+use Rattle.std.specs.List.{list_any, list_all, before_first, after_first, position_or_len}
 use Rattle.std.specs.Option.{option_map_or}
 use Rattle.std.specs.Prelude.{slice_get}
 use Rattle.std.specs.Str.{chars, IsAscii, NoCharPasses, NonePass}
@@ -163,6 +163,16 @@ split-some bs x utf8 h =
 
 pub split-none : (bs : List ℕ) → IsUtf8 bs → NoCharPasses (λ d. d == 0x3A) bs → has_colon (chars bs) ≡ false
 split-none bs utf8 h = none-passes bs utf8 h
+
+pub split-is_none : (bs : List ℕ) (o : Option (Bor (List ℕ) × Bor (List ℕ))) (none : Bool) → IsUtf8 bs → IsSplitOnceResult 0x3A bs o → is_some o ≡ not none → none ≡ not (has_colon (chars bs))
+split-is_none bs o none utf8 h e = flip none (has_colon (chars bs)) (sym e ∙ by_case o h) where
+  by_case : (o : Option (Bor (List ℕ) × Bor (List ℕ))) → IsSplitOnceResult 0x3A bs o → is_some o ≡ has_colon (chars bs)
+  by_case None h = sym (split-none bs utf8 h)
+  by_case (Some x) h = sym (split-some bs x utf8 h).some
+
+  flip : (a b : Bool) → not a ≡ b → a ≡ not b
+  flip true b e = ap not e
+  flip false b e = ap not e
 
 pub cut-qname : (bs front back : List ℕ) → IsCut bs front back → is_qname (chars bs) ≡ (is_ncname (chars front) && is_ncname (chars back))
 cut-qname bs front back cut =

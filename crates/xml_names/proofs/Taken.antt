@@ -3,7 +3,7 @@ use Rattle.std.proofs.Common.{◌≡◌, ◌≢◌, ◌⊎◌, inl, inr, ℕ, ze
 use Rattle.std.specs.Prelude.{is_some, unwrap_or, slice_get, if◌then◌else◌}
 use Rattle.std.specs.List.{list_all, list_any, filter_map, cons_option}
 use Rattle.std.specs.Option.{option_map}
-use Rattle.std.proofs.lemmas.Bool.{and_parts, or_parts, not-true, not-false, cases_Bool}
+use Rattle.std.proofs.lemmas.Bool.{and_parts, or_parts, not-false, cases_Bool}
 use Rattle.stx_base.specs.Character.{is_ncname}
 use Rattle.stx_base.specs.declared.fault.XmlKind.{XmlKind}
 use Rattle.stx_base.specs.declared.fault.XmlKind.TheVariants as kind
@@ -12,10 +12,10 @@ use Rattle.stx_base.specs.declared.name.Binding.{Binding}
 use Rattle.xml_tokens.specs.declared.lexeme.RawAttr.{RawAttr}
 use Rattle.xml_names.specs.QName.{prefix_of, local_of, is_qname}
 use Rattle.xml_names.specs.Scope.{same, bound, is_empty, attribute_name}
-use Rattle.xml_names.specs.Tag.{has_bad_name, has_bad_binding, has_undeclared_prefix, has_duplicate, has_twins, same_written, same_expanded, name_fault, scope_fault, into, attributes, attribute, declarations, declaration, declared_prefix, is_element_bound, is_attribute_bound, is_prefix_bound, resolved}
+use Rattle.xml_names.specs.Tag.{has_bad_name, has_bad_binding, has_undeclared_prefix, has_duplicate, has_twins, same_written, same_expanded, name_fault, scope_fault, into, attributes, attribute, declaration, declared_prefix, is_element_bound, is_attribute_bound, is_prefix_bound, resolved}
 use Rattle.xml_names.proofs.Nearest.{bound-full}
 use Rattle.xml_names.proofs.QNames.{spelled}
-use Rattle.xml_names.proofs.Texts.{same-true, same-refl, empty-true}
+use Rattle.xml_names.proofs.Texts.{same-true, same-refl}
 
 no-fault : (t : Bool) (k : XmlKind) (o : Option XmlKind) → (if t then Some k else o) ≡ None → (t ≡ false) × (o ≡ None)
 no-fault true k o h = absurd (cc)

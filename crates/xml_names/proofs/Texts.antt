@@ -1,5 +1,5 @@
 -- Texts as characters and as bytes.
-use Rattle.std.proofs.Common.{◌≡◌, ◌≢◌, ℕ, Bool, true, false, ◌==◌, List, [], ◌∷◌, length, refl, sym, ap, ◌∙◌, IsUtf8, encode_utf8_all, codes, zero, suc, ◌<◌, arith, subst}
+use Rattle.std.proofs.Common.{◌≡◌, ◌≢◌, ℕ, true, ◌==◌, List, [], ◌∷◌, length, refl, sym, ap, ◌∙◌, IsUtf8, encode_utf8_all, zero, suc, arith}
 use Rattle.std.specs.Prelude.{bytes_eq, nat_lt, encode_utf8}
 use Rattle.std.specs.List.{list_all}
 use Rattle.std.specs.Str.{chars, IsAscii}
@@ -38,7 +38,7 @@ pub empty-true : (a : List ℕ) → is_empty a ≡ true → a ≡ []
 empty-true [] h = refl
 empty-true (c ∷ cs) h = absurd (cc)
 
-ascii : (w : List ℕ) → list_all (λ b. nat_lt b 128) w ≡ true → IsAscii w
+pub ascii : (w : List ℕ) → list_all (λ b. nat_lt b 128) w ≡ true → IsAscii w
 ascii [] h i = omega arith
 ascii (b ∷ bs) h zero = let here = (and_parts (nat_lt b 128) (list_all (λ b. nat_lt b 128) bs) h).0 in ltb-true b 128 here
 ascii (b ∷ bs) h (suc i) = ascii bs (and_parts (nat_lt b 128) (list_all (λ b. nat_lt b 128) bs) h).1 i

@@ -5,7 +5,6 @@ ghost use Rattle.std.specs.Option.{option_map};
 ghost use Rattle.std.specs.Str.{chars};
 ghost use Rattle.xml_names.specs.Tag as spec;
 
-use crate::parts::parts_of;
 use crate::words::{agree, is_empty, is_word};
 use std::alloc::Global;
 use stx_base::{Binding, Copied, List, Memory, Text};
@@ -19,14 +18,11 @@ const XMLNS_URI: &'static str = "http://www.w3.org/2000/xmlns/";
 pub fn declared_prefix(name: &str) -> Option<&str>
     ensures { option_map (λ prefix. chars prefix.now) result ≡ spec.declared_prefix (chars name.now) }
 {
-    if is_word(name, "xmlns") {
-        return Some("");
-    }
-    let parts = parts_of(name);
-    if is_word(parts.prefix, "xmlns") {
-        Some(parts.local)
+    let rest = name.strip_prefix("xmlns")?;
+    if is_empty(rest) {
+        Some("")
     } else {
-        None
+        rest.strip_prefix(':')
     }
 }
 

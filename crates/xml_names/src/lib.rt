@@ -7,8 +7,6 @@ pub mod laws;
 mod parts;
 mod resolved;
 mod scopes;
-#[cfg(test)]
-mod tests;
 mod twins;
 mod words;
 

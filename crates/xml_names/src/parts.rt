@@ -1,4 +1,4 @@
-ghost use Rattle.std.specs.Prelude.{◌≡◌};
+ghost use Rattle.std.specs.Prelude.{◌≡◌, not};
 ghost use Rattle.std.specs.Str.{chars};
 ghost use Rattle.xml_names.specs.QName as spec;
 
@@ -10,6 +10,13 @@ pub struct Parts<'a> {
     /// Empty where the name has no colon.
     pub prefix: &'a str,
     pub local: &'a str,
+}
+
+/// Whether a name has no colon.
+pub fn is_unprefixed(name: &str) -> bool
+    ensures { result ≡ not (spec.has_colon (chars name.now)) }
+{
+    name.split_once(':').is_none()
 }
 
 pub fn parts_of(name: &str) -> Parts<'_>

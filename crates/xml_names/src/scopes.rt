@@ -10,13 +10,13 @@ ghost use Rattle.xml_names.specs.Tag.{declarations, name_fault, resolved, scope_
 
 use crate::declaration::{XML_URI, declarations, declared_prefix, has_bad_binding};
 use crate::in_force::InForce;
-use crate::parts::{Parts, is_qname, parts_of};
+use crate::parts::{Parts, is_qname, is_unprefixed, parts_of};
 use crate::resolved::{NameFault, Resolved};
-use crate::twins::has_duplicate;
+use crate::twins::{has_expanded_twins, has_written_twins};
 use crate::words::{is_empty, is_word};
 use std::alloc::Global;
 use std::marker::Model;
-use stx_base::{Attr, Binding, Copied, List, Memory, Name, Text, XmlKind};
+use stx_base::{Attr, Binding, List, Memory, Name, Text, XmlKind};
 use xml_tokens::RawAttr;
 
 /// The elements from the document's root to where it is read, with what each of them declares.
@@ -60,23 +60,22 @@ impl Scopes {
         self.counts.len()
     }
 
-    /// Enters an element by its start tag. After a refusal all is unchanged.
-    pub fn enter(&mut self, name: &Text, attrs: &List<RawAttr>) -> Result<Resolved, NameFault>
+    /// Enters an element by its start tag. After a refusal the scopes are unchanged, and the attributes are dropped.
+    pub fn enter(&mut self, name: &Text, attrs: List<RawAttr>) -> Result<Resolved, NameFault>
         // It is taken only where it has no fault.
-        ensures taken { OnOk result (name_fault self.old name.now attrs.now ≡ None) }
-        ensures fault { IfErr result (IsCause (name_fault self.old name.now attrs.now)) }
-        ensures value { IfOk result (λ tag. tag ≡ resolved self.old name.now attrs.now) }
-        ensures ok { OnOk result (self.new ≡ self.old ++ declarations attrs.now ∷ []) }
+        ensures taken { OnOk result (name_fault self.old name.now attrs ≡ None) }
+        ensures fault { IfErr result (IsCause (name_fault self.old name.now attrs)) }
+        ensures value { IfOk result (λ tag. tag ≡ resolved self.old name.now attrs) }
+        ensures ok { OnOk result (self.new ≡ self.old ++ declarations attrs ∷ []) }
         ensures err { OnErr result (self.new ≡ self.old) }
     {
-        let attrs = attrs.as_slice();
-        if has_bad_name(name, attrs) {
+        if has_bad_name(name, attrs.as_slice()) {
             return Err(NameFault::Xml(XmlKind::BadName));
         }
-        if has_bad_binding(attrs) {
+        if has_bad_binding(attrs.as_slice()) {
             return Err(NameFault::Xml(XmlKind::BadBinding));
         }
-        let decls = declarations(self.alloc, attrs)?;
+        let decls = declarations(self.alloc, attrs.as_slice())?;
         self.declare(&decls)?;
         match self.resolve(name, attrs, decls) {
             Ok(tag) => Ok(tag),
@@ -140,26 +139,25 @@ impl Scopes {
     fn resolve(
         &self,
         name: &Text,
-        attrs: &[RawAttr],
+        attrs: List<RawAttr>,
         decls: List<Binding>,
     ) -> Result<Resolved, NameFault>
-        ensures taken { OnOk result (scope_fault self.now name.now attrs.now ≡ None) }
-        ensures fault { IfErr result (IsCause (scope_fault self.now name.now attrs.now)) }
-        ensures value { IfOk result (λ tag. tag ≡ spec.said self.now name.now attrs.now decls) }
+        ensures taken { OnOk result (scope_fault self.now name.now attrs ≡ None) }
+        ensures fault { IfErr result (IsCause (scope_fault self.now name.now attrs)) }
+        ensures value { IfOk result (λ tag. tag ≡ spec.said self.now name.now attrs decls) }
     {
-        if self.has_undeclared_prefix(name.as_str(), attrs) {
+        if self.has_undeclared_prefix(name.as_str(), attrs.as_slice()) {
             return Err(NameFault::Xml(XmlKind::UndeclaredPrefix));
         }
-        let resolved = self.attributes(attrs)?;
-        if has_duplicate(self.alloc, attrs, resolved.as_slice())? {
+        if has_written_twins(self.alloc, attrs.as_slice())? {
+            return Err(NameFault::Xml(XmlKind::DuplicateAttribute));
+        }
+        let attrs = self.attributes(attrs)?;
+        if has_expanded_twins(self.alloc, attrs.as_slice())? {
             return Err(NameFault::Xml(XmlKind::DuplicateAttribute));
         }
         let name = self.element_name(name.as_str())?;
-        Ok(Resolved {
-            name,
-            attrs: resolved,
-            decls,
-        })
+        Ok(Resolved { name, attrs, decls })
     }
 
     fn is_prefix_bound(&self, prefix: &str) -> bool
@@ -222,30 +220,49 @@ impl Scopes {
         }
     }
 
-    fn attribute_name(&self, name: &str) -> Result<Name, Memory>
-        ensures { IfOk result (λ made. made ≡ scope.attribute_name self.now (chars name.now)) }
+    /// Only what a prefix parts from the name is copied.
+    fn attribute_name(&self, name: Text) -> Result<Name, Memory>
+        ensures { IfOk result (λ made. made ≡ scope.attribute_name self.now name) }
     {
-        let parts = parts_of(name);
+        if is_unprefixed(name.as_str()) {
+            return Ok(Name {
+                uri: Text::new(self.alloc),
+                local: name,
+                prefix: Text::new(self.alloc),
+            });
+        }
+        let parts = parts_of(name.as_str());
         self.name(self.attribute_uri(parts.prefix), parts)
     }
 
     fn name(&self, uri: &str, parts: Parts<'_>) -> Result<Name, Memory>
         ensures { IfOk result (λ made. made ≡ record { uri = chars uri.now; local = chars parts.entry.local.now; prefix = chars parts.entry.prefix.now }) }
     {
-        let uri = Text::of(self.alloc, uri)?;
-        let local = Text::of(self.alloc, parts.local)?;
-        let prefix = Text::of(self.alloc, parts.prefix)?;
+        let uri = self.text(uri)?;
+        let local = self.text(parts.local)?;
+        let prefix = self.text(parts.prefix)?;
         Ok(Name { uri, local, prefix })
     }
 
-    fn attributes(&self, attrs: &[RawAttr]) -> Result<List<Attr>, Memory>
-        ensures { IfOk result (λ made. made ≡ spec.attributes self.now attrs.now) }
+    /// The same characters. Most names have neither URI nor prefix, and the empty text is made without a copy.
+    fn text(&self, text: &str) -> Result<Text, Memory>
+        ensures { IfOk result (λ made. made ≡ chars text.now) }
+    {
+        if is_empty(text) {
+            Ok(Text::new(self.alloc))
+        } else {
+            Text::of(self.alloc, text)
+        }
+    }
+
+    fn attributes(&self, attrs: List<RawAttr>) -> Result<List<Attr>, Memory>
+        ensures { IfOk result (λ made. made ≡ spec.attributes self.now attrs) }
     {
         let mut made = List::new(self.alloc);
-        for attr in attrs {
-            if declared_prefix(attr.name.as_str()).is_none() {
-                let name = self.attribute_name(attr.name.as_str())?;
-                let value = attr.value.copy(self.alloc)?;
+        for attr in attrs.into_vec() {
+            let RawAttr { name, value } = attr;
+            if declared_prefix(name.as_str()).is_none() {
+                let name = self.attribute_name(name)?;
                 made.push(Attr { name, value })?;
             }
         }

@@ -1,6 +1,6 @@
 //! Attributes that have one name.
 
-ghost use Rattle.std.specs.Prelude.{◌≡◌, ◌||◌, IfOk};
+ghost use Rattle.std.specs.Prelude.{◌≡◌, IfOk};
 ghost use Rattle.std.specs.List.{list_any};
 ghost use Rattle.xml_names.specs.Tag.{has_twins, same_expanded, same_written};
 
@@ -12,14 +12,25 @@ use xml_tokens::RawAttr;
 // Up to so many attributes it takes less time to compare each pair than to keep a set.
 const FEW: usize = 8;
 
-/// Whether two attributes of a tag have one name, as written or as expanded (XML 1.0, 3.1; Namespaces in XML 1.0, 6.3).
-pub fn has_duplicate(alloc: Global, written: &[RawAttr], expanded: &[Attr]) -> Result<bool, Memory>
-    ensures { IfOk result (λ found. found ≡ (has_twins same_written written.now || has_twins same_expanded expanded.now)) }
+/// Whether two attributes of a tag have one name as written (XML 1.0, 3.1).
+pub fn has_written_twins(alloc: Global, attrs: &[RawAttr]) -> Result<bool, Memory>
+    ensures { IfOk result (λ found. found ≡ has_twins same_written attrs.now) }
 {
-    if written.len() <= FEW {
-        Ok(has_equal_pair(written) || has_equal_names(expanded))
+    if attrs.len() <= FEW {
+        Ok(has_equal_pair(attrs))
     } else {
-        Ok(has_repeated(alloc, written)? || has_repeated_names(alloc, expanded)?)
+        has_repeated(alloc, attrs)
+    }
+}
+
+/// Whether two attributes have one expanded name (Namespaces in XML 1.0, 6.3).
+pub fn has_expanded_twins(alloc: Global, attrs: &[Attr]) -> Result<bool, Memory>
+    ensures { IfOk result (λ found. found ≡ has_twins same_expanded attrs.now) }
+{
+    if attrs.len() <= FEW {
+        Ok(has_equal_names(attrs))
+    } else {
+        has_repeated_names(alloc, attrs)
     }
 }
 

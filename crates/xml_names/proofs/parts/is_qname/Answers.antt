@@ -1,4 +1,4 @@
-use Rattle.std.proofs.Common.{sym, ap, ◌∙◌, Bool, true, false, not, ◌&&◌, ◌||◌}
+use Rattle.std.proofs.Common.{sym, ap, ◌∙◌, ◌&&◌}
 use Rattle.std.specs.Str.{chars}
 use Rattle.stx_base.specs.Character.{is_ncname}
 use Rattle.xml_names.proofs.QNames.{split-some, split-none, cut-qname, whole-qname}

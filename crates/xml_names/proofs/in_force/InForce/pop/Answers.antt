@@ -1,4 +1,4 @@
-use Rattle.std.proofs.Common.{◌∙◌, sym, rules}
+use Rattle.std.proofs.Common.{◌∙◌, rules}
 use Rattle.xml_names.proofs.Index.{without, has-last}
 use Rattle.xml_names.proofs.in_force.InForce.pop.Goals as goal
 

@@ -1,4 +1,4 @@
-use Rattle.std.proofs.Common.{◌≡◌, ◌∙◌, sym, ap, Some, None}
+use Rattle.std.proofs.Common.{◌∙◌, sym, ap}
 use Rattle.std.specs.Option.{option_map, option_copied}
 use Rattle.std.specs.Str.{chars}
 use Rattle.xml_names.specs.Scope.{last_uri}

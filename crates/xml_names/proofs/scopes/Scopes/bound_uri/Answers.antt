@@ -1,4 +1,4 @@
-use Rattle.std.proofs.Common.{◌∙◌, ap, []}
+use Rattle.std.proofs.Common.{ap, []}
 use Rattle.std.specs.Prelude.{unwrap_or}
 use Rattle.std.specs.Str.{chars}
 use Rattle.xml_names.proofs.scopes.Scopes.bound_uri.Goals as goal

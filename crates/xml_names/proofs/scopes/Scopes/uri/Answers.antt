@@ -1,4 +1,4 @@
-use Rattle.std.proofs.Common.{◌≡◌, ◌∙◌, sym, ap, refl, Some, None}
+use Rattle.std.proofs.Common.{◌∙◌, sym, ap, refl, Some}
 use Rattle.std.specs.Option.{option_map}
 use Rattle.std.specs.Str.{chars}
 use Rattle.xml_names.specs.Scope.{xml_uri, declared_on, is_empty}

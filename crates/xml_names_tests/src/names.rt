@@ -1,13 +1,12 @@
 //! Tags entered and left, and what they say (Namespaces in XML 1.0, 2 to 6).
 
-mod rows;
-
-use crate::{NameFault, Resolved, Scopes};
+use crate::rows;
 use std::alloc::Global;
 use std::fmt::Write;
 use std::process::Abort;
 use std::test::Fail;
 use stx_base::{List, Memory, Name, Text};
+use xml_names::{NameFault, Resolved, Scopes};
 use xml_tokens::RawAttr;
 
 const XML_URI: &str = "http://www.w3.org/XML/1998/namespace";
@@ -112,8 +111,8 @@ fn answer(alloc: Global, scopes: &mut Scopes, step: &str, out: &mut String) -> R
         let uri = scopes.lookup(&Text::of(alloc, prefix)?);
         return Ok(write!(out, "{prefix}={}", uri.unwrap_or("none"))?);
     }
-    let tag = tag_of(alloc, step)?;
-    tell_tag(&scopes.enter(&tag.name, &tag.attrs), out)
+    let Tag { name, attrs } = tag_of(alloc, step)?;
+    tell_tag(&scopes.enter(&name, attrs), out)
 }
 
 /// The answers to the steps that have one. After a refusal nothing has changed, so the steps go on.
@@ -179,7 +178,7 @@ fn many_attributes(rt: HostRuntime) -> Result<(), Fail> {
     let name = Text::of(alloc, "a")?;
     for (others, wanted) in &MANY {
         let attrs = many(alloc, 10_000, others)?;
-        let found = count(alloc, &Scopes::new(alloc).enter(&name, &attrs))?;
+        let found = count(alloc, &Scopes::new(alloc).enter(&name, attrs))?;
         assert_eq!(rt; found.as_str(), *wanted, "with {others}");
     }
     Ok(())
