@@ -1,0 +1,16 @@
+pub mod Telling
+pub mod Names
+pub mod Fronts
+pub mod Lexing
+pub mod Reading
+pub mod Stepping
+pub mod Counting
+pub mod Feeding
+pub mod Running
+pub mod Over
+pub mod Faults
+pub mod Flattening
+pub mod Treeing
+pub mod Unflattening
+pub mod Ending
+pub mod Widths

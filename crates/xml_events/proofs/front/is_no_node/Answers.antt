@@ -1,0 +1,13 @@
+use Rattle.std.proofs.Common.{◌≡◌, ◌∙◌, ap, rules, tests}
+use Rattle.std.proofs.lemmas.Iterator.{YieldsList-from_chars}
+use Rattle.std.proofs.lemmas.Iterator.Search.{all_from_yields_List}
+use Rattle.std.specs.List.{list_all}
+use Rattle.stx_base.specs.Character.{is_space}
+use Rattle.xml_events.proofs.Fronts.{no-node-is}
+use Rattle.xml_events.proofs.front.is_no_node.Goals as goal
+
+pub returns-then-strip : goal.returns-then-strip
+returns-then-strip c =
+    let all : c.all.result ≡ list_all is_space c.args.text.now =
+    all_from_yields_List is_space _ _ _ c.all.ensures.ran (YieldsList-from_chars c.as_str.result.now c.as_str.utf8 cc) (λ x b q k. search (rules, tests)) ∙ ap (list_all is_space) c.as_str.ensures.chars in
+    no-node-is c.args.strip c.args.text.now c.all.result c.if-strip.true (search rules) all

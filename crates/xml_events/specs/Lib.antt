@@ -1,0 +1,13 @@
+pub mod Tree
+pub mod Before
+pub mod Lexed
+pub mod Document
+pub mod Telling
+pub mod Flatten
+pub mod Source
+pub mod Answering
+pub mod Taking
+pub mod Fronts
+pub mod Cores
+pub mod Laws
+pub mod Run

@@ -1,0 +1,23 @@
+//! Laws about the definitions that the reader's contract cites. They do nothing.
+ghost use Rattle.xml_events.specs.Laws.{EndsThere, FirstFault, Flattened, GoesOnFed, HasDocument, IsTree, NoFault, OnlyTree};
+
+/// What a reader has before it is the document's tree, however its bytes come.
+pub fn documents()
+    ensures begins { HasDocument }
+    ensures fed { GoesOnFed }
+    ensures ended { EndsThere }
+{}
+
+/// How far a document is read, and why it goes no further.
+pub fn first_fault()
+    ensures fault { FirstFault }
+    ensures none { NoFault }
+{}
+
+/// The tree of a document, before texts are stripped and nodes are marked, is the one cut tree that flattens to its lexemes.
+pub fn flattened()
+    ensures tree { IsTree }
+    ensures lexemes { Flattened }
+    // No other tree does.
+    ensures only { OnlyTree }
+{}

@@ -1,0 +1,231 @@
+ghost use Rattle.std.specs.Prelude.{◌≡◌, ◌≤◌, ◌<◌, ◌^◌, ◌+◌, ◌&&◌, nat_lt, nat_le, true, false, length, IfOk, IfErr};
+ghost use Rattle.xml_events.specs.Before as spec;
+ghost use Rattle.xml_events.specs.Document.{text_items};
+ghost use Rattle.xml_tokens.specs.declared.lexeme.Body.TheVariants as body;
+
+use std::alloc::{AllocError, Global};
+use stx_base::{Limits, List, Memory, Text, XmlKind};
+use xml_names::{NameFault, Resolved, Scopes};
+use xml_tokens::{Body, RawAttr};
+
+/// What a lexeme is in a document's tree.
+#[derive(Debug, Drop)]
+pub enum Word {
+    /// A start tag.
+    Open(Resolved),
+    /// An empty-element tag.
+    Empty(Resolved),
+    /// An end tag.
+    Close,
+    /// Characters inside the root.
+    Text(Text),
+    Comment(Text),
+    Pi { target: Text, text: Text },
+    /// No part of the tree.
+    Nothing,
+}
+
+/// Why a lexeme is not taken.
+#[derive(Clone, Copy, Debug, PartialEq, Eq)]
+pub enum Refusal {
+    Xml(XmlKind),
+    Memory,
+}
+
+impl From<Memory> for Refusal {
+    ghost use Rattle.std.specs.Prelude.{◌≡◌};
+    ghost use Rattle.xml_events.specs.declared.place.Refusal.TheVariants as refusal;
+
+    ghost from_gives = { λ memory answer. answer ≡ refusal.Memory };
+
+    fn from(_memory: Memory) -> Refusal {
+        Refusal::Memory
+    }
+}
+
+impl From<NameFault> for Refusal {
+    ghost use Rattle.std.specs.Prelude.{◌≡◌};
+    ghost use Rattle.xml_events.specs.Taking.{refused};
+
+    ghost from_gives = { λ fault answer. answer ≡ refused fault };
+
+    fn from(fault: NameFault) -> Refusal {
+        match fault {
+            NameFault::Xml(kind) => Refusal::Xml(kind),
+            NameFault::Memory => Refusal::Memory,
+        }
+    }
+}
+
+/// What stands before a lexeme.
+#[derive(Debug, Drop)]
+pub struct Place {
+    limits: Limits,
+    // The names of the open elements as written, the innermost last.
+    names: List<Text>,
+    scopes: Scopes,
+    // The root's start tag was read.
+    rooted: bool,
+    // A document type declaration was read.
+    typed: bool,
+    // So many characters has the text that stands directly before.
+    chars: u64,
+    ghost counted: { chars ≤ limits.text },
+}
+
+impl Place {
+    ghost use Rattle.xml_events.specs.Taking.{before_of, names_of, IsFit, Refuses, StartsAs, Takes, TakesFitting, Took, text_fault, unfit_at};
+
+    pub fn new(alloc: Global, limits: Limits) -> Place
+        ensures { StartsAs limits result }
+    {
+        Place {
+            limits,
+            names: List::new(alloc),
+            scopes: Scopes::new(alloc),
+            rooted: false,
+            typed: false,
+            chars: 0,
+        }
+    }
+
+    /// Whether the root was read to its end.
+    pub fn is_complete(&self) -> bool
+        ensures { result ≡ spec.is_complete (before_of self.now) }
+    {
+        self.rooted && !self.is_inside()
+    }
+
+    /// Takes a lexeme, unless it has a fault here. Where it has one nothing has changed.
+    pub fn take(&mut self, body: Body) -> Result<Word, Refusal>
+        requires { IsFit self.old }
+        ensures ok { IfOk result (Takes self.old body self.new) }
+        ensures err { IfErr result (Refuses (spec.fault_of self.old.limits (before_of self.old) body) self.old self.new) }
+        ensures limits { self.new.limits ≡ self.old.limits }
+    {
+        if self.is_misplaced(&body) {
+            return Err(Refusal::Xml(XmlKind::Misplaced));
+        }
+        match body {
+            Body::Chars {
+                text,
+                blank: _blank,
+            } => self.take_text(text),
+            Body::CData { text } => self.take_text(text),
+            Body::Start { name, attrs, empty } => self.take_start(name, attrs, empty),
+            Body::End { name } => self.take_end(&name),
+            Body::Comment { text } => {
+                self.chars = 0;
+                Ok(Word::Comment(text))
+            }
+            Body::Pi { target, text } => {
+                self.chars = 0;
+                Ok(Word::Pi { target, text })
+            }
+            Body::Doctype => {
+                self.typed = true;
+                Ok(Word::Nothing)
+            }
+            Body::Declaration => Ok(Word::Nothing),
+        }
+    }
+
+    // An element is open.
+    fn is_inside(&self) -> bool
+        ensures { result ≡ spec.is_inside (names_of self.now) }
+    {
+        !self.names.is_empty()
+    }
+
+    fn is_misplaced(&self, body: &Body) -> bool
+        ensures { result ≡ spec.is_misplaced (before_of self.now) body.now }
+    {
+        match body {
+            Body::Chars { blank, .. } => !(self.is_inside() || *blank),
+            Body::CData { .. } => !self.is_inside(),
+            Body::Start { .. } => self.is_complete(),
+            Body::Doctype => self.rooted || self.typed,
+            Body::End { .. } => false,
+            Body::Comment { .. } => false,
+            Body::Pi { .. } => false,
+            Body::Declaration => false,
+        }
+    }
+
+    fn take_text(&mut self, text: Text) -> Result<Word, Refusal>
+        requires { IsFit self.old }
+        ensures ok { IfOk result (Took (text_fault self.old text) (spec.behind_text (before_of self.old) text) (λ offset. text_items (before_of self.old) offset text) self.old self.new) }
+        ensures err { IfErr result (Refuses (text_fault self.old text) self.old self.new) }
+        ensures limits { self.new.limits ≡ self.old.limits }
+    {
+        if !self.is_inside() {
+            return Ok(Word::Nothing);
+        }
+        let count = char_count(&text) as u64;
+        if count > self.limits.text - self.chars {
+            return Err(Refusal::Xml(XmlKind::TextTooLong));
+        }
+        self.chars += count;
+        Ok(Word::Text(text))
+    }
+
+    fn take_start(&mut self, name: Text, attrs: List<RawAttr>, empty: bool) -> Result<Word, Refusal>
+        requires { IsFit self.old }
+        ensures ok { IfOk result (TakesFitting self.old (body.Start name attrs empty) self.new) }
+        ensures err { IfErr result (Refuses (unfit_at self.old (body.Start name attrs empty)) self.old self.new) }
+        ensures limits { self.new.limits ≡ self.old.limits }
+    {
+        let tag = self.scopes.enter(&name, attrs)?;
+        if self.is_full() {
+            self.scopes.leave();
+            return Err(Refusal::Xml(XmlKind::TooDeep));
+        }
+        self.rooted = true;
+        self.chars = 0;
+        if empty {
+            self.scopes.leave();
+            return Ok(Word::Empty(tag));
+        }
+        self.names.push(name)?;
+        Ok(Word::Open(tag))
+    }
+
+    // As many elements are open as may be.
+    fn is_full(&self) -> bool
+        ensures { result ≡ spec.is_full self.now.limits (before_of self.now) }
+    {
+        self.names.len() >= self.limits.depth as usize
+    }
+
+    fn take_end(&mut self, name: &Text) -> Result<Word, Refusal>
+        requires { IsFit self.old }
+        ensures ok { IfOk result (TakesFitting self.old (body.End name.now) self.new) }
+        ensures err { IfErr result (Refuses (unfit_at self.old (body.End name.now)) self.old self.new) }
+        ensures limits { self.new.limits ≡ self.old.limits }
+    {
+        if !self.is_innermost(name) {
+            return Err(Refusal::Xml(XmlKind::Mismatch));
+        }
+        let _ = self.names.pop();
+        self.scopes.leave();
+        self.chars = 0;
+        Ok(Word::Close)
+    }
+
+    // The innermost open element has this name.
+    fn is_innermost(&self, name: &Text) -> bool
+        ensures { result ≡ spec.is_innermost name.now (names_of self.now) }
+    {
+        match self.names.last() {
+            Some(innermost) => innermost.same(name),
+            None => false,
+        }
+    }
+}
+
+fn char_count(text: &Text) -> usize
+    ensures count { result ≡ length text.now }
+    ensures small { result < 2 ^ 63 }
+{
+    text.as_str().chars().count()
+}

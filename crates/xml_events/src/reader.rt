@@ -1,0 +1,211 @@
+ghost use Rattle.std.specs.Prelude.{◌≡◌, ◌++◌, ◌∷◌, ◌≤◌, ℕ, Bool, List, ◌<◌, ◌^◌, [], Some, None, false, true, IfOk, OnOk, OnErr};
+ghost use Rattle.xml_tokens.specs.Reader.{fed};
+ghost use Rattle.xml_tokens.specs.declared.lexeme.Ending.TheVariants as ending;
+ghost use Rattle.xml_events.specs.Cores.{answer_of};
+ghost use Rattle.xml_events.specs.Answering.{Counts, EndsWhole, Goes};
+ghost use Rattle.xml_events.specs.Document.{doc};
+ghost use Rattle.xml_events.specs.Source.{ended_there, fed_with, future, source, IsAnswer, Keeps, Leaves, Shrinks};
+ghost use Rattle.xml_events.specs.declared.event.Pull.TheVariants as pull;
+
+use crate::event::{Event, Pull};
+use crate::front::Front;
+use crate::place::{Place, Refusal};
+use std::alloc::Global;
+use std::marker::Model;
+use stx_base::{Limits, Memory, XmlFault, XmlKind};
+use xml_tokens::{Ending, Lexeme, Lexer, Step};
+
+/// Reads a document that comes in pieces, and tells its tree in events.
+#[derive(Debug, Drop)]
+pub struct EventReader {
+    core: Core,
+}
+
+#[derive(Debug, Drop)]
+struct Core {
+    lexer: Lexer,
+    place: Place,
+    front: Front,
+    over: Option<Ending>,
+}
+
+impl Model for EventReader {
+    ghost use Rattle.xml_events.specs.Source.{Source};
+
+    ghost Value = { Source };
+
+    ghost use Rattle.xml_events.specs.Cores.{source_in, IsSoundIn};
+
+    ghost view = { source_in };
+
+    ghost invariant = { IsSoundIn };
+}
+
+impl EventReader {
+    /// A reader of a document that begins; with `strip` a text of white space alone is no node. Allocates nothing.
+    pub fn new(alloc: Global, limits: Limits, strip: bool) -> EventReader
+        ensures source { result ≡ source limits strip }
+        // What is to come is the document's tree, whatever its bytes.
+        ensures document { (bytes : List ℕ) (ended : Bool) → future result bytes ended ≡ doc limits strip bytes ended ∷ [] }
+    {
+        EventReader {
+            core: Core {
+                lexer: Lexer::new(alloc, limits),
+                place: Place::new(alloc, limits),
+                front: Front::new(alloc, strip),
+                over: None,
+            },
+        }
+    }
+
+    /// Takes the document's next bytes. After a refusal nothing has changed.
+    pub fn feed(&mut self, piece: &[u8]) -> Result<(), Memory>
+        requires { self.old.lexer.ended ≡ false }
+        ensures ok { OnOk result (self.new ≡ fed_with self.old piece.now) }
+        ensures err { OnErr result (self.new ≡ self.old) }
+        // The piece is no longer to come, and nothing else has changed.
+        ensures future { OnOk result ((more : List ℕ) (ended : Bool) → future self.new more ended ≡ future self.old (piece.now ++ more) ended) }
+    {
+        self.core.lexer.feed(piece)
+    }
+
+    /// Says that the document ends here.
+    pub fn finish(&mut self)
+        ensures source { self.new ≡ ended_there self.old }
+        ensures future { self.old.lexer.ended ≡ false → (more : List ℕ) (ended : Bool) → future self.new more ended ≡ future self.old [] true }
+    {
+        self.core.lexer.finish();
+    }
+
+    /// The next event, or why there is none. An answer other than an event and `Need` is repeated from then on.
+    pub fn next(&mut self) -> Pull
+        ensures answer { IsAnswer self.old result }
+        ensures leaves { Leaves self.old result self.new }
+        ensures shrinks { Shrinks self.old result self.new }
+        ensures repeats { self.old.over ≡ Some ending.Memory → result ≡ pull.Memory }
+        ensures goes { Goes self.old result self.new }
+        ensures lists { Counts self.old result self.new }
+        ensures whole { EndsWhole self.old result }
+        ensures wants { result ≡ pull.Need → fed self.old.lexer ≤ self.old.lexer.limits.input }
+        ensures keeps { result ≡ pull.Need → Keeps self.new }
+        ensures ended { self.new.lexer.ended ≡ self.old.lexer.ended }
+        ensures fed { fed self.new.lexer ≡ fed self.old.lexer }
+        ensures limits { self.new.limits ≡ self.old.limits }
+        ensures lexer_limits { self.new.lexer.limits ≡ self.old.lexer.limits }
+    {
+        if let Some(over) = self.core.over {
+            return pull_of(over);
+        }
+        match self.core.pull() {
+            Ok(pull) => pull,
+            Err(Memory) => {
+                self.core.over = Some(Ending::Memory);
+                Pull::Memory
+            }
+        }
+    }
+}
+
+impl Core {
+    ghost use Rattle.xml_events.specs.Cores.{Answers, Ends, Fails, IsReading, IsSame, Receives, Steps};
+    ghost use Rattle.xml_events.specs.Before as spec;
+    ghost use Rattle.xml_events.specs.Taking.{before_of, IsFit};
+
+    // No answer is repeated yet.
+    fn pull(&mut self) -> Result<Pull, Memory>
+        requires reads { IsReading self.old }
+        requires going { self.old.over ≡ None }
+        ensures ok { IfOk result (λ answer. Answers self.old answer self.new) }
+        ensures same { IsSame self.old.lexer self.new.lexer }
+        ensures limits { self.new.place.limits ≡ self.old.place.limits }
+    {
+        loop {
+            if let Some(pull) = self.step()? {
+                return Ok(pull);
+            }
+        }
+    }
+
+    // The next answer, unless a lexeme was taken.
+    fn step(&mut self) -> Result<Option<Pull>, Memory>
+        requires reads { IsReading self.old }
+        requires going { self.old.over ≡ None }
+        ensures ok { IfOk result (Steps self.old self.new) }
+        ensures same { IsSame self.old.lexer self.new.lexer }
+        ensures limits { self.new.place.limits ≡ self.old.place.limits }
+    {
+        if let Some(event) = self.front.give() {
+            return Ok(Some(Pull::Event(event)));
+        }
+        self.read()
+    }
+
+    // Reads a lexeme.
+    fn read(&mut self) -> Result<Option<Pull>, Memory>
+        requires reads { IsReading self.old }
+        requires going { self.old.over ≡ None }
+        requires none { self.old.front.known.items ≡ [] }
+        ensures ok { IfOk result (Steps self.old self.new) }
+        ensures same { IsSame self.old.lexer self.new.lexer }
+        ensures limits { self.new.place.limits ≡ self.old.place.limits }
+    {
+        match self.lexer.next() {
+            Step::Lexeme(lexeme) => self.take(lexeme),
+            Step::Need => Ok(Some(Pull::Need)),
+            Step::End => Ok(Some(self.end())),
+            Step::Bad(fault) => Ok(Some(self.fail(fault))),
+            Step::Memory => Err(Memory),
+        }
+    }
+
+    fn take(&mut self, lexeme: Lexeme) -> Result<Option<Pull>, Memory>
+        requires fit { IsFit self.old.place }
+        requires none { self.old.front.known.items ≡ [] }
+        ensures ok { IfOk result (Receives self.old lexeme self.new) }
+        ensures lexer { self.new.lexer ≡ self.old.lexer }
+        ensures limits { self.new.place.limits ≡ self.old.place.limits }
+    {
+        let Lexeme { offset, body } = lexeme;
+        match self.place.take(body) {
+            Ok(word) => {
+                self.front.take(offset, word)?;
+                Ok(None)
+            }
+            Err(Refusal::Xml(kind)) => Ok(Some(self.fail(XmlFault { kind, offset }))),
+            Err(Refusal::Memory) => Err(Memory),
+        }
+    }
+
+    fn fail(&mut self, fault: XmlFault) -> Pull
+        ensures answer { result ≡ pull.Bad fault }
+        ensures fails { Fails fault self.old self.new }
+    {
+        self.over = Some(Ending::Bad(fault));
+        Pull::Bad(fault)
+    }
+
+    // No bytes are left.
+    fn end(&mut self) -> Pull
+        ensures { fed self.old.lexer < 2 ^ 64 → Ends (fed self.old.lexer) (spec.is_complete (before_of self.old.place)) self.old result self.new }
+    {
+        let offset = self.lexer.fed();
+        if !self.place.is_complete() {
+            return self.fail(XmlFault {
+                kind: XmlKind::Truncated,
+                offset,
+            });
+        }
+        self.over = Some(Ending::End);
+        Pull::Event(Event::DocumentEnd { offset })
+    }
+}
+
+fn pull_of(over: Ending) -> Pull
+    ensures { result ≡ answer_of over }
+{
+    match over {
+        Ending::End => Pull::End,
+        Ending::Bad(fault) => Pull::Bad(fault),
+        Ending::Memory => Pull::Memory,
+    }
+}
