@@ -221,11 +221,7 @@ fn faults(rt: HostRuntime) -> Result<(), Fail> {
     check_rows(&rt, rt.alloc(), false, &rows::TRUNCATED)
 }
 
-fn check_depths(
-    rt: &impl Abort,
-    alloc: Global,
-    rows: &[(u32, &str, &str)],
-) -> Result<(), Fail> {
+fn check_depths(rt: &impl Abort, alloc: Global, rows: &[(u32, &str, &str)]) -> Result<(), Fail> {
     for (depth, document, wanted) in rows {
         let limits = Limits {
             depth: *depth,
@@ -339,12 +335,7 @@ fn last_answers(rt: HostRuntime) -> Result<(), Fail> {
     check_again(&rt, rt.alloc(), "<a><b:c:d/></a>", "BadName at 3")
 }
 
-fn check_again(
-    rt: &impl Abort,
-    alloc: Global,
-    document: &str,
-    wanted: &str,
-) -> Result<(), Fail> {
+fn check_again(rt: &impl Abort, alloc: Global, document: &str, wanted: &str) -> Result<(), Fail> {
     let mut reader = EventReader::new(alloc, Limits::standard(), false);
     reader.feed(document.as_bytes())?;
     let mut out = String::new(alloc);
