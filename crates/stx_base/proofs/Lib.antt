@@ -1,3 +1,4 @@
+pub mod AsciiLemmas
 pub mod Course
 pub mod Refinement
 pub mod Termination

@@ -1,10 +1,11 @@
-ghost use Rattle.std.specs.Prelude.{◌≡◌, false, slice_get};
+ghost use Rattle.std.specs.Prelude.{◌≡◌, ◌≤◌, ◌&&◌, nat_lt, false, slice_get};
 ghost use Rattle.std.specs.List.{list_all};
 ghost use Rattle.std.specs.Option.{option_map_or};
 ghost use Rattle.std.specs.Str.{chars};
 ghost use Rattle.stx_base.specs.Character as class;
 
 /// Whether `c` is a Char (XML 1.0, 2.2).
+#[inline]
 pub fn is_char(c: char) -> bool
     ensures { result ≡ class.is_char c }
 {
@@ -15,6 +16,7 @@ pub fn is_char(c: char) -> bool
 }
 
 /// Whether `c` is white space, S (XML 1.0, 2.3).
+#[inline]
 pub fn is_space(c: char) -> bool
     ensures { result ≡ class.is_space c }
 {
@@ -22,15 +24,25 @@ pub fn is_space(c: char) -> bool
 }
 
 /// Whether `c` is a NameStartChar (XML 1.0, 2.3).
+#[inline]
 pub fn is_name_start(c: char) -> bool
+    ensures { result ≡ class.is_name_start c }
+{
+    if c.is_ascii() {
+        matches!(c, 'a'..='z' | 'A'..='Z' | ':' | '_')
+    } else {
+        is_wide_name_start(c)
+    }
+}
+
+/// Whether a character beyond ASCII is a NameStartChar.
+fn is_wide_name_start(c: char) -> bool
+    requires { 128 ≤ c }
     ensures { result ≡ class.is_name_start c }
 {
     matches!(
         c,
-        ':' | 'A'..='Z'
-            | '_'
-            | 'a'..='z'
-            | '\u{C0}'..='\u{D6}'
+        '\u{C0}'..='\u{D6}'
             | '\u{D8}'..='\u{F6}'
             | '\u{F8}'..='\u{2FF}'
             | '\u{370}'..='\u{37D}'
@@ -46,14 +58,23 @@ pub fn is_name_start(c: char) -> bool
 }
 
 /// Whether `c` is a NameChar (XML 1.0, 2.3).
+#[inline]
 pub fn is_name_char(c: char) -> bool
     ensures { result ≡ class.is_name_char c }
 {
-    is_name_start(c)
-        || matches!(
-            c,
-            '-' | '.' | '0'..='9' | '\u{B7}' | '\u{300}'..='\u{36F}' | '\u{203F}'..='\u{2040}'
-        )
+    if c.is_ascii() {
+        matches!(c, 'a'..='z' | 'A'..='Z' | '0'..=':' | '-' | '.' | '_')
+    } else {
+        is_wide_name_char(c)
+    }
+}
+
+/// Whether a character beyond ASCII is a NameChar.
+fn is_wide_name_char(c: char) -> bool
+    requires { 128 ≤ c }
+    ensures { result ≡ class.is_name_char c }
+{
+    is_wide_name_start(c) || matches!(c, '\u{B7}' | '\u{300}'..='\u{36F}' | '\u{203F}'..='\u{2040}')
 }
 
 /// Whether `text` is a Name (XML 1.0, 2.3).
@@ -82,11 +103,25 @@ fn begins_as_name(text: &str) -> bool
 fn holds_name_chars(text: &str) -> bool
     ensures { result ≡ list_all class.is_name_char (chars text.now) }
 {
-    text.chars().all(|c| is_name_char(c))
+    are_ascii_name_chars(text.as_bytes()) || text.chars().all(|c| is_name_char(c))
 }
 
 fn holds_ncname_chars(text: &str) -> bool
     ensures { result ≡ list_all class.is_ncname_char (chars text.now) }
 {
-    text.chars().all(|c| is_name_char(c) && c != ':')
+    are_ascii_ncname_chars(text.as_bytes()) || text.chars().all(|c| is_name_char(c) && c != ':')
+}
+
+fn are_ascii_name_chars(bytes: &[u8]) -> bool
+    ensures { result ≡ list_all (λ b. nat_lt b 128 && class.is_name_char b) bytes.now }
+{
+    bytes
+        .iter()
+        .all(|b| b.is_ascii() && is_name_char(char::from(*b)))
+}
+
+fn are_ascii_ncname_chars(bytes: &[u8]) -> bool
+    ensures { result ≡ list_all (λ b. nat_lt b 128 && class.is_ncname_char b) bytes.now }
+{
+    bytes.iter().all(|b| b.is_ascii() && is_name_char(char::from(*b)) && *b != b':')
 }
