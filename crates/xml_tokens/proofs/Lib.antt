@@ -18,6 +18,9 @@ pub mod LiteralLemmas
 pub mod SaidLemmas
 pub mod PrologLemmas
 pub mod JudgedLemmas
+pub mod FindLemmas
+pub mod OutsideLemmas
+pub mod PlainLemmas
 pub mod TextSpelling
 pub mod TextReading
 pub mod LineSpelling

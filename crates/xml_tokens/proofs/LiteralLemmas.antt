@@ -1,5 +1,5 @@
 -- Bytes that say themselves.
-use Rattle.std.proofs.Common.{◌≡◌, ℕ, suc, ◌+◌, Bool, true, false, not, ◌&&◌, List, [], ◌∷◌, ◌++◌, Ok, length, refl, sym, ap, ◌∙◌, arith, cond}
+use Rattle.std.proofs.Common.{◌≡◌, ℕ, suc, ◌+◌, Bool, true, false, not, ◌&&◌, ◌||◌, List, [], ◌∷◌, ◌++◌, Ok, length, refl, sym, ap, ◌∙◌, arith, cond}
 use Rattle.std.specs.List.{list_all, list_any, position_or_len}
 use Rattle.std.proofs.lemmas.List.{append-nil}
 use Rattle.xml_tokens.specs.Texts.{both, said, first_part, is_ampersand, literal, all_of}
@@ -35,3 +35,20 @@ literal-said place bytes h =
     ap (λ l. both (λ front rest. front ++ rest) (Ok (literal place (first_part is_ampersand bytes))) (all_of place l)) none.1
     ∙ (ap (λ l. both (λ front rest. front ++ rest) (Ok (literal place l)) (Ok [])) none.0
     ∙ (ap (λ l. Ok (l ++ [])) (literal-none place bytes unchanged) ∙ ap (λ l. Ok l) (append-nil bytes)))
+
+-- whether some byte passes one of two tests
+pub any-either : (p q : ℕ → Bool) (bytes : List ℕ) → list_any (λ b. p b || q b) bytes ≡ (list_any p bytes || list_any q bytes)
+any-either p q [] = refl
+any-either p q (b ∷ bs) =
+    ap (λ t. (p b || q b) || t) (any-either p q bs) ∙ spread (p b) (q b) (list_any p bs) (list_any q bs) where
+      spread : (s t u v : Bool) → ((s || t) || (u || v)) ≡ ((s || u) || (t || v))
+      spread true t u v = refl
+      spread false true true v = refl
+      spread false true false v = refl
+      spread false false u v = refl
+
+pub neither-test : (p q : ℕ → Bool) (bytes : List ℕ) (r : Bool) → r ≡ list_any (λ b. p b || q b) bytes → not r ≡ (not (list_any p bytes) && not (list_any q bytes))
+neither-test p q bytes r h = ap not (h ∙ any-either p q bytes) ∙ turn (list_any p bytes) (list_any q bytes) where
+  turn : (s t : Bool) → not (s || t) ≡ (not s && not t)
+  turn true t = refl
+  turn false t = refl

@@ -1,6 +1,6 @@
 -- A search for a shape's end that goes on where an earlier one stopped.
-use Rattle.std.specs.Prelude.{◌≡◌, ◌≤◌, ◌<◌, ◌+◌, ℕ, Bool, true, false, List, ◌++◌, Option, Some, None, length, drop, max, codes}
-use Rattle.xml_tokens.specs.Places.{first_byte, first_word, first_outside}
+use Rattle.std.specs.Prelude.{◌≡◌, ◌≤◌, ◌<◌, ◌+◌, ℕ, Bool, true, false, not, ◌&&◌, ◌||◌, List, ◌++◌, Option, Some, None, length, drop, max, codes}
+use Rattle.xml_tokens.specs.Places.{first_byte, first_word, first_outside, is_outside, is_quote, quote_after}
 use Rattle.xml_tokens.specs.Shape.{form, is_less, ends_tag, ends_declaration, behind, text_end, shape_len}
 use Rattle.xml_tokens.specs.declared.form.Form.{Form}
 use Rattle.xml_tokens.specs.declared.form.Form.TheVariants.{Text, Comment, CData, Instruction, Declaration, Tag, Undecided}
@@ -46,6 +46,14 @@ IsWordFound word at bytes (Unended next) =
 abbrev pub ending_test : Bool → ℕ → Bool
 ending_test true = ends_declaration
 ending_test false = ends_tag
+
+-- a byte that neither ends a shape nor opens a quote
+abbrev pub is_unmarked : ℕ → Bool
+is_unmarked b = not (is_quote b || ends_declaration b)
+
+-- a byte that neither ends a shape nor opens or closes a quote, where `quote` is open before it
+abbrev pub IsUnmarked : Option ℕ → ℕ → Type 0
+IsUnmarked quote b = (quote_after quote b ≡ quote) × ((is_outside quote && ends_declaration b) ≡ false)
 
 -- a search outside quotes from a scan on found this
 abbrev pub IsOutsideFound : (ℕ → Bool) → Scan → List ℕ → Found → Type 0

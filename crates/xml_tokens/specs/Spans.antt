@@ -1,13 +1,15 @@
 -- How texts are read span by span.
 use Rattle.std.specs.Prelude.{◌≡◌, ℕ, ◌+◌, ◌<◌, Bool, not, ◌&&◌, ◌||◌, ◌==◌, nat_lt, suc, List, [], ◌∷◌, ◌++◌, Option, Some, None, Result, Ok, Err, length, take, drop, if◌then◌else◌}
-use Rattle.std.specs.List.{list_any, position_or_len}
+use Rattle.std.specs.List.{list_all, list_any, position_or_len}
 use Rattle.std.specs.Option.{option_copied}
-use Rattle.std.specs.Str.{chars}
+use Rattle.std.specs.Str.{chars, is_utf8}
 use Rattle.std.specs.declared.vec.Vec.{Vec}
 use Rattle.std.specs.declared.alloc.Global.{Global}
 use Rattle.xml_tokens.specs.Texts.{first_part, is_ampersand, later_parts, result_map, said, worse}
 use Rattle.xml_tokens.specs.Tags.{attributes, attrs_said}
+use Rattle.stx_base.specs.Character.{is_char}
 use Rattle.stx_base.specs.declared.fault.XmlKind.{XmlKind}
+use Rattle.stx_base.specs.declared.fault.XmlKind.TheVariants.{BadUtf8, BadChar}
 use Rattle.xml_tokens.specs.declared.judge.Unread.{Unread}
 use Rattle.xml_tokens.specs.declared.judge.Unread.TheVariants.{Fault, Memory}
 use Rattle.xml_tokens.specs.declared.lexeme.Body.{Body}
@@ -91,6 +93,18 @@ AreAttributes bytes (Some found) =
 -- what an XML declaration tells, by its bytes
 abbrev pub as_told : XmlDeclaration → List ℕ × Option (List ℕ)
 as_told told = (told.version.now, option_copied told.encoding)
+
+-- a Char of ASCII that says itself wherever it stands in character data
+abbrev pub is_plain_byte : ℕ → Bool
+is_plain_byte b = (nat_lt b 128 && is_char b) && (not (b == 60) && (not (b == 38) && (not (b == 93) && not (b == 13))))
+
+-- such characters, one or more
+abbrev pub is_plain : List ℕ → Bool
+is_plain bytes = nat_lt 0 (length bytes) && list_all is_plain_byte bytes
+
+-- the fault of bytes that are no UTF-8, or that say other characters than Chars
+abbrev pub char_fault : List ℕ → Option XmlKind
+char_fault bytes = if not (is_utf8 bytes) then Some BadUtf8 else if not (list_all is_char (chars bytes)) then Some BadChar else None
 
 -- a shape says this, or has this fault, unless memory was wanting
 abbrev pub IsJudged : Result Body XmlKind → Result Body Unread → Type 0

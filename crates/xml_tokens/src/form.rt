@@ -19,6 +19,18 @@ pub enum Form {
 pub fn form_of(bytes: &[u8]) -> Form
     ensures { result ≡ form bytes.now }
 {
+    match bytes {
+        [b'<', b'!', ..] => form_by_words(bytes),
+        [b'<', b'?', ..] => Form::Instruction,
+        [b'<', _, ..] => Form::Tag,
+        [] | [b'<'] => Form::Undecided,
+        _ => Form::Text,
+    }
+}
+
+fn form_by_words(bytes: &[u8]) -> Form
+    ensures { result ≡ form bytes.now }
+{
     if is_part(bytes, b"<!--") || is_part(bytes, b"<![CDATA[") {
         Form::Undecided
     } else if begins(bytes, b"<!--") {

@@ -1,4 +1,4 @@
-ghost use Rattle.std.specs.Prelude.{◌≡◌, ◌+◌, ◌<◌, ◌≤◌, ◌^◌, length, IsUtf8};
+ghost use Rattle.std.specs.Prelude.{◌≡◌, ◌+◌, ◌<◌, ◌≤◌, ◌^◌, ◌&&◌, nat_lt, length, IsUtf8};
 ghost use Rattle.std.specs.List.{list_all, position_or_len};
 ghost use Rattle.std.specs.Option.{option_copied};
 ghost use Rattle.std.specs.Str.{chars};
@@ -6,6 +6,7 @@ ghost use Rattle.stx_base.specs.Character as class;
 ghost use Rattle.xml_tokens.specs.Judged as spec;
 ghost use Rattle.xml_tokens.specs.Shape.{form};
 ghost use Rattle.xml_tokens.specs.Tags as tags;
+ghost use Rattle.xml_tokens.specs.Spans as span;
 ghost use Rattle.xml_tokens.specs.Spans.{IsJudged};
 
 use crate::cut::{head, tail};
@@ -57,30 +58,73 @@ impl From<BadText> for Unread {
 pub fn judge(alloc: Global, bytes: &[u8], first: bool) -> Result<Body, Unread>
     ensures { IsJudged (spec.judged first bytes.now) result }
 {
-    let Ok(text) = simdutf8::compat::from_utf8(bytes) else {
-        return Err(Unread::Fault(XmlKind::BadUtf8));
-    };
-    if !are_chars(text) {
-        return Err(Unread::Fault(XmlKind::BadChar));
+    if is_plain(bytes) {
+        let text = text_of(alloc, bytes)?;
+        let blank = is_blank(bytes);
+        return Ok(Body::Chars { text, blank });
     }
-    by_form(alloc, bytes, first)
+    match char_fault(bytes) {
+        None => by_form(alloc, bytes, first),
+        Some(kind) => Err(Unread::Fault(kind)),
+    }
 }
 
-/// Whether each character is a Char (XML 1.0, 2.2).
+/// Whether bytes are a text that says itself, as most are: one look at each byte shows it.
+fn is_plain(bytes: &[u8]) -> bool
+    ensures { result ≡ span.is_plain bytes.now }
+{
+    match bytes {
+        [] => false,
+        [_, ..] => are_plain(bytes),
+    }
+}
+
+fn are_plain(bytes: &[u8]) -> bool
+    ensures { result ≡ list_all span.is_plain_byte bytes.now }
+{
+    bytes.iter().all(|b| is_plain_byte(*b))
+}
+
+/// A Char of ASCII but for `<`, `&`, `]` and a carriage return.
+fn is_plain_byte(byte: u8) -> bool
+    ensures { result ≡ span.is_plain_byte byte }
+{
+    // Most bytes are small letters, so these come first.
+    matches!(byte, b'^'..=b'\x7F')
+        || matches!(byte, b' '..=b'%' | b'\''..=b';' | b'='..=b'\\' | b'\n' | b'\t')
+}
+
+/// Why bytes are no UTF-8, or say other characters than Chars (XML 1.0, 2.2).
+fn char_fault(bytes: &[u8]) -> Option<XmlKind>
+    ensures { result ≡ span.char_fault bytes.now }
+{
+    if are_ascii_chars(bytes) {
+        return None;
+    }
+    match simdutf8::compat::from_utf8(bytes) {
+        Ok(text) if are_chars(text) => None,
+        Ok(_) => Some(XmlKind::BadChar),
+        Err(_) => Some(XmlKind::BadUtf8),
+    }
+}
+
+/// Whether each byte is a Char of ASCII.
+fn are_ascii_chars(bytes: &[u8]) -> bool
+    ensures { result ≡ list_all (λ b. nat_lt b 128 && class.is_char b) bytes.now }
+{
+    bytes.iter().all(|b| is_ascii_char(*b))
+}
+
+fn is_ascii_char(byte: u8) -> bool
+    ensures { result ≡ (nat_lt byte 128 && class.is_char byte) }
+{
+    matches!(byte, b' '..=b'\x7F') || matches!(byte, b'\t' | b'\n' | b'\r')
+}
+
 fn are_chars(text: &str) -> bool
     ensures { result ≡ list_all class.is_char (chars text.now) }
 {
-    if text.is_ascii() {
-        are_ascii_chars(text.as_bytes())
-    } else {
-        text.chars().all(|c| is_char(c))
-    }
-}
-
-fn are_ascii_chars(bytes: &[u8]) -> bool
-    ensures { result ≡ list_all class.is_char bytes.now }
-{
-    bytes.iter().all(|b| is_char(char::from(*b)))
+    text.chars().all(|c| is_char(c))
 }
 
 fn by_form(alloc: Global, bytes: &[u8], first: bool) -> Result<Body, Unread>

@@ -11,8 +11,6 @@ mod prolog;
 mod run;
 mod scan;
 mod tag;
-#[cfg(test)]
-mod tests;
 mod text;
 
 pub use lexeme::{Body, Ending, Lexeme, RawAttr, Step};

@@ -1,10 +1,12 @@
-ghost use Rattle.std.specs.Prelude.{◌≡◌, ◌≤◌, ◌<◌, ◌+◌, length, is_some};
+ghost use Rattle.std.specs.Prelude.{◌≡◌, ◌≤◌, ◌<◌, ◌+◌, ◌++◌, ℕ, List, length, drop, slice_index, is_some};
+ghost use Rattle.std.specs.List.{prefix_len};
 ghost use Rattle.xml_tokens.specs.Places as places;
-ghost use Rattle.xml_tokens.specs.Places.{first_word};
-ghost use Rattle.xml_tokens.specs.Resume.{AlwaysResumes, IsFound, IsTextFound, IsWordFound, IsOutsideFound, ending_test};
+ghost use Rattle.xml_tokens.specs.Places.{first_outside, first_word};
+ghost use Rattle.xml_tokens.specs.Resume as resume;
+ghost use Rattle.xml_tokens.specs.Resume.{AlwaysResumes, IsFound, IsTextFound, IsWordFound, IsOutsideFound, IsUnmarked, ending_test};
 
+use crate::cut::place_of;
 use crate::form::{Form, begins, form_of};
-use memchr::memchr;
 
 /// How far an unended lexeme was searched for its end, so that no search begins again.
 #[derive(Clone, Copy, Debug, PartialEq, Eq)]
@@ -51,7 +53,7 @@ fn search_text(bytes: &[u8], ended: bool, from: usize) -> Found
     requires { from ≤ length bytes.now }
     ensures { IsTextFound from ended bytes.now result }
 {
-    match memchr(b'<', &bytes[from..]) {
+    match place_of(b'<', &bytes[from..]) {
         Some(skipped) => Found::Whole(from + skipped),
         None if ended => Found::Whole(bytes.len()),
         None => unended_at(bytes.len()),
@@ -66,7 +68,7 @@ fn search_word(bytes: &[u8], from: usize, word: &[u8]) -> Found
 {
     let mut at = from;
     while at < bytes.len() {
-        let Some(skipped) = memchr(word[0], &bytes[at..]) else {
+        let Some(skipped) = place_of(word[0], &bytes[at..]) else {
             return unended_at(bytes.len());
         };
         at += skipped;
@@ -107,17 +109,59 @@ fn search_outside(bytes: &[u8], scan: Scan, bracket: bool) -> Found
     ensures { IsOutsideFound (ending_test bracket) scan bytes.now result }
 {
     let mut quote = scan.quote;
-    for i in scan.searched..bytes.len() {
-        let byte = bytes[i];
+    let mut at = pass(bytes, scan.searched, quote, bracket);
+    while at < bytes.len() {
+        let byte = bytes[at];
         if is_outside(quote) && ends(byte, bracket) {
-            return Found::Whole(i + 1);
+            return Found::Whole(at + 1);
         }
         quote = quote_after(quote, byte);
+        at = pass(bytes, at + 1, quote, bracket);
     }
     Found::Unended(Scan {
         searched: bytes.len(),
         quote,
     })
+}
+
+/// Passes over bytes that neither end a shape nor open or close a quote.
+fn pass(bytes: &[u8], at: usize, quote: Option<u8>, bracket: bool) -> usize
+    requires { at ≤ length bytes.now }
+    ensures low { at ≤ result }
+    ensures high { result ≤ length bytes.now }
+    ensures same { (more : List ℕ) → first_outside (ending_test bracket) quote at (drop at (bytes.now ++ more))
+        ≡ first_outside (ending_test bracket) quote result (drop result (bytes.now ++ more)) }
+{
+    at + unmarked_len(&bytes[at..], quote)
+}
+
+/// How many bytes neither end a shape nor open or close a quote.
+fn unmarked_len(bytes: &[u8], quote: Option<u8>) -> usize
+    ensures bound { result ≤ length bytes.now }
+    ensures passed { (i : ℕ) → i < result → IsUnmarked quote (slice_index bytes.now i) }
+{
+    match quote {
+        None => outside_len(bytes),
+        Some(open) => place_of(open, bytes).unwrap_or(bytes.len()),
+    }
+}
+
+fn outside_len(bytes: &[u8]) -> usize
+    ensures value { result ≡ prefix_len resume.is_unmarked bytes.now }
+    ensures bound { result ≤ length bytes.now }
+{
+    bytes.iter().take_while(|b| is_unmarked(**b)).count()
+}
+
+/// Whether a byte outside quotes neither ends a shape nor opens a quote.
+fn is_unmarked(byte: u8) -> bool
+    ensures { result ≡ resume.is_unmarked byte }
+{
+    if byte > b'>' {
+        byte != b'['
+    } else {
+        !matches!(byte, b'>' | b'"' | b'\'')
+    }
 }
 
 fn ends(byte: u8, bracket: bool) -> bool

@@ -9,10 +9,9 @@ ghost use Rattle.xml_tokens.specs.Spans as span;
 
 use crate::cut::{head, tail};
 use crate::lexeme::{Body, RawAttr};
-use crate::text::{BadText, Context, is_name_of, said, text_of, until_byte};
-use memchr::memchr;
+use crate::text::{BadText, Context, is_ascii_name_byte, is_name_of, said, text_of, until_byte};
 use std::alloc::Global;
-use stx_base::{List, Memory, is_name_char, is_space};
+use stx_base::{List, Memory, is_space};
 
 fn name_len(bytes: &[u8]) -> usize
     ensures value { result ≡ prefix_len spec.is_name_byte bytes.now }
@@ -25,7 +24,7 @@ fn name_len(bytes: &[u8]) -> usize
 fn is_name_byte(byte: u8) -> bool
     ensures { result ≡ spec.is_name_byte byte }
 {
-    byte >= 0x80 || is_name_char(char::from(byte))
+    is_ascii_name_byte(byte) || byte >= 0x80
 }
 
 fn space_len(bytes: &[u8]) -> usize
@@ -101,7 +100,7 @@ pub fn equated(bytes: &[u8]) -> Option<(&[u8], &[u8])>
 fn has_byte(byte: u8, bytes: &[u8]) -> bool
     ensures { result ≡ list_any (λ b. b == byte) bytes.now }
 {
-    memchr(byte, bytes).is_some()
+    bytes.iter().any(|b| *b == byte)
 }
 
 /// The name, the value as written, and the bytes after an attribute (Attribute; XML 1.0, 3.1).

@@ -1,6 +1,6 @@
-ghost use Rattle.std.specs.Prelude.{◌≡◌, ◌≤◌, ◌<◌, ◌++◌, ◌==◌, true, length, encode_utf8, IfOk, IfSome, IsUtf8};
+ghost use Rattle.std.specs.Prelude.{◌≡◌, ◌≤◌, ◌<◌, ◌++◌, ◌==◌, ◌||◌, ◌&&◌, nat_lt, true, length, encode_utf8, IfOk, IfSome, IsUtf8};
 ghost use Rattle.std.specs.Char.{IsScalar, is_digit};
-ghost use Rattle.std.specs.List.{list_all};
+ghost use Rattle.std.specs.List.{list_all, list_any};
 ghost use Rattle.std.specs.Option.{option_copied, option_map, SomeIff};
 ghost use Rattle.std.specs.Str.{chars};
 ghost use Rattle.std.specs.Str.Parse.{digits_value};
@@ -8,11 +8,11 @@ ghost use Rattle.stx_base.specs.Character as class;
 ghost use Rattle.xml_tokens.specs.Texts as spec;
 ghost use Rattle.xml_tokens.specs.Spans as span;
 
-use crate::cut::{head, tail};
+use crate::cut::{head, place_of, tail};
 use crate::form::{begins, is_word};
-use memchr::{memchr, memchr3};
+use memchr::{memchr, memchr2, memchr3};
 use std::alloc::{AllocError, Global};
-use stx_base::{Memory, Text, is_char, is_name};
+use stx_base::{Memory, Text, is_char, is_name, is_name_start};
 
 /// Where bytes stand that say a text.
 #[derive(Clone, Copy, Debug, PartialEq, Eq)]
@@ -37,10 +37,16 @@ pub fn text_of(alloc: Global, bytes: &[u8]) -> Result<Text, Memory>
     requires { IsUtf8 bytes.now }
     ensures { IfOk result (λ text. text ≡ chars bytes.now) }
 {
-    match std::str::from_utf8(bytes) {
-        Ok(text) => Text::of(alloc, text),
-        Err(_) => unreachable!(),
-    }
+    Text::of(alloc, str_of(bytes))
+}
+
+/// UTF-8 as it stands.
+fn str_of(bytes: &[u8]) -> &str
+    requires { IsUtf8 bytes.now }
+    ensures { result.now ≡ bytes.now }
+{
+    // What the caller owes is proved at each call.
+    unsafe { std::str::from_utf8_unchecked(bytes) }
 }
 
 /// A text of which the line ends are read (XML 1.0, 2.11).
@@ -60,7 +66,7 @@ fn changed_lines_of(alloc: Global, bytes: &[u8]) -> Result<Text, Memory>
 {
     let mut out = Vec::with_capacity(alloc, bytes.len())?;
     push_literal(&mut out, bytes, Context::Content)?;
-    made(out)
+    Ok(made(out))
 }
 
 /// The text that bytes say in which references may stand.
@@ -73,10 +79,7 @@ pub fn said(alloc: Global, bytes: &[u8], context: Context) -> Result<Result<Text
         return Ok(Ok(text));
     }
     match resolve(alloc, bytes, context)? {
-        Ok(out) => {
-            let text = made(out)?;
-            Ok(Ok(text))
-        }
+        Ok(out) => Ok(Ok(made(out))),
         Err(fault) => Ok(Err(fault)),
     }
 }
@@ -85,17 +88,31 @@ pub fn said(alloc: Global, bytes: &[u8], context: Context) -> Result<Result<Text
 fn is_literal(bytes: &[u8], context: Context) -> bool
     ensures { result ≡ span.is_literal context bytes.now }
 {
-    memchr(b'&', bytes).is_none() && next_break(bytes, context).is_none()
+    match context {
+        Context::Content => memchr2(b'&', b'\r', bytes).is_none(),
+        // Most values are too short for a search in bulk to pay.
+        Context::Value => !has_unsaid(bytes),
+    }
 }
 
-fn made(out: Vec<u8>) -> Result<Text, Memory>
-    requires { IsUtf8 out.items }
-    ensures { IfOk result (λ text. text ≡ chars out.items) }
+fn has_unsaid(bytes: &[u8]) -> bool
+    ensures { result ≡ list_any (λ b. spec.is_ampersand b || span.is_break b) bytes.now }
 {
-    match String::from_utf8(out) {
-        Ok(string) => Ok(Text::from_string(string)),
-        Err(_) => unreachable!(),
-    }
+    bytes.iter().any(|b| is_unsaid(*b))
+}
+
+/// Whether a byte of a value doesn't say itself.
+fn is_unsaid(byte: u8) -> bool
+    ensures { result ≡ (spec.is_ampersand byte || span.is_break byte) }
+{
+    matches!(byte, b'&' | b'\r' | b'\n' | b'\t')
+}
+
+fn made(out: Vec<u8>) -> Text
+    requires { IsUtf8 out.items }
+    ensures { result ≡ chars out.items }
+{
+    Text::from_string(unsafe { String::from_utf8_unchecked(out) })
 }
 
 /// The bytes of what bytes say in which references stand.
@@ -145,7 +162,7 @@ fn cut_at_ampersand(bytes: &[u8]) -> (&[u8], Option<&[u8]>)
 pub fn until_byte(byte: u8, bytes: &[u8]) -> Option<(&[u8], &[u8])>
     ensures { option_map (λ found. (found.0.now, found.1.now)) result ≡ span.cut_at (λ b. b == byte) bytes.now }
 {
-    let at = memchr(byte, bytes)?;
+    let at = place_of(byte, bytes)?;
     Some((head(bytes, at), tail(bytes, at + 1)))
 }
 
@@ -268,10 +285,24 @@ pub fn is_name_of(bytes: &[u8]) -> bool
     requires { IsUtf8 bytes.now }
     ensures { result ≡ class.is_name (chars bytes.now) }
 {
-    match std::str::from_utf8(bytes) {
-        Ok(text) => is_name(text),
-        Err(_) => unreachable!(),
+    match bytes {
+        [first, ..] if are_ascii_name_bytes(bytes) => is_name_start(char::from(*first)),
+        _ => is_name(str_of(bytes)),
     }
+}
+
+fn are_ascii_name_bytes(bytes: &[u8]) -> bool
+    ensures { result ≡ list_all (λ b. nat_lt b 128 && class.is_name_char b) bytes.now }
+{
+    bytes.iter().all(|b| is_ascii_name_byte(*b))
+}
+
+/// A NameChar of ASCII.
+pub fn is_ascii_name_byte(byte: u8) -> bool
+    ensures { result ≡ (nat_lt byte 128 && class.is_name_char byte) }
+{
+    // Most bytes of names are small letters, so these come first.
+    matches!(byte, b'a'..=b'z') || matches!(byte, b'A'..=b'Z' | b'0'..=b':' | b'-' | b'.' | b'_')
 }
 
 /// The Char whose number these digits write.

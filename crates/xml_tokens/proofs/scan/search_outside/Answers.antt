@@ -5,13 +5,13 @@ use Rattle.xml_tokens.proofs.scan.search_outside.Goals as goal
 
 pub returns-then-ends : goal.returns-then-ends
 returns-then-ends c =
-    outside-found (ending_test c.args.bracket) c.args.scan.quote c.loop-i.quote c.args.scan.searched c.loop-i.i c.args.bytes.now c.loop-i.invariant.same
-    c.loop-i-test.true (sym c.is_outside.ensures ∙ c.if-is_outside.true) (sym c.ends.ensures ∙ c.if-ends.true)
+    outside-found (ending_test c.args.bracket) c.args.scan.quote c.loop-at.quote c.args.scan.searched c.loop-at.at c.args.bytes.now c.loop-at.invariant.same
+    c.loop-at-test.true (sym c.is_outside.ensures ∙ c.if-is_outside.true) (sym c.ends.ensures ∙ c.if-ends.true)
 
 pub returns : goal.returns
 returns c =
-    let e : c.loop-i.i ≡ length c.args.bytes.now = omega arith in (
-      outside-none (ending_test c.args.bracket) c.args.scan.quote c.loop-i.quote c.args.scan.searched c.loop-i.i c.args.bytes.now c.loop-i.invariant.same (omega arith),
+    let e : c.loop-at.at ≡ length c.args.bytes.now = omega (arith, c.loop-at.invariant.high, c.loop-at-test.false) in (
+      outside-none (ending_test c.args.bracket) c.args.scan.quote c.loop-at.quote c.args.scan.searched c.loop-at.at c.args.bytes.now c.loop-at.invariant.same (omega (arith, e)),
       refl,
-      outside-more (ending_test c.args.bracket) c.args.scan.quote c.loop-i.quote c.args.scan.searched c.loop-i.i c.args.bytes.now c.loop-i.invariant.same e,
+      outside-more (ending_test c.args.bracket) c.args.scan.quote c.loop-at.quote c.args.scan.searched c.loop-at.at c.args.bytes.now c.loop-at.invariant.same e,
     )

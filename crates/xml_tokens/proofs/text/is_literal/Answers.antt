@@ -1,16 +1,19 @@
-use Rattle.std.proofs.Common.{◌≡◌, false, not, ◌&&◌, sym, ap, ◌∙◌}
-use Rattle.std.specs.List.{list_any}
+use Rattle.std.proofs.Common.{sym, ap, ◌∙◌, is_some}
+use Rattle.memchr.specs.Find.{is_byte2}
 use Rattle.xml_tokens.specs.Texts.{is_ampersand}
-use Rattle.xml_tokens.specs.Spans.{is_changed}
-use Rattle.xml_tokens.proofs.LiteralLemmas.{turned}
-use Rattle.xml_tokens.proofs.TextLemmas.{first-any, place-any}
+use Rattle.xml_tokens.specs.Spans.{is_break, is_changed, is_literal}
+use Rattle.xml_tokens.specs.declared.text.Context.TheVariants.{Content}
+use Rattle.xml_tokens.proofs.LiteralLemmas.{turned, neither-test}
+use Rattle.xml_tokens.proofs.TextLemmas.{first-any}
 use Rattle.xml_tokens.proofs.text.is_literal.Goals as goal
 
-pub returns-then-is_none : goal.returns-then-is_none
-returns-then-is_none c =
+pub returns-in-Content : goal.returns-in-Content
+returns-in-Content c =
     let bytes = c.args.bytes.now in
-    let changed = is_changed c.args.context in
-    let unreferred : list_any is_ampersand bytes ≡ false =
-    sym (first-any is_ampersand bytes c.memchr.result c.memchr.ensures) ∙ (c.is_none.ensures ∙ ap not c.if-is_none.true) in
-    turned _ _ c.is_none-then-is_none.ensures
-    ∙ (ap not (place-any changed bytes c.next_break.result c.next_break.ensures) ∙ sym (ap (λ t. not t && not (list_any changed bytes)) unreferred))
+    turned _ _ c.is_none.ensures
+    ∙ (neither-test is_ampersand (is_changed Content) bytes (is_some c.memchr2.result) (first-any (is_byte2 38 13) bytes c.memchr2.result c.memchr2.ensures)
+    ∙ ap (λ p. is_literal p bytes) (sym c.in-Content.is))
+
+pub returns-in-Value : goal.returns-in-Value
+returns-in-Value c =
+    neither-test is_ampersand is_break c.args.bytes.now c.has_unsaid.result c.has_unsaid.ensures ∙ ap (λ p. is_literal p c.args.bytes.now) (sym c.in-Value.is)

@@ -5,12 +5,12 @@ mod markup;
 mod names;
 mod texts;
 
-use crate::{Body, Ending, Lexer, Step, lex};
 use std::alloc::Global;
 use std::fmt::Write;
 use std::process::Abort;
 use std::test::Fail;
 use stx_base::Limits;
+use xml_tokens::{Body, Ending, Lexer, Step, lex};
 
 /// The lexer's answers up to the first that is repeated, as text, with `?` where more bytes must come.
 fn told(alloc: Global, limits: Limits, pieces: &[&[u8]]) -> Result<String, Fail> {

@@ -1,0 +1,5 @@
+//! Documents through the public calls of `xml_tokens`: tests alone.
+#![tactic(auto)]
+
+#[cfg(test)]
+mod lexemes;
