@@ -10,8 +10,6 @@ mod order;
 mod steady;
 mod table;
 mod tag;
-#[cfg(test)]
-mod tests;
 mod words;
 mod writer;
 

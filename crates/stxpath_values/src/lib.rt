@@ -10,8 +10,6 @@ pub mod laws;
 mod lists;
 mod numeral;
 mod places;
-#[cfg(test)]
-mod tests;
 mod texts;
 mod value;
 

@@ -2,7 +2,7 @@ mod rows;
 mod start_tags;
 
 use self::Given::{Attr, Chars, Comment, End, Pi, Scoped, Start};
-use crate::{Opened, ResultFault, WriteStop, Writer};
+use result_writer::{Opened, ResultFault, WriteStop, Writer};
 use std::alloc::Global;
 use std::fmt::Write;
 use std::process::Abort;

@@ -1,14 +1,14 @@
 mod function_rows;
 
 use self::Given::{B, N, T};
-use crate::{
-    Atom, EvalFault, EvalStop, Item, NodeRef, arith, call, compare, takes, to_text, to_whole, truth,
-};
 use std::alloc::Global;
 use std::fmt::Write;
 use std::process::Abort;
 use std::test::Fail;
 use stx_base::{Cmp, Copied, Fun, Limits, List, Memory, Op, Text};
+use stxpath_values::{
+    Atom, EvalFault, EvalStop, Item, NodeRef, arith, call, compare, takes, to_text, to_whole, truth,
+};
 
 /// An atom of a row: a number, a text, a truth value.
 #[derive(Clone, Copy, Debug)]
