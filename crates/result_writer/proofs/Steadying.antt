@@ -8,7 +8,7 @@ use Rattle.stx_base.specs.declared.name.Attr.{Attr}
 use Rattle.stx_base.specs.declared.name.Binding.{Binding}
 use Rattle.stx_base.specs.declared.name.Name.{Name}
 use Rattle.result_writer.specs.Allowed.{is_empty, is_word, same}
-use Rattle.result_writer.specs.Steady.{is_in_force, is_steady, keeps_binding, keeps_prefix, own_prefixes, undressed}
+use Rattle.result_writer.specs.Steady.{is_in_force, keep_bindings, keeps_binding, keeps_names, keeps_prefix, own_prefixes, undressed}
 use Rattle.result_writer.specs.Table.{attribute_prefix, bound, entered, free_prefix, has_prefix, in_order, is_new, is_taken, prefixes, with_attributes, with_element, with_name, with_scope}
 use Rattle.result_writer.specs.Tag.{dressed}
 use Rattle.result_writer.specs.declared.tag.Dressed.{Dressed}
@@ -104,15 +104,13 @@ module _ (in_force : List Binding) where
       let both = and_parts (keeps_binding in_force b) _ k in
       scope_held (if is_empty b.uri then table else entered table b.prefix b.uri) scope (binding_held table b h both.0) both.1
 
-  pub dressed-steady : (tag : HeldTag) → is_steady in_force tag ≡ true → dressed in_force tag ≡ undressed tag.attrs
-  dressed-steady tag h =
-      let names = is_in_force in_force tag.name.prefix tag.name.uri in
-      let attrs = list_all (λ a. keeps_prefix in_force a.name) tag.attrs in
-      let all = and_parts (names && attrs) _ h in
-      let both = and_parts names attrs all.0 in
+  pub dressed-steady : (tag : HeldTag) → keeps_names in_force tag ≡ true → keep_bindings in_force tag.scope ≡ true
+      → dressed in_force tag ≡ undressed tag.attrs
+  dressed-steady tag h k =
+      let both = and_parts (is_in_force in_force tag.name.prefix tag.name.uri) _ h in
       let table = with_element tag.name in
       let first : are_held table ≡ true = and_from _ _ both.0 refl in
       let made = attributes_held table tag.attrs first both.1 in
-      let whole = scope_held (with_attributes table tag.attrs) tag.scope made.1 all.1 in
+      let whole = scope_held (with_attributes table tag.attrs) tag.scope made.1 k in
       ap (λ (l : List Binding). record { declared = in_order [] l; prefixes = prefixes table tag.attrs }) (none_new _ whole)
       ∙ ap (λ (ps : List (List ℕ)). record { declared = []; prefixes = ps }) made.0

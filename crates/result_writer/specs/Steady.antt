@@ -27,11 +27,8 @@ keep_prefixes in_force = list_all (λ a. keeps_prefix in_force a.name)
 abbrev pub keep_bindings : (in_force scope : List Binding) → Bool
 keep_bindings in_force = list_all (keeps_binding in_force)
 
-abbrev pub is_steady : (in_force : List Binding) → HeldTag → Bool
-is_steady in_force tag =
-    is_in_force in_force tag.name.prefix tag.name.uri
-    && keep_prefixes in_force tag.attrs
-    && keep_bindings in_force tag.scope
+abbrev pub keeps_names : (in_force : List Binding) → HeldTag → Bool
+keeps_names in_force tag = is_in_force in_force tag.name.prefix tag.name.uri && keep_prefixes in_force tag.attrs
 
 abbrev pub own_prefixes : List Attr → List (List ℕ)
 own_prefixes = map (λ a. a.name.prefix)

@@ -1,8 +1,10 @@
-ghost use Rattle.std.specs.Prelude.{◌≡◌, ◌<◌, ◌+◌, ◌++◌, ◌∷◌, [], ℕ, List as Items, IfOk, IfErr, IfSome, MatchOption, OnOk, OnErr, length, slice_get, slice_set, vec_capacity, vec_len, ◌≤◌};
+ghost use Rattle.std.specs.Prelude.{◌≡◌, ◌<◌, ◌+◌, ◌++◌, ◌∷◌, [], ℕ, None, true, List as Items, IfOk, IfErr, IfSome, MatchOption, OnOk, OnErr, is_some, length, slice_get, slice_set, unwrap_or, vec_capacity, vec_len, ◌≤◌};
 ghost use Rattle.std.specs.Option.{option_copied};
 ghost use Rattle.stx_base.specs.declared.name.Attr.{Attr};
 ghost use Rattle.stx_base.specs.declared.name.Name.{Name};
 ghost use Rattle.stx_base.specs.declared.part.Part.TheVariants.{Start, Attribute, End, Chars};
+ghost use Rattle.result_writer.specs.Opened.{last_scope, SameAround, Settles};
+ghost use Rattle.result_writer.specs.Steady.{keep_bindings};
 ghost use Rattle.result_writer.specs.Target as spec;
 ghost use Rattle.result_writer.specs.Target.{behind, comment_text, depth, dressed_in, end_text, fresh, innermost, instruction_text, is_closed, settles, tag_text, with_attribute, IsCause};
 
@@ -11,10 +13,12 @@ use crate::allowed::{
 };
 use crate::escape::{Context, append_escaped};
 use crate::fault::{ResultFault, WriteStop};
+use crate::steady::{copy_unless_same, keep_bindings};
 use crate::tag::{Dressed, HeldTag, append_end_tag, append_open_tag, dress};
 use crate::words::{is_empty, same};
 use std::alloc::Global;
 use std::marker::Model;
+use std::mem;
 use stx_base::{Attr, Binding, Copied, List, Memory, Name, Part, Text};
 
 /// An element whose start tag is settled, and whose end is still to come.
@@ -25,15 +29,25 @@ pub struct OpenElement {
     declared: usize,
 }
 
+/// What is open around the next part, but for a tag that is held back.
+#[derive(Debug, Drop)]
+pub struct Around {
+    /// The innermost last.
+    elements: Vec<OpenElement>,
+    /// What they declared, the innermost last. So a prefix is looked up among the changes alone.
+    bindings: Vec<Binding>,
+    /// The scope of the last tag that was settled: the next one often comes with the same.
+    scope: List<Binding>,
+    /// Whether the scope of the tag that is held back, or else `scope`, is known to be in force.
+    keeps: bool,
+}
+
 /// The open elements of one target, and what they declared.
 #[derive(Debug, Drop)]
 pub struct Opened {
     alloc: Global,
     limit: u32,
-    /// The innermost last.
-    elements: Vec<OpenElement>,
-    /// What they declared, the innermost last. So a prefix is looked up among the changes alone.
-    bindings: Vec<Binding>,
+    around: Around,
     held: Option<HeldTag>,
 }
 
@@ -42,11 +56,11 @@ impl Model for Opened {
 
     ghost Value = { Target };
 
-    ghost use Rattle.result_writer.specs.Opened.{target_of, IsCounted};
+    ghost use Rattle.result_writer.specs.Opened.{target_of, IsSound};
 
     ghost view = { target_of };
 
-    ghost invariant = { IsCounted };
+    ghost invariant = { IsSound };
 }
 
 impl Opened {
@@ -57,8 +71,12 @@ impl Opened {
         Opened {
             alloc,
             limit,
-            elements: Vec::new(alloc),
-            bindings: Vec::new(alloc),
+            around: Around {
+                elements: Vec::new(alloc),
+                bindings: Vec::new(alloc),
+                scope: List::new(alloc),
+                keeps: true,
+            },
             held: None,
         }
     }
@@ -84,7 +102,7 @@ impl Opened {
     pub fn closed(&self) -> bool
         ensures { result ≡ is_closed self.now.left.elements self.now.left.held }
     {
-        self.held.is_none() && self.elements.is_empty()
+        self.held.is_none() && self.around.elements.is_empty()
     }
 
     /// The first fault of a part.
@@ -101,7 +119,7 @@ impl Opened {
         }
     }
 
-    fn start_fault(&self, name: &Name) -> Option<ResultFault>
+    pub(crate) fn start_fault(&self, name: &Name) -> Option<ResultFault>
         ensures { result ≡ spec.start_fault self.now.limit self.now.left name.now }
     {
         if !is_good_name(name) {
@@ -145,8 +163,8 @@ impl Opened {
         ensures { result ≡ depth self.now.left.elements self.now.left.held }
     {
         match &self.held {
-            None => self.elements.len(),
-            Some(_) => self.elements.len() + 1,
+            None => self.around.elements.len(),
+            Some(_) => self.around.elements.len() + 1,
         }
     }
 
@@ -155,7 +173,7 @@ impl Opened {
     {
         match &self.held {
             Some(tag) => Some(&tag.name),
-            None => match self.elements.last() {
+            None => match self.around.elements.last() {
                 Some(element) => Some(&element.name),
                 None => None,
             },
@@ -176,13 +194,14 @@ impl Opened {
         }
     }
 
-    fn dressed(&self) -> Result<Option<Dressed>, Memory>
+    pub(crate) fn dressed(&self) -> Result<Option<Dressed>, Memory>
         ensures { IfOk result (λ d. d ≡ dressed_in self.now.left.elements self.now.left.held) }
     {
         match &self.held {
             None => Ok(None),
             Some(tag) => {
-                let dressed = dress(self.alloc, &self.bindings, tag)?;
+                let around = &self.around;
+                let dressed = dress(self.alloc, &around.bindings, tag, around.keeps)?;
                 Ok(Some(dressed))
             }
         }
@@ -218,7 +237,7 @@ impl Opened {
     }
 
     /// Appends the tag that is held back, if there is one, and its end.
-    fn append_tag(
+    pub(crate) fn append_tag(
         &self,
         dressed: &Option<Dressed>,
         end: &[u8],
@@ -246,7 +265,7 @@ impl Opened {
         if self.held.is_some() {
             return self.append_tag(dressed, b"/>", out);
         }
-        match self.elements.last() {
+        match self.around.elements.last() {
             None => Ok(()),
             Some(element) => append_end_tag(&element.name, out),
         }
@@ -259,7 +278,7 @@ impl Opened {
         ensures err { OnErr result (self.new ≡ self.old) }
     {
         match part {
-            Part::Start { name, scope } => self.start(name, scope, dressed),
+            Part::Start { name, scope } => self.start(name, &scope, dressed),
             Part::Attribute { name, value } => self.add_attribute(name, value),
             Part::End { name: _name } => {
                 self.end();
@@ -273,17 +292,20 @@ impl Opened {
         }
     }
 
-    fn start(
+    /// Takes the start of an element that is accepted. After a refusal all is unchanged.
+    pub(crate) fn start(
         &mut self,
         name: Name,
-        scope: List<Binding>,
+        scope: &List<Binding>,
         dressed: Option<Dressed>,
     ) -> Result<(), Memory>
         requires { dressed ≡ dressed_in self.old.left.elements self.old.left.held }
-        ensures ok { OnOk result (self.new ≡ behind self.old (Start name scope)) }
+        ensures ok { OnOk result (self.new ≡ behind self.old (Start name scope.now)) }
         ensures err { OnErr result (self.new ≡ self.old) }
     {
-        self.settle(dressed)?;
+        let other = copy_unless_same(self.alloc, scope, last_scope(&self.held, &self.around.scope))?;
+        settle_tag(&mut self.around, &mut self.held, dressed)?;
+        let scope = self.around.take_scope(self.alloc, other);
         let attrs = List::new(self.alloc);
         self.held = Some(HeldTag { name, scope, attrs });
         Ok(())
@@ -302,11 +324,15 @@ impl Opened {
     fn end(&mut self)
         ensures { (name : Name) → self.new ≡ behind self.old (End name) }
     {
-        if self.held.is_some() {
-            self.held = None;
-        } else if let Some(element) = self.elements.pop() {
-            let outer = self.bindings.len() - element.declared;
-            self.bindings.truncate(outer);
+        match self.held.take() {
+            Some(tag) => self.around.scope = tag.scope,
+            None => {
+                if let Some(element) = self.around.elements.pop() {
+                    let outer = self.around.bindings.len() - element.declared;
+                    self.around.bindings.truncate(outer);
+                    self.around.keeps = self.around.keeps && element.declared == 0;
+                }
+            }
         }
     }
 
@@ -316,15 +342,75 @@ impl Opened {
         ensures ok { OnOk result (self.new ≡ behind self.old (Chars [])) }
         ensures err { OnErr result (self.new ≡ self.old) }
     {
-        let Some(Dressed { declared, .. }) = dressed else {
-            return Ok(());
+        settle_tag(&mut self.around, &mut self.held, dressed)
+    }
+}
+
+impl Around {
+    /// Opens an element that declares these. What its tag came with is kept.
+    fn open(&mut self, tag: HeldTag, declared: List<Binding>)
+        requires room { vec_len self.old.elements < vec_capacity self.old.elements }
+        requires room_for_bindings { vec_len self.old.bindings + length declared ≤ vec_capacity self.old.bindings }
+        ensures elements { self.new.elements.items ≡ self.old.elements.items ++ record { name = tag.name; declared = length declared } ∷ [] }
+        ensures bindings { self.new.bindings.items ≡ self.old.bindings.items ++ declared }
+        ensures scope { self.new.scope ≡ tag.scope }
+        ensures keeps { self.new.keeps ≡ true → (self.old.keeps ≡ true) × (declared ≡ []) }
+    {
+        let element = OpenElement {
+            name: tag.name,
+            declared: declared.len(),
         };
-        self.elements.reserve(1)?;
-        self.bindings.reserve(declared.len())?;
-        if let Some(tag) = self.held.take() {
-            open_element(&mut self.elements, &mut self.bindings, tag.name, declared);
+        self.keeps = self.keeps && declared.is_empty();
+        self.scope = tag.scope;
+        let _ = self.elements.push(element);
+        let _ = self.bindings.append(&mut declared.into_vec());
+    }
+
+    /// The scope of the next tag: the last one, unless it is another.
+    fn take_scope(&mut self, alloc: Global, other: Option<List<Binding>>) -> List<Binding>
+        ensures scope { result ≡ unwrap_or other self.old.scope }
+        ensures keeps { self.new.keeps ≡ true → (other ≡ None → self.old.keeps ≡ true) × (is_some other ≡ true → keep_bindings self.old.bindings.items result ≡ true) }
+        ensures elements { self.new.elements ≡ self.old.elements }
+        ensures bindings { self.new.bindings ≡ self.old.bindings }
+    {
+        match other {
+            None => mem::replace(&mut self.scope, List::new(alloc)),
+            Some(other) => {
+                self.keeps = keep_bindings(&self.bindings, other.as_slice());
+                other
+            }
         }
-        Ok(())
+    }
+}
+
+/// The tag that is held back is settled: its element is open. After a refusal all is unchanged.
+fn settle_tag(
+    around: &mut Around,
+    held: &mut Option<HeldTag>,
+    dressed: Option<Dressed>,
+) -> Result<(), Memory>
+    requires { is_some dressed ≡ is_some held.old }
+    ensures ok { OnOk result (Settles around.old held.old dressed around.new held.new) }
+    ensures err { OnErr result (SameAround around.old around.new × (held.new ≡ held.old)) }
+{
+    let Some(Dressed { declared, .. }) = dressed else {
+        return Ok(());
+    };
+    around.elements.reserve(1)?;
+    around.bindings.reserve(declared.len())?;
+    if let Some(tag) = held.take() {
+        around.open(tag, declared);
+    }
+    Ok(())
+}
+
+/// The scope of the tag that is held back, or else that of the last one.
+fn last_scope<'a>(held: &'a Option<HeldTag>, scope: &'a List<Binding>) -> &'a List<Binding>
+    ensures { result.now ≡ last_scope held.now scope.now }
+{
+    match held {
+        None => scope,
+        Some(tag) => &tag.scope,
     }
 }
 
@@ -382,26 +468,6 @@ fn append_instruction(target: &Text, text: &Text, out: &mut Vec<u8>) -> Result<(
     }
     out.extend_from_slice(b"?>")?;
     Ok(())
-}
-
-/// Opens an element that declares these bindings.
-fn open_element(
-    elements: &mut Vec<OpenElement>,
-    bindings: &mut Vec<Binding>,
-    name: Name,
-    declared: List<Binding>,
-)
-    requires room { vec_len elements.old < vec_capacity elements.old }
-    requires room_for_bindings { vec_len bindings.old + length declared ≤ vec_capacity bindings.old }
-    ensures elements { elements.new.items ≡ elements.old.items ++ record { name = name; declared = length declared } ∷ [] }
-    ensures bindings { bindings.new.items ≡ bindings.old.items ++ declared }
-{
-    let element = OpenElement {
-        name,
-        declared: declared.len(),
-    };
-    let _ = elements.push(element);
-    let _ = bindings.append(&mut declared.into_vec());
 }
 
 /// Gives an attribute its value: in its place where there is one of the name, else behind the others. After a refusal

@@ -1,7 +1,7 @@
 //! Tags whose prefixes are all in force already: they declare nothing, and need no table.
 
-ghost use Rattle.std.specs.Prelude.{◌≡◌, IfOk};
-ghost use Rattle.result_writer.specs.Steady.{is_in_force, is_steady, keep_bindings, keep_prefixes, keeps_binding, keeps_prefix, own_prefixes, undressed};
+ghost use Rattle.std.specs.Prelude.{◌≡◌, ◌↔◌, true, IfOk, IsTrue, unwrap_or};
+ghost use Rattle.result_writer.specs.Steady.{is_in_force, keep_bindings, keep_prefixes, keeps_binding, keeps_names, keeps_prefix, own_prefixes, undressed};
 
 use crate::table::is_bound;
 use crate::tag::{Dressed, HeldTag};
@@ -34,19 +34,55 @@ fn keep_prefixes(in_force: &[Binding], attrs: &[Attr]) -> bool
     attrs.iter().all(|attr| keeps_prefix(in_force, &attr.name))
 }
 
-fn keep_bindings(in_force: &[Binding], scope: &[Binding]) -> bool
+/// Whether all bindings of a scope are in force.
+pub fn keep_bindings(in_force: &[Binding], scope: &[Binding]) -> bool
     ensures { result ≡ keep_bindings in_force.now scope.now }
 {
     scope.iter().all(|binding| keeps_binding(in_force, binding))
 }
 
-/// Whether all prefixes of a tag are in force.
-pub fn is_steady(in_force: &[Binding], tag: &HeldTag) -> bool
-    ensures { result ≡ is_steady in_force.now tag.now }
+/// Whether the prefixes of a tag's names are in force.
+pub fn keeps_names(in_force: &[Binding], tag: &HeldTag) -> bool
+    ensures { result ≡ keeps_names in_force.now tag.now }
 {
     is_in_force(in_force, &tag.name.prefix, &tag.name.uri)
         && keep_prefixes(in_force, tag.attrs.as_slice())
-        && keep_bindings(in_force, tag.scope.as_slice())
+}
+
+/// A copy of a scope, unless it is the same as another.
+pub fn copy_unless_same(
+    alloc: Global,
+    scope: &List<Binding>,
+    other: &List<Binding>,
+) -> Result<Option<List<Binding>>, Memory>
+    ensures { IfOk result (λ copied. unwrap_or copied other.now ≡ scope.now) }
+{
+    if are_same(scope.as_slice(), other.as_slice()) {
+        Ok(None)
+    } else {
+        let copied = scope.copy(alloc)?;
+        Ok(Some(copied))
+    }
+}
+
+fn are_same(bindings: &[Binding], others: &[Binding]) -> bool
+    ensures { result ≡ true → bindings.now ≡ others.now }
+{
+    if bindings.len() != others.len() {
+        return false;
+    }
+    for (at, binding) in bindings.iter().enumerate() {
+        if !is_same(binding, &others[at]) {
+            return false;
+        }
+    }
+    true
+}
+
+fn is_same(binding: &Binding, other: &Binding) -> bool
+    ensures { IsTrue result ↔ (binding.now ≡ other.now) }
+{
+    binding.prefix.same(&other.prefix) && binding.uri.same(&other.uri)
 }
 
 fn own_prefixes(alloc: Global, attrs: &[Attr]) -> Result<List<Text>, Memory>

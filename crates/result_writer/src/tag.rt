@@ -1,11 +1,12 @@
 //! Tags as they are written.
 
-ghost use Rattle.std.specs.Prelude.{◌≡◌, ◌++◌, codes, IfOk, OnOk};
+ghost use Rattle.std.specs.Prelude.{◌≡◌, ◌++◌, codes, true, IfOk, OnOk};
+ghost use Rattle.result_writer.specs.Steady.{keep_bindings};
 ghost use Rattle.result_writer.specs.Tag.{attribute, attributes, declaration, dressed, end_tag, open_tag, qname, quoted};
 
 use crate::escape::{Context, append_escaped};
 use crate::order::declarations;
-use crate::steady::{is_steady, undressed};
+use crate::steady::{keeps_names, undressed};
 use crate::table::{enter, enter_attributes, enter_scope};
 use crate::words::is_empty;
 use std::alloc::Global;
@@ -28,11 +29,18 @@ pub struct Dressed {
     pub prefixes: List<Text>,
 }
 
-/// What a tag declares, where these bindings are in force, and the prefixes of its attributes.
-pub fn dress(alloc: Global, in_force: &[Binding], tag: &HeldTag) -> Result<Dressed, Memory>
+/// What a tag declares, where these bindings are in force, and the prefixes of its attributes. `keeps` says that its scope
+/// is in force.
+pub fn dress(
+    alloc: Global,
+    in_force: &[Binding],
+    tag: &HeldTag,
+    keeps: bool,
+) -> Result<Dressed, Memory>
+    requires { keeps ≡ true → keep_bindings in_force.now tag.now.scope ≡ true }
     ensures { IfOk result (λ made. made ≡ dressed in_force.now tag.now) }
 {
-    if is_steady(in_force, tag) {
+    if keeps && keeps_names(in_force, tag) {
         undressed(alloc, tag)
     } else {
         dress_by_table(alloc, in_force, tag)

@@ -1,4 +1,5 @@
 ghost use Rattle.std.specs.Prelude.{◌≡◌, ◌++◌, true, false, IfOk, IfErr, MatchResult, OnOk, OnErr};
+ghost use Rattle.stx_base.specs.declared.part.Part.TheVariants.{Start};
 ghost use Rattle.result_writer.specs.Target as spec;
 ghost use Rattle.result_writer.specs.Target.{behind, fresh, is_closed, settles, text, whole_fault, IsCause};
 
@@ -6,7 +7,7 @@ use crate::fault::{ResultFault, WriteStop};
 use crate::opened::Opened;
 use std::alloc::Global;
 use std::marker::Model;
-use stx_base::{Copied, List, Part};
+use stx_base::{Binding, Copied, List, Name, Part};
 
 /// Writes the parts of a result.
 #[derive(Debug, Drop)]
@@ -70,6 +71,36 @@ impl Writer {
         let len = out.len();
         out.extend_from_slice(&self.bytes)?;
         if self.opened.take(part, dressed).is_err() {
+            out.truncate(len);
+            return Err(WriteStop::Memory);
+        }
+        Ok(())
+    }
+
+    /// The same of an element's start, whose scope is copied only where it isn't that of the start before. After a refusal
+    /// all is unchanged.
+    pub fn put_start(
+        &mut self,
+        name: Name,
+        scope: &List<Binding>,
+        out: &mut Vec<u8>,
+    ) -> Result<(), WriteStop>
+        ensures taken { OnOk result (spec.fault self.old.limit self.old.left (Start name scope.now) ≡ None) }
+        ensures fault { IfErr result (IsCause (spec.fault self.old.limit self.old.left (Start name scope.now))) }
+        ensures ok { OnOk result (self.new ≡ behind self.old (Start name scope.now)) }
+        ensures err { OnErr result (self.new ≡ self.old) }
+        ensures written { OnOk result (out.new.items ≡ out.old.items ++ settles self.old.left (Start name scope.now)) }
+        ensures unwritten { OnErr result (out.new.items ≡ out.old.items) }
+    {
+        if let Some(fault) = self.opened.start_fault(&name) {
+            return Err(WriteStop::Fault(fault));
+        }
+        let dressed = self.opened.dressed()?;
+        self.bytes.clear();
+        self.opened.append_tag(&dressed, b">", &mut self.bytes)?;
+        let len = out.len();
+        out.extend_from_slice(&self.bytes)?;
+        if self.opened.start(name, scope, dressed).is_err() {
             out.truncate(len);
             return Err(WriteStop::Memory);
         }

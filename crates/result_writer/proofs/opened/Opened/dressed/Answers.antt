@@ -9,7 +9,7 @@ pub returns-in_ok-dressed-in-Some : goal.returns-in_ok-dressed-in-Some
 returns-in_ok-dressed-in-Some c =
     let t = c.self.inside in
     let tag = c.in-Some.tag in
-    let es = elements (reverse t.elements.items) t.bindings.items in
-    ap Some (c.in_ok-dressed-in-Some.ensures ∙ ap (λ l. dressed l tag) (c.deref.ensures.value ∙ sym (in_force-elements (reverse t.elements.items) t.bindings.items c.self.invariant.counted)))
+    let es = elements (reverse t.around.elements.items) t.around.bindings.items in
+    ap Some (c.in_ok-dressed-in-Some.ensures ∙ ap (λ l. dressed l tag) (c.deref.ensures.value ∙ sym (in_force-elements (reverse t.around.elements.items) t.around.bindings.items c.self.invariant.counted)))
     ∙ ap (dressed_in es) (sym c.in-Some.is)
     ∙ ap (λ (t : Target). dressed_in t.left.elements t.left.held) c.self.view_is
