@@ -1,6 +1,6 @@
 -- No tag has two attributes of one name, nor declares a prefix twice.
-use Rattle.std.proofs.Common.{◌≡◌, ◌≢◌, ℕ, zero, suc, ◌+◌, ◌<◌, ◌≤◌, ◌^◌, Bool, true, false, not, ◌&&◌, ◌||◌, List, [], ◌∷◌, ◌++◌, Option, Some, None, length, refl, sym, ap, ◌∙◌, arith, subst, ⊎_elim, inl, inr}
-use Rattle.std.specs.Prelude.{◌⊎◌, if◌then◌else◌, codes, filter, slice_get, is_some}
+use Rattle.std.proofs.Common.{◌≡◌, ◌≢◌, ℕ, zero, suc, ◌<◌, Bool, true, false, not, ◌&&◌, ◌||◌, List, [], ◌∷◌, ◌++◌, Option, Some, None, refl, sym, ap, ◌∙◌, arith, subst, ⊎_elim, inl, inr}
+use Rattle.std.specs.Prelude.{◌⊎◌, if◌then◌else◌, filter, slice_get}
 use Rattle.std.specs.List.{list_all, list_any}
 use Rattle.std.proofs.lemmas.Bool.{and_parts, and_from}
 use Rattle.std.proofs.lemmas.Slice.Eq.{bytes_eq-Decides}
@@ -9,10 +9,10 @@ use Rattle.stx_base.specs.declared.name.Binding.{Binding}
 use Rattle.stx_base.specs.declared.name.Name.{Name}
 use Rattle.stx_base.specs.declared.part.Part.{Part}
 use Rattle.stx_base.specs.declared.part.Part.TheVariants as part
-use Rattle.result_writer.specs.Allowed.{agree, are_chars, is_empty, is_good_attribute, is_good_name, is_qname, is_word, same, xml_uri, xmlns_uri}
+use Rattle.result_writer.specs.Allowed.{is_empty, is_good_attribute, is_good_name, is_qname, same}
 use Rattle.result_writer.specs.Laws.{AreApart, AreDistinct, DeclaresOnce, HoldsGoodTags, WritesOnce}
-use Rattle.result_writer.specs.Table.{attribute_prefix, declarations, entered, free_prefix, has_prefix, in_order, is_new, is_taken, placed, precedes, prefixes, with_attributes, with_element, with_name, with_scope}
-use Rattle.result_writer.specs.Target.{Left, added, end_fault, fault, first_fault, left_by, next, nothing, or_else, same_name, start_fault, unless, with_attribute}
+use Rattle.result_writer.specs.Table.{attribute_prefix, entered, free_prefix, has_prefix, in_order, is_new, is_taken, placed, precedes, prefixes, with_attributes, with_element, with_name, with_scope}
+use Rattle.result_writer.specs.Target.{Left, added, fault, first_fault, left_by, next, nothing, or_else, same_name, unless, with_attribute}
 use Rattle.result_writer.specs.declared.fault.ResultFault.{ResultFault}
 use Rattle.result_writer.specs.declared.fault.ResultFault.TheVariants.{BadName}
 use Rattle.result_writer.specs.declared.tag.HeldTag.{HeldTag}

@@ -1,5 +1,5 @@
 -- The faults of the parts of nodes are those of the nodes.
-use Rattle.std.proofs.Common.{◌≡◌, ℕ, suc, ◌+◌, Bool, true, false, ◌&&◌, List, [], ◌∷◌, ◌++◌, Option, Some, None, length, map, refl, sym, ap, ◌∙◌, append-nil, arith}
+use Rattle.std.proofs.Common.{◌≡◌, ℕ, suc, ◌+◌, Bool, true, false, List, [], ◌∷◌, ◌++◌, Option, Some, None, length, map, refl, sym, ap, ◌∙◌, append-nil, arith}
 use Rattle.std.specs.Prelude.{if◌then◌else◌, nat_lt}
 use Rattle.std.proofs.lemmas.Bool.{and_from}
 use Rattle.std.proofs.lemmas.Slice.Eq.{bytes_eq-Decides}
@@ -10,7 +10,7 @@ use Rattle.stx_base.specs.declared.part.Part.TheVariants as part
 use Rattle.result_writer.specs.Allowed.{is_good_name, same}
 use Rattle.result_writer.specs.Laws.{JudgesNodes}
 use Rattle.result_writer.specs.Nodes.{Nodes, End, Chars, Comment, Instruction, Nested, attribute_part, attributes_fault, collected, in_one, is_end, nodes_fault, parts_of}
-use Rattle.result_writer.specs.Target.{Element, Left, chars_fault, comment_fault, end_fault, end_of, fault, first_fault, instruction_fault, is_closed, left_by, nothing, or_else, same_name, settled, start_fault, unless, whole_fault, with_attribute}
+use Rattle.result_writer.specs.Target.{Element, Left, chars_fault, comment_fault, end_of, fault, first_fault, instruction_fault, is_closed, left_by, nothing, or_else, same_name, settled, unless, with_attribute}
 use Rattle.result_writer.specs.declared.fault.ResultFault.{ResultFault}
 use Rattle.result_writer.specs.declared.fault.ResultFault.TheVariants.{BadName, ResultDepth, UnclosedResult, WrongEnd}
 use Rattle.result_writer.specs.declared.tag.HeldTag.{HeldTag}

@@ -1,4 +1,5 @@
 mod Apart
+mod Attributed
 mod Bound
 mod Judging
 mod Nesting

@@ -1,6 +1,6 @@
 -- Parts that are accepted as a whole are those of nodes.
 use Rattle.std.proofs.Common.{◌≡◌, ℕ, Bool, true, false, List, [], ◌∷◌, ◌++◌, Option, Some, None, map, refl, sym, ap, ◌∙◌, append_assoc}
-use Rattle.std.specs.Prelude.{if◌then◌else◌, is_some, nat_lt}
+use Rattle.std.specs.Prelude.{if◌then◌else◌, is_some}
 use Rattle.std.proofs.lemmas.Bool.{and_parts}
 use Rattle.std.proofs.lemmas.Slice.Eq.{bytes_eq-Decides}
 use Rattle.stx_base.specs.declared.name.Attr.{Attr}
@@ -10,12 +10,12 @@ use Rattle.stx_base.specs.declared.part.Part.{Part}
 use Rattle.stx_base.specs.declared.part.Part.TheVariants as part
 use Rattle.result_writer.specs.Allowed.{are_chars, is_good_attribute, is_good_name, same}
 use Rattle.result_writer.specs.Laws.{AcceptsNodes}
-use Rattle.result_writer.specs.Nodes.{Nodes, End, Chars, Comment, Instruction, Nested, attribute_part, expanded_name, parts_of, unprefixed, written}
-use Rattle.result_writer.specs.Target.{Element, Left, added, closed, end_of, fault, first_fault, innermost, is_closed, left_by, next, nothing, or_else, same_name, settled, settles, text, text_from, unless, whole_fault}
+use Rattle.result_writer.specs.Nodes.{Nodes, End, Chars, Comment, Instruction, Nested, attribute_part, parts_of, unprefixed}
+use Rattle.result_writer.specs.Target.{Element, Left, added, closed, end_of, fault, first_fault, innermost, is_closed, left_by, next, nothing, or_else, same_name, settled, settles, text, text_from, unless}
 use Rattle.result_writer.specs.declared.fault.ResultFault.{ResultFault}
 use Rattle.result_writer.specs.declared.fault.ResultFault.TheVariants.{BadChar, BadName, LateAttribute, UnclosedResult, WrongEnd}
 use Rattle.result_writer.specs.declared.tag.HeldTag.{HeldTag}
-use Rattle.result_writer.proofs.Trees.{outside, within, writes-nodes}
+use Rattle.result_writer.proofs.Trees.{writes-nodes}
 
 passed : (test : Bool) (f : ResultFault) (others : Option ResultFault) → unless test f others ≡ None → (test ≡ true) × (others ≡ None)
 passed true f others h = (refl, h)

@@ -1,7 +1,7 @@
 -- A tag whose prefixes are all in force declares nothing.
 use Rattle.std.proofs.Common.{◌≡◌, ℕ, Bool, true, false, not, ◌&&◌, ◌||◌, List, [], ◌∷◌, ◌++◌, refl, sym, ap, ◌∙◌}
 use Rattle.std.specs.Prelude.{if◌then◌else◌, filter, codes}
-use Rattle.std.specs.List.{list_all, list_any}
+use Rattle.std.specs.List.{list_all}
 use Rattle.std.proofs.lemmas.Bool.{and_parts, and_from}
 use Rattle.std.proofs.lemmas.Slice.Eq.{bytes_eq-Decides}
 use Rattle.stx_base.specs.declared.name.Attr.{Attr}
@@ -11,7 +11,6 @@ use Rattle.result_writer.specs.Allowed.{is_empty, is_word, same}
 use Rattle.result_writer.specs.Steady.{is_in_force, keep_bindings, keeps_binding, keeps_names, keeps_prefix, own_prefixes, undressed}
 use Rattle.result_writer.specs.Table.{attribute_prefix, bound, entered, free_prefix, has_prefix, in_order, is_new, is_taken, prefixes, with_attributes, with_element, with_name, with_scope}
 use Rattle.result_writer.specs.Tag.{dressed}
-use Rattle.result_writer.specs.declared.tag.Dressed.{Dressed}
 use Rattle.result_writer.specs.declared.tag.HeldTag.{HeldTag}
 use Rattle.result_writer.proofs.Prefixing.{all_append}
 

@@ -1,9 +1,7 @@
 -- Texts of lists of parts, and attributes of one name.
-use Rattle.std.proofs.Common.{◌≡◌, ℕ, Bool, true, false, ◌||◌, List, [], ◌∷◌, ◌++◌, refl, sym, ap, ◌∙◌, append_assoc}
+use Rattle.std.proofs.Common.{◌≡◌, Bool, true, false, ◌||◌, List, [], ◌∷◌, ◌++◌, refl, sym, ap, ◌∙◌, append_assoc}
 use Rattle.std.specs.Prelude.{if◌then◌else◌}
 use Rattle.std.specs.List.{list_any}
-use Rattle.stx_base.specs.declared.name.Attr.{Attr}
-use Rattle.stx_base.specs.declared.name.Name.{Name}
 use Rattle.stx_base.specs.declared.part.Part.{Part}
 use Rattle.result_writer.specs.Laws.{Appends, Replaces}
 use Rattle.result_writer.specs.Target.{Left, left_by, next, same_name, settles, text_from, with_attribute}

@@ -1,11 +1,11 @@
 -- Parts of nodes: how they are written, and the nodes that parts are.
-use Rattle.std.proofs.Common.{◌≡◌, ◌≢◌, ℕ, zero, suc, Bool, true, false, List, [], ◌∷◌, ◌++◌, Option, Some, None, map, refl, sym, ap, ◌∙◌, append_assoc, append-nil}
+use Rattle.std.proofs.Common.{◌≡◌, ℕ, zero, suc, Bool, true, false, List, [], ◌∷◌, ◌++◌, Some, None, map, refl, sym, ap, ◌∙◌, append_assoc, append-nil}
 use Rattle.std.specs.Prelude.{if◌then◌else◌, codes, encode_utf8_all}
 use Rattle.stx_base.specs.declared.name.Attr.{Attr}
 use Rattle.stx_base.specs.declared.part.Part.{Part}
 use Rattle.stx_base.specs.declared.part.Part.TheVariants as part
 use Rattle.result_writer.specs.Escape.{escaped}
-use Rattle.result_writer.specs.Laws.{IsBehindText, IsProper, MakesProper, ReadsNodes, TextsJoin, WritesNodes}
+use Rattle.result_writer.specs.Laws.{IsProper, MakesProper, ReadsNodes, TextsJoin, WritesNodes}
 use Rattle.result_writer.specs.Nodes.{Nodes, End, Chars, Comment, Instruction, Nested, attribute_part, attrs_of, collected, expanded_tag, forest, in_one, inner, inside, is_end, lists, outer, part_before, parts_of, plain, text_before, written}
 use Rattle.result_writer.specs.Tag.{dressed, end_tag, open_tag}
 use Rattle.result_writer.specs.Target.{Element, Left, comment_text, in_force, instruction_text, nothing, settled, tag_text, text_from, with_attribute}

@@ -1,5 +1,5 @@
 -- Parts as a list of nodes, and nodes as they are written (XML 1.0, 2.1 and 3.1; Namespaces in XML 1.0, 2.1).
-use Rattle.std.specs.Prelude.{ℕ, suc, nat_lt, Option, Some, None, Bool, true, false, if◌then◌else◌, List, [], ◌∷◌, ◌++◌, map, codes, encode_utf8_all}
+use Rattle.std.specs.Prelude.{ℕ, suc, nat_lt, Option, None, Bool, true, false, if◌then◌else◌, List, [], ◌∷◌, ◌++◌, map, codes, encode_utf8_all}
 use Rattle.stx_base.specs.declared.name.Attr.{Attr}
 use Rattle.stx_base.specs.declared.name.Binding.{Binding}
 use Rattle.stx_base.specs.declared.name.Name.{Name}

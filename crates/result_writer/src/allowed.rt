@@ -1,6 +1,6 @@
 //! What may stand in a result.
 
-ghost use Rattle.std.specs.Prelude.{◌≡◌, ◌==◌};
+ghost use Rattle.std.specs.Prelude.{◌≡◌, ◌==◌, ◌&&◌, nat_lt};
 ghost use Rattle.std.specs.List.{list_all, list_any};
 ghost use Rattle.std.specs.Str.{chars};
 ghost use Rattle.stx_base.specs.Character.{is_char};
@@ -54,7 +54,15 @@ pub fn are_chars(text: &Text) -> bool
 fn holds_chars(text: &str) -> bool
     ensures { result ≡ list_all is_char (chars text.now) }
 {
-    text.chars().all(|c| is_char(c))
+    are_ascii_chars(text.as_bytes()) || text.chars().all(|c| is_char(c))
+}
+
+fn are_ascii_chars(bytes: &[u8]) -> bool
+    ensures { result ≡ list_all (λ b. nat_lt b 128 && is_char b) bytes.now }
+{
+    bytes
+        .iter()
+        .all(|b| b.is_ascii() && is_char(char::from(*b)))
 }
 
 fn has_pair(bytes: &[u8], first: u8, second: u8) -> bool

@@ -2,6 +2,7 @@
 #![tactic(auto)]
 
 mod allowed;
+mod attributes;
 mod escape;
 mod fault;
 pub mod law;

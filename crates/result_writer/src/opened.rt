@@ -11,15 +11,16 @@ ghost use Rattle.result_writer.specs.Target.{behind, comment_text, depth, dresse
 use crate::allowed::{
     are_chars, is_good_attribute, is_good_comment, is_good_data, is_good_name, is_good_target,
 };
+use crate::attributes::Attributes;
 use crate::escape::{Context, append_escaped};
 use crate::fault::{ResultFault, WriteStop};
 use crate::steady::{copy_unless_same, keep_bindings};
 use crate::tag::{Dressed, HeldTag, append_end_tag, append_open_tag, dress};
-use crate::words::{is_empty, same};
+use crate::words::{is_empty, same_name};
 use std::alloc::Global;
 use std::marker::Model;
 use std::mem;
-use stx_base::{Attr, Binding, Copied, List, Memory, Name, Part, Text};
+use stx_base::{Binding, Copied, List, Memory, Name, Part, Text};
 
 /// An element whose start tag is settled, and whose end is still to come.
 #[derive(Debug, Drop)]
@@ -303,10 +304,14 @@ impl Opened {
         ensures ok { OnOk result (self.new ≡ behind self.old (Start name scope.now)) }
         ensures err { OnErr result (self.new ≡ self.old) }
     {
-        let other = copy_unless_same(self.alloc, scope, last_scope(&self.held, &self.around.scope))?;
+        let other = copy_unless_same(
+            self.alloc,
+            scope,
+            last_scope(&self.held, &self.around.scope),
+        )?;
         settle_tag(&mut self.around, &mut self.held, dressed)?;
         let scope = self.around.take_scope(self.alloc, other);
-        let attrs = List::new(self.alloc);
+        let attrs = Attributes::new(self.alloc);
         self.held = Some(HeldTag { name, scope, attrs });
         Ok(())
     }
@@ -317,7 +322,7 @@ impl Opened {
     {
         match &mut self.held {
             None => Ok(()),
-            Some(tag) => set_attribute(self.alloc, &mut tag.attrs, name, value),
+            Some(tag) => tag.attrs.set(name, value),
         }
     }
 
@@ -468,46 +473,4 @@ fn append_instruction(target: &Text, text: &Text, out: &mut Vec<u8>) -> Result<(
     }
     out.extend_from_slice(b"?>")?;
     Ok(())
-}
-
-/// Gives an attribute its value: in its place where there is one of the name, else behind the others. After a refusal
-/// all is unchanged.
-fn set_attribute(
-    alloc: Global,
-    attrs: &mut List<Attr>,
-    name: Name,
-    value: Text,
-) -> Result<(), Memory>
-    ensures ok { OnOk result (attrs.new ≡ with_attribute attrs.old name value) }
-    ensures err { OnErr result (attrs.new ≡ attrs.old) }
-{
-    match attribute_named(attrs.as_slice(), &name) {
-        Some(at) => {
-            let name = attrs.as_slice()[at].name.copy(alloc)?;
-            attrs.set(at, Attr { name, value });
-            Ok(())
-        }
-        None => attrs.push(Attr { name, value }),
-    }
-}
-
-/// The place of the first attribute with the expanded name.
-fn attribute_named(attrs: &[Attr], name: &Name) -> Option<usize>
-    ensures within { IfSome result (λ at. at < length attrs.now) }
-    ensures found { (value : Items ℕ) → MatchOption result
-        (with_attribute attrs.now name.now value ≡ attrs.now ++ record { name = name.now; value = value } ∷ [])
-        (λ at. (a : Attr) → slice_get attrs.now at ≡ Some a → with_attribute attrs.now name.now value ≡ slice_set attrs.now at (record a { value = value })) }
-{
-    for (at, attr) in attrs.iter().enumerate() {
-        if same_name(&attr.name, name) {
-            return Some(at);
-        }
-    }
-    None
-}
-
-fn same_name(name: &Name, other: &Name) -> bool
-    ensures { result ≡ spec.same_name name.now other.now }
-{
-    same(&name.uri, &other.uri) && same(&name.local, &other.local)
 }

@@ -87,13 +87,13 @@ fn attribute_prefix(alloc: Global, table: &List<Binding>, name: &Name) -> Result
 pub fn enter_attributes(
     alloc: Global,
     table: &mut List<Binding>,
-    attrs: &List<Attr>,
+    attrs: &[Attr],
 ) -> Result<List<Text>, Memory>
     ensures entered { OnOk result (table.new ≡ with_attributes table.old attrs.now) }
     ensures prefixes { IfOk result (λ made. made ≡ prefixes table.old attrs.now) }
 {
     let mut prefixes = List::new(alloc);
-    for attr in attrs.as_slice() {
+    for attr in attrs {
         let prefix = attribute_prefix(alloc, table, &attr.name)?;
         enter_bound(alloc, table, &prefix, &attr.name.uri)?;
         prefixes.push(prefix)?;

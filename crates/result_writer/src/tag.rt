@@ -4,6 +4,7 @@ ghost use Rattle.std.specs.Prelude.{◌≡◌, ◌++◌, codes, true, IfOk, OnOk
 ghost use Rattle.result_writer.specs.Steady.{keep_bindings};
 ghost use Rattle.result_writer.specs.Tag.{attribute, attributes, declaration, dressed, end_tag, open_tag, qname, quoted};
 
+use crate::attributes::Attributes;
 use crate::escape::{Context, append_escaped};
 use crate::order::declarations;
 use crate::steady::{keeps_names, undressed};
@@ -18,7 +19,7 @@ pub struct HeldTag {
     pub name: Name,
     /// The bindings in force where the element comes from.
     pub scope: List<Binding>,
-    pub attrs: List<Attr>,
+    pub attrs: Attributes,
 }
 
 /// What a tag is written with beside its names and values.
@@ -52,7 +53,7 @@ fn dress_by_table(alloc: Global, in_force: &[Binding], tag: &HeldTag) -> Result<
 {
     let mut table = List::new(alloc);
     enter(alloc, &mut table, &tag.name.prefix, &tag.name.uri)?;
-    let prefixes = enter_attributes(alloc, &mut table, &tag.attrs)?;
+    let prefixes = enter_attributes(alloc, &mut table, tag.attrs.as_slice())?;
     enter_scope(alloc, &mut table, &tag.scope)?;
     let declared = declarations(alloc, in_force, &table)?;
     Ok(Dressed { declared, prefixes })

@@ -1,7 +1,8 @@
 ghost use Rattle.std.specs.Prelude.{◌≡◌};
 ghost use Rattle.result_writer.specs.Allowed.{agree, is_empty, is_word, same};
+ghost use Rattle.result_writer.specs.Target as spec;
 
-use stx_base::Text;
+use stx_base::{Name, Text};
 
 /// Whether two texts have the same characters.
 pub fn same(a: &Text, b: &Text) -> bool
@@ -28,4 +29,11 @@ pub fn agree(a: bool, b: bool) -> bool
     ensures { result ≡ agree a b }
 {
     a == b
+}
+
+/// Whether two names have one URI and one local part.
+pub fn same_name(name: &Name, other: &Name) -> bool
+    ensures { result ≡ spec.same_name name.now other.now }
+{
+    same(&name.uri, &other.uri) && same(&name.local, &other.local)
 }

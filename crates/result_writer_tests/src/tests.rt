@@ -112,11 +112,46 @@ fn told_end(faults: &mut String, answer: Result<(), ResultFault>) -> Result<(), 
     Ok(())
 }
 
+/// How a part is handed to a writer.
+#[derive(Clone, Copy, Debug)]
+enum Handed {
+    Lent,
+    Over,
+    /// A start by its name and scope, and each other part over.
+    InParts,
+}
+
+impl Handed {
+    fn put(&self, writer: &mut Writer, part: Part, out: &mut Vec<u8>) -> Result<(), WriteStop> {
+        match self {
+            Handed::Lent => put_lent(writer, part, out),
+            Handed::Over => writer.put_owned(part, out),
+            Handed::InParts => put_in_parts(writer, part, out),
+        }
+    }
+}
+
+fn put_lent(writer: &mut Writer, part: Part, out: &mut Vec<u8>) -> Result<(), WriteStop> {
+    writer.put(&part, out)
+}
+
+fn put_in_parts(writer: &mut Writer, part: Part, out: &mut Vec<u8>) -> Result<(), WriteStop> {
+    match part {
+        Part::Start { name, scope } => writer.put_start(name, &scope, out),
+        Part::Attribute { name, value } => writer.put_owned(Part::Attribute { name, value }, out),
+        Part::End { name } => writer.put_owned(Part::End { name }, out),
+        Part::Chars { text } => writer.put_owned(Part::Chars { text }, out),
+        Part::Comment { text } => writer.put_owned(Part::Comment { text }, out),
+        Part::Pi { target, text } => writer.put_owned(Part::Pi { target, text }, out),
+    }
+}
+
 /// The parts are put one after another. One that is refused changes nothing, so those behind it are put as if it weren't
 /// there.
 fn written(
     alloc: Global,
     limit: u32,
+    handed: Handed,
     parts: &[Given],
     faults: &mut String,
 ) -> Result<Vec<u8>, Fail> {
@@ -124,7 +159,7 @@ fn written(
     let mut out = Vec::new(alloc);
     for (place, given) in parts.iter().enumerate() {
         let part = given.part(alloc)?;
-        told(faults, writer.put(&part, &mut out), place)?;
+        told(faults, handed.put(&mut writer, part, &mut out), place)?;
     }
     told_end(faults, writer.finish())?;
     Ok(out)
@@ -152,10 +187,12 @@ fn check(
     wanted: (&str, &str),
 ) -> Result<(), Fail> {
     let (bytes, refusals) = wanted;
-    let mut faults = String::new(alloc);
-    let out = written(alloc, limit, parts, &mut faults)?;
-    check_text(rt, "bytes", out.as_slice(), bytes, parts);
-    check_text(rt, "faults", faults.as_bytes(), refusals, parts);
+    for handed in [Handed::Lent, Handed::Over, Handed::InParts] {
+        let mut faults = String::new(alloc);
+        let out = written(alloc, limit, handed, parts, &mut faults)?;
+        check_text(rt, "bytes", out.as_slice(), bytes, parts);
+        check_text(rt, "faults", faults.as_bytes(), refusals, parts);
+    }
     let others = accepted(alloc, limit, parts)?;
     check_text(
         rt,

@@ -1,6 +1,5 @@
-use Rattle.std.proofs.Common.{◌≡◌, ◌+◌, ◌<◌, ◌++◌, List, ◌∷◌, [], length, get_or, subst, sym, ap, ◌∙◌, drop, append_assoc}
+use Rattle.std.proofs.Common.{◌≡◌, ◌+◌, ◌<◌, ◌++◌, ◌∷◌, [], length, get_or, sym, ap, ◌∙◌, drop, append_assoc}
 use Rattle.std.specs.Prelude.{if◌then◌else◌}
-use Rattle.stx_base.specs.declared.name.Attr.{Attr}
 use Rattle.result_writer.specs.Allowed.{is_empty}
 use Rattle.result_writer.specs.Table.{attribute_prefix, entered, prefixes, with_attributes, with_name}
 use Rattle.result_writer.proofs.Tabling.{prefixes-step, with_attributes-step}
@@ -13,8 +12,8 @@ loop-attr-preserved c =
     let i = c.loop-attr.attr-index in
     let a = c.attr-item.result in
     let rest = drop (i + 1) attrs in
-    let within : i < length attrs = subst (λ (l : List Attr). i < length l) c.as_slice-attr-items.ensures c.loop-attr-test.true in
-    let item : a ≡ get_or attrs i a = subst (λ (l : List Attr). a ≡ get_or l i a) c.as_slice-attr-items.ensures c.attr-item.is in
+    let within : i < length attrs = c.loop-attr-test.true in
+    let item : a ≡ get_or attrs i a = c.attr-item.is in
     let prefix = c.in_ok-prefix.ensures in
     let new : c.enter_bound.new.table ≡ with_name table a.name =
     c.in_ok-enter_bound.ensures ∙ ap (λ p. if is_empty a.name.uri then table else entered table p a.name.uri) prefix in

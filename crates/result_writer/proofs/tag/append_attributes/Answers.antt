@@ -1,6 +1,5 @@
-use Rattle.std.proofs.Common.{◌≡◌, ◌++◌, List, ℕ, [], ◌∷◌, refl, ap, sym, ◌∙◌, drop, length, append-nil}
+use Rattle.std.proofs.Common.{◌≡◌, ◌++◌, List, ℕ, [], ◌∷◌, refl, ap, sym, ◌∙◌, append-nil}
 use Rattle.std.proofs.lemmas.List.{drop_all}
-use Rattle.stx_base.specs.declared.name.Attr.{Attr}
 use Rattle.result_writer.specs.Tag.{attributes}
 use Rattle.result_writer.proofs.tag.append_attributes.Goals as goal
 

@@ -1,4 +1,4 @@
-use Rattle.std.proofs.Common.{◌≡◌, ◌==◌, ap, sym, ◌∙◌, reverse}
+use Rattle.std.proofs.Common.{◌==◌, ap, sym, ◌∙◌, reverse}
 use Rattle.result_writer.specs.Opened.{elements}
 use Rattle.result_writer.specs.Target.{Target, is_closed}
 use Rattle.result_writer.proofs.Opening.{is_closed-length, length_open, none-from}

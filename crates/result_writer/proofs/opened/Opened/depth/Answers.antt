@@ -1,4 +1,4 @@
-use Rattle.std.proofs.Common.{◌≡◌, ◌+◌, ap, sym, ◌∙◌, reverse, subst}
+use Rattle.std.proofs.Common.{◌+◌, ap, sym, ◌∙◌, reverse}
 use Rattle.result_writer.specs.Opened.{elements}
 use Rattle.result_writer.specs.Target.{Target, depth}
 use Rattle.result_writer.proofs.Opening.{length_open}

@@ -1,4 +1,4 @@
-use Rattle.std.proofs.Common.{ap, sym, ◌∙◌, ◌≡◌, reverse, Some}
+use Rattle.std.proofs.Common.{ap, sym, ◌∙◌, reverse, Some}
 use Rattle.result_writer.specs.Opened.{elements}
 use Rattle.result_writer.specs.Tag.{dressed}
 use Rattle.result_writer.specs.Target.{Target, dressed_in}
