@@ -14,8 +14,6 @@ mod stack;
 mod state;
 mod step;
 mod stop;
-#[cfg(test)]
-mod tests;
 mod token;
 mod words;
 

@@ -1,6 +1,6 @@
 //! Attribute value templates, with their parts and faults.
 
-use crate::tests::Pieces;
+use crate::reading::Pieces;
 
 pub static TEMPLATES: [(&str, &str); 35] = [
     ("", ""),

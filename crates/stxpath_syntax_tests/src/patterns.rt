@@ -1,6 +1,6 @@
 //! Patterns, with their alternatives and faults.
 
-use crate::tests::Pieces;
+use crate::reading::Pieces;
 
 pub static PATTERNS: [(&str, &str); 57] = [
     ("a", "a"),

@@ -1,6 +1,6 @@
 //! Expressions, with trees and faults.
 
-use crate::tests::Pieces;
+use crate::reading::Pieces;
 
 /// Numerals, texts, variables, lists and calls.
 pub static ATOMS: [(&str, &str); 36] = [

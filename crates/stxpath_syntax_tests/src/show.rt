@@ -1,10 +1,10 @@
 //! Trees as the rows write them. What is still to be written waits on a stack, the next on top.
 
-use crate::{Alternative, Avt, AvtPart, Bin, Expr, Link, PathStep, Pattern};
 use std::alloc::Global;
 use std::fmt::Write;
 use std::test::Fail;
 use stx_base::{Name, NodeTest};
+use stxpath_syntax::{Alternative, Avt, AvtPart, Bin, Expr, Link, PathStep, Pattern};
 
 #[derive(Clone, Copy)]
 enum Work<'a> {

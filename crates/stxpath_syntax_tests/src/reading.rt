@@ -2,17 +2,13 @@
 //! `(Abs /a[1]//b @x)` a path with steps, `(Up 2 @x)` one that counts parents. A name with a prefix is `p{URI}local`. A fault
 //! is `Kind at PLACE`.
 
-mod expressions;
-mod patterns;
-mod show;
-mod templates;
-
-use self::show::{shown_avt, shown_expr, shown_pattern};
-use crate::{ParseFault, parse_avt, parse_expr, parse_pattern};
+use crate::show::{shown_avt, shown_expr, shown_pattern};
+use crate::{expressions, patterns, templates};
 use std::alloc::Global;
 use std::process::Abort;
 use std::test::Fail;
 use stx_base::{Binding, List, Memory, Text};
+use stxpath_syntax::{ParseFault, parse_avt, parse_expr, parse_pattern};
 
 fn bound(alloc: Global, prefix: &str, uri: &str) -> Result<Binding, Memory> {
     let prefix = Text::of(alloc, prefix)?;
@@ -21,7 +17,7 @@ fn bound(alloc: Global, prefix: &str, uri: &str) -> Result<Binding, Memory> {
 }
 
 /// What the rows are read with: two prefixes, and a default that no name of the language takes.
-fn scope(alloc: Global) -> Result<List<Binding>, Memory> {
+pub fn scope(alloc: Global) -> Result<List<Binding>, Memory> {
     let mut made = List::new(alloc);
     made.push(bound(alloc, "", "D")?)?;
     made.push(bound(alloc, "p", "P")?)?;
@@ -40,7 +36,7 @@ fn shown_fault(alloc: Global, fault: ParseFault) -> Result<String, Fail> {
     }
 }
 
-fn expression(alloc: Global, text: &str, scope: &List<Binding>) -> Result<String, Fail> {
+pub fn expression(alloc: Global, text: &str, scope: &List<Binding>) -> Result<String, Fail> {
     let text = Text::of(alloc, text)?;
     match parse_expr(alloc, &text, scope) {
         Ok(expr) => shown_expr(alloc, &expr),
@@ -65,7 +61,7 @@ fn template(alloc: Global, text: &str, scope: &List<Binding>) -> Result<String, 
 }
 
 /// A text and what it is read as, or its fault.
-type Row = (&'static str, &'static str);
+pub type Row = (&'static str, &'static str);
 
 fn check_expressions(
     rt: &impl Abort,
@@ -191,7 +187,7 @@ fn numbers_of_arguments(rt: HostRuntime) -> Result<(), Fail> {
 }
 
 /// Pieces, each with how often it stands there.
-type Pieces = &'static [(&'static str, usize)];
+pub type Pieces = &'static [(&'static str, usize)];
 
 /// Pieces, and what their text is read as.
 type LargeRow = (Pieces, &'static str);
