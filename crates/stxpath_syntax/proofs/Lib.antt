@@ -6,3 +6,10 @@ pub mod Stopping
 pub mod Answering
 pub mod Looping
 pub mod Cutting
+pub mod Pieces
+pub mod Wording
+pub mod Heights
+pub mod Readable
+pub mod WellMade
+pub mod Printing
+pub mod ReadingBack

@@ -11,3 +11,4 @@ pub mod Machine
 pub mod Ending
 pub mod Running
 pub mod Laws
+pub mod Printing

@@ -6,3 +6,8 @@ ghost use Rattle.stxpath_syntax.specs.Laws as law;
 pub fn one_reading()
     ensures { law.OneReading }
 {}
+
+/// What is printed of an expression that was read is read as it again.
+pub fn reads_back()
+    ensures { law.ReadsBack }
+{}

@@ -120,33 +120,6 @@ fn call(name: &Written, at: usize, count: usize, items: Meant<List<Expr>>) -> Mo
     Mode::Complete(meant::called(function_of(name), at, count, items))
 }
 
-/// `)` behind `(`, which stands for no expression, or behind a comma.
-fn empty_group(items: Meant<List<Expr>>, count: usize) -> Result<Mode, Stop>
-    ensures { spec.Takes (spec.empty_group items count) result }
-{
-    if count == 0 {
-        Ok(Mode::Complete(meant::seq(items)))
-    } else {
-        Err(Stop::Stuck)
-    }
-}
-
-/// `)` behind a function's name and `(`, or behind a comma.
-fn empty_call(
-    name: &Written,
-    at: usize,
-    items: Meant<List<Expr>>,
-    count: usize,
-) -> Result<Mode, Stop>
-    ensures { spec.Takes (spec.empty_call name.now at items count) result }
-{
-    if count == 0 {
-        Ok(call(name, at, 0, items))
-    } else {
-        Err(Stop::Stuck)
-    }
-}
-
 /// `)` behind `(` or a comma.
 fn close_empty(stack: &mut Stack<Frame>) -> Result<Mode, Stop>
     ensures { spec.Turns (spec.close_empty stack.old) result stack.new }
