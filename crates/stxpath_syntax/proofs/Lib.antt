@@ -6,6 +6,8 @@ pub mod Stopping
 pub mod Answering
 pub mod Looping
 pub mod Cutting
+pub mod Deciding
+pub mod Templates
 pub mod Pieces
 pub mod Wording
 pub mod Heights

@@ -7,6 +7,11 @@ pub fn one_reading()
     ensures { law.OneReading }
 {}
 
+/// A text is read as one expression, pattern or template, or has one first fault.
+pub fn one_answer()
+    ensures { law.OneAnswer }
+{}
+
 /// What is printed of an expression that was read is read as it again.
 pub fn reads_back()
     ensures { law.ReadsBack }
