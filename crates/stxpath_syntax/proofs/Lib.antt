@@ -12,6 +12,7 @@ pub mod Pieces
 pub mod Wording
 pub mod Heights
 pub mod Readable
+pub mod Shaping
 pub mod WellMade
 pub mod Printing
 pub mod ReadingBack

@@ -12,3 +12,4 @@ pub mod Ending
 pub mod Running
 pub mod Laws
 pub mod Printing
+pub mod Shape

@@ -1,6 +1,8 @@
 //! Attribute value templates: plain characters with expressions in braces.
 
-ghost use Rattle.std.specs.Prelude.{◌≡◌, ◌==◌, ◌<◌, ◌≤◌, ◌+◌, ◌^◌, ◌++◌, ◌∷◌, [], true, OnOk, IfSome, None as Nothing, drop, length};
+ghost use Rattle.std.specs.Prelude.{◌≡◌, ◌==◌, ◌<◌, ◌≤◌, ◌+◌, ◌^◌, ◌++◌, ◌∷◌, [], true, OnOk, IfOk, IfSome, None as Nothing, drop, length, map};
+ghost use Rattle.std.specs.List.{list_all};
+ghost use Rattle.stxpath_syntax.specs.Shape as shape;
 ghost use Rattle.stxpath_syntax.specs.Template as spec;
 ghost use Rattle.stxpath_syntax.specs.Templating as templating;
 ghost use Rattle.stxpath_syntax.specs.Tokens.{has_at};
@@ -184,7 +186,9 @@ fn parts(alloc: Global, text: &[char], scope: &List<Binding>) -> Result<List<Avt
 
 /// Reads an attribute value template; the fault is the first one.
 pub fn parse_avt(alloc: Global, text: &Text, scope: &List<Binding>) -> Result<Avt, ParseFault>
-    ensures { spec.Answers (spec.IsTemplate scope.now text.now) (spec.parts_of result) }
+    ensures reads { spec.Answers (spec.IsTemplate scope.now text.now) (spec.parts_of result) }
+    ensures called_well { IfOk result (λ template. list_all shape.is_part_called_well template.parts ≡ true) }
+    ensures low { IfOk result (λ template. shape.greatest (map shape.part_height template.parts) ≤ 64) }
 {
     let chars: Vec<char> = text.as_str().chars().collect(alloc)?;
     let parts = parts(alloc, &chars, scope)?;

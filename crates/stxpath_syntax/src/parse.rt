@@ -1,7 +1,9 @@
 //! Expressions and patterns: tokens through the parser's states.
 
-ghost use Rattle.std.specs.Prelude.{◌≡◌, ◌<◌, ◌+◌, ◌^◌, length};
+ghost use Rattle.std.specs.Prelude.{◌≡◌, ◌<◌, ◌≤◌, ◌+◌, ◌^◌, true, IfOk, length, map};
+ghost use Rattle.std.specs.List.{list_all};
 ghost use Rattle.stxpath_syntax.specs.Running as running;
+ghost use Rattle.stxpath_syntax.specs.Shape as shape;
 ghost use Rattle.stxpath_syntax.specs.Template as spec;
 
 use crate::expr::{Alternative, Expr, Pattern};
@@ -111,7 +113,9 @@ pub fn expression(
 
 /// Reads an expression, its prefixes by the last binding of each; the fault is the first one.
 pub fn parse_expr(alloc: Global, text: &Text, scope: &List<Binding>) -> Result<Expr, ParseFault>
-    ensures { spec.Answers (spec.IsExpression scope.now 0 text.now) result }
+    ensures reads { spec.Answers (spec.IsExpression scope.now 0 text.now) result }
+    ensures called_well { IfOk result (λ expr. shape.is_called_well expr ≡ true) }
+    ensures low { IfOk result (λ expr. shape.height expr ≤ 64) }
 {
     let chars: Vec<char> = text.as_str().chars().collect(alloc)?;
     expression(alloc, &chars, 0, scope)
@@ -158,7 +162,9 @@ pub fn parse_pattern(
     text: &Text,
     scope: &List<Binding>,
 ) -> Result<Pattern, ParseFault>
-    ensures { spec.Answers (spec.IsPattern scope.now text.now) (spec.alternatives_of result) }
+    ensures reads { spec.Answers (spec.IsPattern scope.now text.now) (spec.alternatives_of result) }
+    ensures called_well { IfOk result (λ pattern. list_all shape.is_alternative_called_well pattern.alternatives ≡ true) }
+    ensures low { IfOk result (λ pattern. shape.greatest (map shape.alternative_height pattern.alternatives) ≤ 64) }
 {
     let chars: Vec<char> = text.as_str().chars().collect(alloc)?;
     let alternatives = alternatives(alloc, &chars, scope)?;
