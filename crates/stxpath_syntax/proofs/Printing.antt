@@ -63,6 +63,9 @@ pub printed_attr : (t : NodeTest) → printed (e.Attr t) ≡ closed (test_text t
 unfolding printed
 printed_attr t = ap printed (sym (rolls-Attr t)) ∙ fold-roll-Expr Printed (List ℕ) layer step_layer (Expr-F.Attr t)
 
+-- what is printed of each form of an expression
+pub ruleset printed_forms = (printed_whole, printed_literal, printed_var, printed_call, printed_seq, printed_neg, printed_binary, printed_root, printed_abs, printed_up, printed_attr)
+
 pub printed_step : (l : Link) (t : NodeTest) (es : List Expr) → step_text (step_of l t es) ≡ link_text l ++ test_text t ++ predicates (map printed es)
 unfolding printed step_text
 printed_step l t es = fold-roll-PathStep Printed (List ℕ) layer step_layer (record { link = l; test = t; predicates = es })

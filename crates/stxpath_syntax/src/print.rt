@@ -23,7 +23,7 @@ pub fn print_expr(alloc: Global, expr: &Expr) -> Result<Text, Memory>
     Ok(text)
 }
 
-#[tactic(auto, using(crate::proofs::Printing::printed_whole, crate::proofs::Printing::printed_literal, crate::proofs::Printing::printed_var, crate::proofs::Printing::printed_call, crate::proofs::Printing::printed_seq, crate::proofs::Printing::printed_neg, crate::proofs::Printing::printed_binary, crate::proofs::Printing::printed_root, crate::proofs::Printing::printed_abs, crate::proofs::Printing::printed_up, crate::proofs::Printing::printed_attr, std::proofs::lemmas::Grind::common_steps))]
+#[tactic(auto, using(crate::proofs::Printing::printed_forms, std::proofs::lemmas::Grind::common_steps))]
 #[cycle(print)]
 fn put_expr(text: &mut Text, expr: &Expr) -> Result<(), Memory>
     ensures { OnOk result (text.new ≡ text.old ++ (spec.printed expr.now).text) }
@@ -59,7 +59,7 @@ fn put_expr(text: &mut Text, expr: &Expr) -> Result<(), Memory>
     }
 }
 
-#[tactic(auto, using(crate::proofs::Printing::printed_whole, crate::proofs::Printing::printed_literal, crate::proofs::Printing::printed_var, crate::proofs::Printing::printed_call, crate::proofs::Printing::printed_seq, crate::proofs::Printing::printed_neg, crate::proofs::Printing::printed_binary, crate::proofs::Printing::printed_root, crate::proofs::Printing::printed_abs, crate::proofs::Printing::printed_up, crate::proofs::Printing::printed_attr))]
+#[tactic(auto, using(crate::proofs::Printing::printed_forms))]
 fn is_loose(expr: &Expr) -> bool
     ensures { result ≡ (spec.printed expr.now).is_loose }
 {
