@@ -14,3 +14,4 @@ pub mod Treeing
 pub mod Unflattening
 pub mod Ending
 pub mod Widths
+pub mod Growing

@@ -9,5 +9,6 @@ pub mod Answering
 pub mod Taking
 pub mod Fronts
 pub mod Cores
+pub mod Growing
 pub mod Laws
 pub mod Run

@@ -1,4 +1,5 @@
 //! Laws about the definitions that the reader's contract cites. They do nothing.
+ghost use Rattle.xml_events.specs.Growing.{DocumentsGrow};
 ghost use Rattle.xml_events.specs.Laws.{EndsThere, FirstFault, Flattened, GoesOnFed, HasDocument, IsTree, NoFault, OnlyTree};
 
 /// What a reader has before it is the document's tree, however its bytes come.
@@ -20,4 +21,9 @@ pub fn flattened()
     ensures lexemes { Flattened }
     // No other tree does.
     ensures only { OnlyTree }
+{}
+
+/// The tree of a document's first bytes grows with them.
+pub fn growing()
+    ensures { DocumentsGrow }
 {}

@@ -1,0 +1,18 @@
+-- The tree of a document's first bytes, and of more of it.
+use Rattle.std.specs.Prelude.{◌≡◌, ℕ, Bool, false, List, ◌++◌}
+use Rattle.stx_base.specs.declared.limits.Limits.{Limits}
+use Rattle.xml_events.specs.Document.{doc, mark_by}
+use Rattle.xml_events.specs.Tree.{Need, Bad, Forest, End, Cut, Single, Nested}
+
+-- what was known stays; where more was wanted anything may come
+abbrev pub Grows : (old new : Forest) → Type 0
+Grows (End m offset) new = new ≡ End m offset
+Grows (Cut Need) new = Unit {0}
+Grows (Cut (Bad fault)) new = new ≡ Cut (Bad fault)
+Grows (Single m leaf next) new = (after : Forest) × (new ≡ Single m leaf after) × Grows next after
+Grows (Nested m e kids next) new =
+    (list : Forest) × (after : Forest) × (m ≡ mark_by kids) × (new ≡ Nested (mark_by list) e list after) × Grows kids list × Grows next after
+
+-- The tree of a document's first bytes grows with them.
+abbrev pub DocumentsGrow : Type 0
+DocumentsGrow = (limits : Limits) (strip : Bool) (bytes more : List ℕ) (ended : Bool) → Grows (doc limits strip bytes false) (doc limits strip (bytes ++ more) ended)
