@@ -196,7 +196,7 @@ module _ (more : List ℕ) (ended : Bool) where
     by_answer (step.Bad fault) e again = ((λ c. cc), inl (stays (step.Bad fault) (λ l c. cc) (λ c. cc) e))
     by_answer step.Memory e again = ((λ c. cc), inl (stays step.Memory (λ l c. cc) (λ c. cc) e))
 
-  lexed-grown : (n : ℕ) (r : Reader) → r.over ≡ None → r.ended ≡ false → length r.unread < n → Grown n r
+  pub lexed-grown : (n : ℕ) (r : Reader) → r.over ≡ None → r.ended ≡ false → length r.unread < n → Grown n r
   lexed-grown zero r fresh going short = absurd (omega arith)
   lexed-grown (suc n) r fresh going short = by_answer n r fresh going (due r) refl (λ q f g h. lexed-grown n q f g (omega arith))
 

@@ -15,3 +15,4 @@ pub mod Unflattening
 pub mod Ending
 pub mod Widths
 pub mod Growing
+pub mod Stopping

@@ -1,7 +1,8 @@
--- The tree of a document's first bytes, and of more of it.
-use Rattle.std.specs.Prelude.{◌≡◌, ℕ, Bool, false, List, ◌++◌}
+-- The tree of a document's first bytes, of more of it, and of a whole document.
+use Rattle.std.specs.Prelude.{◌≡◌, ◌≢◌, ℕ, Bool, true, false, List, ◌++◌, Some, None}
 use Rattle.stx_base.specs.declared.limits.Limits.{Limits}
 use Rattle.xml_events.specs.Document.{doc, mark_by}
+use Rattle.xml_events.specs.Telling.{stop_in}
 use Rattle.xml_events.specs.Tree.{Need, Bad, Forest, End, Cut, Single, Nested}
 
 -- what was known stays; where more was wanted anything may come
@@ -16,3 +17,11 @@ Grows (Nested m e kids next) new =
 -- The tree of a document's first bytes grows with them.
 abbrev pub DocumentsGrow : Type 0
 DocumentsGrow = (limits : Limits) (strip : Bool) (bytes more : List ℕ) (ended : Bool) → Grows (doc limits strip bytes false) (doc limits strip (bytes ++ more) ended)
+
+-- No list of a whole document's tree waits for more of it.
+abbrev pub WholeNeedsNoMore : Type 0
+WholeNeedsNoMore = (limits : Limits) (strip : Bool) (bytes : List ℕ) → stop_in (doc limits strip bytes true) ≢ Some Need
+
+-- Some list of the tree of a document's first bytes goes no further.
+abbrev pub BeginningGoesOn : Type 0
+BeginningGoesOn = (limits : Limits) (strip : Bool) (bytes : List ℕ) → stop_in (doc limits strip bytes false) ≢ None

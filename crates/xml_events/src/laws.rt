@@ -1,5 +1,5 @@
 //! Laws about the definitions that the reader's contract cites. They do nothing.
-ghost use Rattle.xml_events.specs.Growing.{DocumentsGrow};
+ghost use Rattle.xml_events.specs.Growing.{BeginningGoesOn, DocumentsGrow, WholeNeedsNoMore};
 ghost use Rattle.xml_events.specs.Laws.{EndsThere, FirstFault, Flattened, GoesOnFed, HasDocument, IsTree, NoFault, OnlyTree};
 
 /// What a reader has before it is the document's tree, however its bytes come.
@@ -26,4 +26,10 @@ pub fn flattened()
 /// The tree of a document's first bytes grows with them.
 pub fn growing()
     ensures { DocumentsGrow }
+{}
+
+/// A whole document needs no more, and the first bytes of one don't end it.
+pub fn ending()
+    ensures whole { WholeNeedsNoMore }
+    ensures beginning { BeginningGoesOn }
 {}
