@@ -8,8 +8,6 @@ mod open;
 mod stack;
 mod tally;
 mod test;
-#[cfg(test)]
-mod tests;
 
 pub use fault::StackFault;
 pub use node::{Leaf, NodeView};

@@ -154,7 +154,8 @@ impl NodeStack {
 
     /// How many nodes the path has. Allocates nothing.
     pub fn len(&self) -> usize
-        ensures { result ≡ length (path self.now).nodes }
+        ensures value { result ≡ length (path self.now).nodes }
+        ensures bound { result < 2 ^ 63 }
     {
         let open = self.elements.len() + 1;
         match view_tip(&self.tip, attributes(&self.elements)) {

@@ -1,4 +1,4 @@
-//! The tests of `node_stack` (its `src/tests.rt`): paths, and the positions, levels and nodes on them.
+//! Paths, and the positions, levels and nodes on them.
 
 ghost use Rattle.std.specs.Prelude.{◌≡◌, ◌^◌, ◌<◌, ◌↔◌, IsTrue, length};
 ghost use Rattle.node_stack.specs.Path.{attributes, can_end, can_have_children, current, is_attribute};
@@ -10,7 +10,7 @@ use self::Test::{
     AnyAttr, AnyElement, AnyNode, AnyPi, AttrNamed, AttrPrefix, Comments, Document, Named,
     Prefixed, Targeted, Texts,
 };
-use crate::{Leaf, NodeStack, NodeView, StackFault};
+use node_stack::{Leaf, NodeStack, NodeView, StackFault};
 use std::alloc::Global;
 use std::fmt::Write;
 use std::process::Abort;
@@ -62,7 +62,7 @@ enum Test {
     AnyAttr,
 }
 
-const ROWS: [&[Step]; 16] = [
+static ROWS: [&[Step]; 16] = [
     // The document node.
     &[
         Level(0),

@@ -1,0 +1,5 @@
+//! The path to the current node, by its public calls: tests alone.
+#![tactic(auto)]
+
+#[cfg(test)]
+mod paths;
