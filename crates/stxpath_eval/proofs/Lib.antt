@@ -1,0 +1,4 @@
+mod Answers
+mod Folds
+mod Loops
+mod Shapes

@@ -1,0 +1,136 @@
+//! Nodes in values.
+
+ghost use Rattle.std.specs.Prelude.{◌≡◌, ◌++◌, List as Items, ℕ, [], IfOk, OnOk, option_map, unwrap_or};
+ghost use Rattle.std.specs.Option.{option_copied};
+ghost use Rattle.node_stack.specs.Open.{node_of};
+ghost use Rattle.node_stack.specs.Path as node;
+ghost use Rattle.node_stack.specs.Path.{attributes};
+ghost use Rattle.node_stack.specs.Stack.{path};
+ghost use Rattle.stxpath_eval.specs.Nodes as spec;
+ghost use Rattle.stxpath_values.specs.declared.value.Atom.TheVariants as atom;
+
+use node_stack::{NodeStack, NodeView, passes};
+use std::alloc::Global;
+use stx_base::{Attr, Copied, First, List, Memory, Name, NodeTest, Text};
+use stxpath_values::{Atom, Item, NodeRef};
+
+/// The items, with string values in place of nodes.
+pub fn atoms(alloc: Global, items: &List<Item>, stack: &NodeStack) -> Result<List<Atom>, Memory>
+    ensures { IfOk result (λ made. made ≡ spec.atoms (path stack.now) items.now) }
+{
+    let mut made = List::new(alloc);
+    for item in items.as_slice() {
+        let atom = atom_of(alloc, item, stack)?;
+        made.push(atom)?;
+    }
+    Ok(made)
+}
+
+fn atom_of(alloc: Global, item: &Item, stack: &NodeStack) -> Result<Atom, Memory>
+    ensures { IfOk result (λ made. made ≡ spec.atom_of (path stack.now) item.now) }
+{
+    match item {
+        Item::Atom(atom) => atom.copy(alloc),
+        Item::Node(node) => {
+            let text = text_of(alloc, referred(stack, *node))?;
+            Ok(Atom::Chars(text))
+        }
+    }
+}
+
+/// The node at a place, if the path goes so far.
+pub(crate) fn node_at(stack: &NodeStack, place: usize) -> Option<NodeView<'_>>
+    ensures { option_map node_of result ≡ node.node_at (path stack.now) place }
+{
+    if place < stack.len() {
+        Some(stack.view(place))
+    } else {
+        None
+    }
+}
+
+/// The node that is referred to, if it is there.
+pub(crate) fn referred(stack: &NodeStack, node: NodeRef) -> Option<NodeView<'_>>
+    ensures { option_map node_of result ≡ spec.referred (path stack.now) node }
+{
+    let view = node_at(stack, node.place)?;
+    match node.attr {
+        None => Some(view),
+        Some(index) => attribute_of(view, index),
+    }
+}
+
+fn attribute_of(view: NodeView<'_>, index: usize) -> Option<NodeView<'_>>
+    ensures { option_map node_of result ≡ spec.referred_at (Some index) (Some (node_of view.entry)) }
+{
+    match view {
+        NodeView::Element { attrs, .. } => match attrs.get(index) {
+            Some(attr) => Some(NodeView::Attribute(attr)),
+            None => None,
+        },
+        _ => None,
+    }
+}
+
+/// A node's string value; no text for none.
+pub(crate) fn text_of(alloc: Global, node: Option<NodeView<'_>>) -> Result<Text, Memory>
+    ensures { IfOk result (λ text. text ≡ spec.text_of (option_map node_of node.entry)) }
+{
+    match node {
+        None => Ok(Text::new(alloc)),
+        Some(view) => match string_value(view) {
+            Some(text) => text.copy(alloc),
+            None => Ok(Text::new(alloc)),
+        },
+    }
+}
+
+/// A node's string value, where it isn't empty by the node's kind.
+fn string_value(view: NodeView<'_>) -> Option<&Text>
+    ensures { unwrap_or (option_copied result) [] ≡ spec.string_value (node_of view.entry) }
+{
+    match view {
+        NodeView::Document => None,
+        NodeView::Element { first, .. } => match first {
+            First::Chars(text) => Some(text),
+            First::Nothing | First::Other => None,
+        },
+        NodeView::Chars(text) | NodeView::Comment(text) | NodeView::Pi { text, .. } => Some(text),
+        NodeView::Attribute(attr) => Some(&attr.value),
+    }
+}
+
+/// Appends the attributes of a node at a place that pass a test.
+pub(crate) fn push_attributes(
+    stack: &NodeStack,
+    place: usize,
+    test: &NodeTest,
+    items: &mut List<Item>,
+) -> Result<(), Memory>
+    ensures { OnOk result (items.new ≡ items.old ++ spec.attributes_at (path stack.now) test.now place) }
+{
+    let Some(NodeView::Element { attrs, .. }) = node_at(stack, place) else {
+        return Ok(());
+    };
+    push_passing(attrs.as_slice(), place, test, items)
+}
+
+fn push_passing(
+    attrs: &[Attr],
+    place: usize,
+    test: &NodeTest,
+    items: &mut List<Item>,
+) -> Result<(), Memory>
+    ensures { OnOk result (items.new ≡ items.old ++ spec.passing_from place 0 test.now attrs.now) }
+{
+    for (index, attr) in attrs.iter().enumerate() {
+        if passes(test, NodeView::Attribute(attr)) {
+            let node = NodeRef {
+                place,
+                attr: Some(index),
+            };
+            items.push(Item::Node(node))?;
+        }
+    }
+    Ok(())
+}
