@@ -53,8 +53,6 @@ pub enum XmlKind {
     Truncated,
     #[error("the document has more bytes than the limit")]
     InputTooLong,
-    #[error("a form that this version does not read yet")]
-    NotBuilt,
 }
 
 /// Why a sheet is refused. Of the codes that apply to one element the first in this order is reported.

@@ -1,49 +1,55 @@
 -- What an engine gives from its start on.
-use Rattle.std.proofs.Common.{◌≡◌, ℕ, ◌+◌, ◌-◌, ◌^◌, ◌<◌, Bool, true, false, not, ◌&&◌, if◌then◌else◌, nat_lt, List, [], ◌++◌, length, take, drop, reverse, Option, Some, None, arith, sym, ap, ◌∙◌}
+use Rattle.std.proofs.Common.{◌≡◌, ℕ, suc, ◌+◌, ◌-◌, Bool, true, false, not, ◌&&◌, List, [], ◌∷◌, Option, Some, None, length, take, drop, map, reverse, refl, sym, ap, ◌∙◌, arith, le-ltb}
 use Rattle.std.proofs.Math.Seq.{take-nil}
-use Rattle.std.proofs.lemmas.Bool.{le-ltb}
+use Rattle.std.specs.Prelude.{if◌then◌else◌, nat_lt}
 use Rattle.stx_base.specs.declared.limits.Limits.{Limits}
-use Rattle.stx_base.specs.declared.fault.XmlKind.TheVariants.{LexemeTooLong, InputTooLong}
+use Rattle.stx_base.specs.declared.name.Binding.{Binding}
+use Rattle.stx_base.specs.declared.part.Part.{Part}
+use Rattle.stx_base.specs.declared.fault.XmlKind.TheVariants.{InputTooLong, LexemeTooLong}
+use Rattle.result_writer.specs.Target.{Left, Target, fault, fresh, next, nothing, settles, text, text_from}
+use Rattle.result_writer.specs.declared.fault.ResultFault.{ResultFault}
+use Rattle.xml_tokens.specs.Reader.{after, at_shape, bad, begun, due, fed, is_undecided_at, mark_len_of, step_or_need}
 use Rattle.xml_tokens.specs.Shape.{shape_len}
-use Rattle.xml_tokens.specs.Reader.{Reader, begun, due, fed, at_shape, bad, is_undecided_at, mark_len_of, step_or_need}
+use Rattle.xml_tokens.specs.declared.lexeme.Lexeme.{Lexeme}
 use Rattle.xml_tokens.specs.declared.lexeme.Step.{Step}
 use Rattle.xml_tokens.specs.declared.lexeme.Step.TheVariants as step
-use Rattle.stx_engine.specs.Answer.{doc}
-use Rattle.stx_engine.specs.Document.{future, reading}
-use Rattle.stx_engine.specs.Engine.{given_from, later, IsWaiting, Means}
-use Rattle.stx_engine.specs.Lexed.{lexed_from, unread}
-use Rattle.stx_engine.specs.More.{Given, StartsAs, rest, text_after, with_front, with_held}
-use Rattle.stx_engine.specs.Passed.{passed, ending_of}
-use Rattle.stx_engine.specs.Result.{text}
+use Rattle.xml_events.specs.Before.{at_start}
+use Rattle.xml_events.specs.Document.{doc, finished, inner, lists_of, reading}
+use Rattle.xml_events.specs.Lexed.{answered, lexed_within}
+use Rattle.xml_events.specs.Source.{future}
+use Rattle.xml_events.specs.Tree.{Cut, Forest, Future, Need, Why}
+use Rattle.stx_engine.specs.Answer.{parts_put, run_of}
+use Rattle.stx_engine.specs.Engine.{IsWaiting, Means, more}
+use Rattle.stx_engine.specs.Meaning.{Put, outcome}
+use Rattle.stx_engine.specs.More.{Given, ahead, given, given_of, given_on, rest}
+use Rattle.stx_engine.specs.More as more
+use Rattle.stx_engine.specs.Passed.{Run, passed, run_from, with_first}
+use Rattle.stx_engine.specs.Passed as gives
+use Rattle.stx_engine.specs.declared.copier.Open.{Open}
 use Rattle.stx_engine.specs.declared.engine.Engine.{Engine}
 use Rattle.stx_engine.specs.declared.pass.Pass.{Pass}
-use Rattle.stx_engine.specs.declared.walk.Tag.{Tag}
-use Rattle.stx_engine.specs.declared.walk.Walk.{Walk}
-use Rattle.stx_engine.proofs.Passing.{run-passed}
-use Rattle.stx_engine.proofs.Pumping.{nothing-given}
+use Rattle.stx_engine.proofs.Passing.{outcome-passed, run_of_tree}
 
--- what is given, by each field of a walk
-abbrev given_by : Limits → Pass → (rooted : Bool) → (begun : List (List ℕ)) → (held : Option Tag) → (run tag settled : List ℕ) → (length : ℕ) → Reader → Given
-given_by limits pass rooted begun held run tag settled length r =
-    let l = lexed_from r in
-    let read = reading limits length l.last (record { names = with_held held (reverse begun); rooted = rooted; run = run }) l.lexemes in
-    let p = rest pass read.why (reverse begun) (with_front read.why held run (future read.why read.bodies)) in
-    record { bytes = settled ++ text_after tag p.parts; stop = p.stop }
+-- What is given is the text of what a run puts
 
--- a walk that took nothing gives what is put on the document's tree
-given-started : (limits : Limits) (pass : Pass) (w : Walk) → StartsAs limits pass w → (bytes : List ℕ) (ended : Bool)
-    → let p = passed pass (doc limits bytes ended) in given_from w (unread limits bytes ended) ≡ record { bytes = text p.parts; stop = p.stop }
-given-started limits pass w h bytes ended =
-    let r = unread limits bytes ended in
-    ap (λ x. given_by x w.copier.pass w.rooted w.begun w.held w.run w.copier.writer.held.items w.copier.writer.settled.items (fed r) r) h.limits_are
-    ∙ ap (λ x. given_by limits x w.rooted w.begun w.held w.run w.copier.writer.held.items w.copier.writer.settled.items (fed r) r) h.pass_is
-    ∙ ap (λ x. given_by limits pass x w.begun w.held w.run w.copier.writer.held.items w.copier.writer.settled.items (fed r) r) h.rooted
-    ∙ ap (λ x. given_by limits pass false x w.held w.run w.copier.writer.held.items w.copier.writer.settled.items (fed r) r) h.begun
-    ∙ ap (λ x. given_by limits pass false [] x w.run w.copier.writer.held.items w.copier.writer.settled.items (fed r) r) h.held
-    ∙ ap (λ x. given_by limits pass false [] None x w.copier.writer.held.items w.copier.writer.settled.items (fed r) r) h.run
-    ∙ ap (λ x. given_by limits pass false [] None [] x w.copier.writer.settled.items (fed r) r) h.tag
-    ∙ ap (λ x. given_by limits pass false [] None [] [] x (fed r) r) h.settled
-    ∙ ap (λ n. given_by limits pass false [] None [] [] [] n r) (omega arith)
+given-run : (limit : ℕ) (l : Left) (ps : List Part) (stop : Option Why) → let r = run_from limit l ps stop in given limit l ps stop ≡ record { bytes = text_from l r.parts; ending = r.ending }
+given-run limit l [] stop = refl
+given-run limit l (p ∷ ps) stop = by_fault (fault limit l p) (given-run limit (next l p) ps stop) where
+  by_fault : (o : Option ResultFault) → given limit (next l p) ps stop ≡ record { bytes = text_from (next l p) (run_from limit (next l p) ps stop).parts; ending = (run_from limit (next l p) ps stop).ending }
+      → let r = gives.unless_refused o (with_first p (run_from limit (next l p) ps stop)) in
+      more.unless_refused o (ahead (settles l p) (given limit (next l p) ps stop)) ≡ record { bytes = text_from l r.parts; ending = r.ending }
+  by_fault None h = ap (ahead (settles l p)) h
+  by_fault (Some f) h = refl
+
+parts-back : (ps : List Part) → parts_put (map Put ps) ≡ ps
+parts-back [] = refl
+parts-back (p ∷ ps) = ap (λ l. p ∷ l) (parts-back ps)
+
+pub run-passed : (limit : ℕ) (pass : Pass) (tree : Forest) → run_of (outcome limit pass tree) ≡ run_of_tree limit pass tree
+run-passed limit pass tree =
+    ap run_of (outcome-passed limit pass tree) ∙ ap (λ l. record { parts = l; ending = (run_of_tree limit pass tree).ending }) (parts-back (run_of_tree limit pass tree).parts)
+
+-- Nothing of a document was read
 
 module _ (limits : Limits) where
   -- what comes first, by the length of the first shape
@@ -61,23 +67,47 @@ module _ (limits : Limits) where
       let coming = drop (mark_len_of 0 seen) seen in
       due_by_len coming (0 + mark_len_of 0 seen) cut (shape_len (false && not cut) coming)
 
-  -- nothing of the document was read
   due-begun : due (begun limits) ≡ step.Need
   unfolding due
   due-begun =
       ap (λ seen. due_by seen (nat_lt (limits.input - 0) 0)) (take-nil (limits.input - 0))
       ∙ ap (due_by []) (le-ltb (limits.input - 0) 0 (omega arith))
 
-module _ (limits : Limits) (pass : Pass) (e : Engine) (starts : StartsAs limits pass e.walk) (lexer : e.lexer ≡ begun limits) where
+  -- the document is cut before its first node
+  doc-begun : doc limits false [] false ≡ Cut Need
+  doc-begun =
+      let r = begun limits in
+      let later = λ (l : Lexeme). lexed_within 0 (after r (step.Lexeme l)) in
+      ap (λ d. finished false (inner (lists_of (reading limits (fed r) (answered d later).last at_start (answered d later).lexemes)))) due-begun
+
+-- An engine that begins
+
+module _ (limits : Limits) (pass : Pass) (e : Engine)
+    (document : (bytes : List ℕ) (ended : Bool) → future e.reader bytes ended ≡ doc limits false bytes ended ∷ []) (over : e.reader.over ≡ None)
+    (asks : e.copier.pass ≡ pass) (scope : e.copier.scope ≡ []) (elements : e.copier.elements ≡ []) (writer : e.copier.writer ≡ fresh limits.elements) where
+  abbrev given_by : Pass → List Binding → List Open → Target → Future → Given
+  given_by p s os t f = given_of t (rest p s (reverse os) f)
+
+  -- it gives what is put on the document's tree
+  started : (bytes : List ℕ) (ended : Bool) → let p = passed pass [] (doc limits false bytes ended) in more e bytes ended ≡ given limits.elements nothing p.parts p.stop
+  started bytes ended =
+      let f = doc limits false bytes ended ∷ [] in
+      ap (given_on e.copier) (document bytes ended)
+      ∙ ap (λ x. given_by x e.copier.scope e.copier.elements e.copier.writer f) asks
+      ∙ ap (λ x. given_by pass x e.copier.elements e.copier.writer f) scope
+      ∙ ap (λ x. given_by pass [] x e.copier.writer f) elements
+      ∙ ap (λ x. given_by pass [] [] x f) writer
+
   pub means : Means limits pass e
   means bytes ended =
-      let p = passed pass (doc limits bytes ended) in
-      let given = ap (λ r. given_from e.walk (later r bytes ended)) lexer ∙ given-started limits pass e.walk starts bytes ended in
-      let run = run-passed pass (doc limits bytes ended) in
-      (ap (λ g. g.bytes) given ∙ sym (ap (λ q. text q.parts) run), ap (λ g. ending_of g.stop) given ∙ sym (ap (λ q. q.ending) run))
+      let tree = doc limits false bytes ended in
+      let p = passed pass [] tree in
+      let given = started bytes ended ∙ given-run limits.elements nothing p.parts p.stop in
+      let run = run-passed limits.elements pass tree in
+      (ap (λ g. g.bytes) given ∙ sym (ap (λ q. text q.parts) run), ap (λ g. g.ending) given ∙ sym (ap (λ q. q.ending) run))
 
-  pub waits : limits.input < 2 ^ 64 → IsWaiting e
-  waits limit = record {
-    ready = record { fresh = ap (λ r. r.over) lexer; tidy = λ _. starts.run; limit = rw lexer limit };
-    nothing = nothing-given e.walk e.lexer (ap due lexer ∙ due-begun limits) (ap (λ r. r.ended) lexer) starts.settled;
+  pub waits : IsWaiting e
+  waits = record {
+    going = record { fresh = over; lists = λ bytes ended. ap length (document bytes ended) ∙ sym (ap (λ os. suc (length os)) elements) };
+    nothing = started [] false ∙ ap (λ tree. given limits.elements nothing (passed pass [] tree).parts (passed pass [] tree).stop) (doc-begun limits);
   }

@@ -1,248 +1,206 @@
--- What pass-through puts, as nodes.
-use Rattle.std.proofs.Common.{◌≡◌, ◌≢◌, ℕ, Bool, true, false, List, [], ◌∷◌, ◌++◌, Option, Some, None, length, map, refl, sym, ap, ◌∙◌, append_assoc, append-nil}
-use Rattle.std.specs.Prelude.{◌&&◌}
-use Rattle.stx_base.specs.declared.limits.Limits.{Limits}
+-- What a copier does with events.
+use Rattle.std.proofs.lemmas.List.{reverse-append}
+use Rattle.std.proofs.Common.{reverse, ◌≡◌, ℕ, List, [], ◌∷◌, ◌++◌, Option, Some, None, Ok, Err, Result, refl, sym, ap, ◌∙◌, subst, append_assoc, append-nil}
+use Rattle.std.specs.Prelude.{IfErr, IsErrAnd, OnErr, OnOk, unwrap_or}
 use Rattle.stx_base.specs.declared.name.Attr.{Attr}
-use Rattle.stx_base.specs.declared.part.Part.{Part}
-use Rattle.stx_base.specs.declared.part.Part.TheVariants as part
-use Rattle.xml_tokens.specs.declared.lexeme.Body.{Body}
-use Rattle.xml_tokens.specs.declared.lexeme.Body.TheVariants as body
-use Rattle.xml_tokens.specs.declared.lexeme.RawAttr.{RawAttr}
+use Rattle.stx_base.specs.declared.name.Binding.{Binding}
+use Rattle.stx_base.specs.declared.name.Name.{Name}
+use Rattle.xml_events.specs.Document.{inner, outer}
 use Rattle.stx_engine.specs.declared.pass.Pass.{Pass}
+use Rattle.stx_engine.specs.declared.copier.Open.{Open}
+use Rattle.stx_engine.specs.Meaning.{end_parts, leaf_parts, start_parts}
+use Rattle.stx_engine.specs.Passed.{passed, put, then_put}
+use Rattle.stx_engine.specs.Scope.{scope_within}
+use Rattle.stx_base.specs.Course.{Begins}
+use Rattle.stx_base.specs.declared.part.Part.{Part}
+use Rattle.result_writer.specs.Target.{IsCause, Target, behind, fault, next, settles}
+use Rattle.result_writer.specs.declared.fault.WriteStop.{WriteStop}
+use Rattle.result_writer.specs.declared.fault.WriteStop.TheVariants.{Fault, Memory}
+use Rattle.xml_events.specs.Tree.{Chars, Comment, Element, Future, Pi}
+use Rattle.xml_events.specs.declared.event.Event.TheVariants as event
+use Rattle.stx_base.specs.declared.node.First.{First}
+use Rattle.stx_base.specs.declared.part.Part.TheVariants as part
 use Rattle.stx_engine.specs.declared.pass.Pass.TheVariants as pass
-use Rattle.stx_engine.specs.Answer.{doc, read, run_of, run_on}
-use Rattle.stx_engine.specs.Document.{Future, at_start, inner, outer, text_before, plain_attr, element_of, followed, future, tree_of}
-use Rattle.stx_engine.specs.Flatten.{is_closed, IsCut, IsProper, IsCutTree}
-use Rattle.stx_engine.specs.Forest.{expanded_attr, expanded_element, expanded, attrs_of, part_before, lists, forest}
-use Rattle.stx_engine.specs.Laws.{all_text}
-use Rattle.stx_engine.specs.Lexed.{lexed}
-use Rattle.stx_engine.specs.Meaning.{Complete, attribute_part, start_parts, end_parts, outcome}
-use Rattle.stx_engine.specs.Passed.{Passed, put, unless_stopped, then_put, once_ready, passed}
-use Rattle.stx_engine.specs.Tree.{Why, Mark, Fresh, Told, Begun, Chars, Element, Forest, End, Cut, Single, Nested}
-use Rattle.stx_engine.proofs.Ending.{passed-cut, done_so}
-use Rattle.stx_engine.proofs.Joining.{AreExpanded, inner_expanded, outer_expanded, text_expanded, text-twice}
-use Rattle.stx_engine.proofs.Passing.{run-passed}
-use Rattle.stx_engine.proofs.Treeing.{deep_reading, is-cut-tree, whole_closed}
+use Rattle.stx_engine.proofs.Rest.{rest-end, rest-leaf, rest-start}
+use Rattle.stx_engine.specs.declared.copier.Copier.{Copier}
+use Rattle.stx_engine.specs.declared.copier.Turn.{Turn}
+use Rattle.stx_engine.specs.declared.copier.Turn.TheVariants.{More, Over}
+use Rattle.stx_engine.specs.More.{Given, PutsAll, Puts, Takes, ahead, begin_ahead, close_ahead, end_ahead, ended, given, given_after, given_by, given_of, leaf_ahead, rest, start_ahead, still, unless_refused}
 
-put_by : (pass : Pass) (tree : Forest) → forest (run_of (outcome pass tree)).parts ≡ forest (passed pass tree).parts
-put_by pass tree = ap (λ run. forest run.parts) (run-passed pass tree)
+-- Parts
 
--- What a closed list puts
+-- a part without a fault was put
+pub put-taken : (old : Target) (p : Part) → fault old.limit old.left p ≡ None → PutsAll (given_after old (p ∷ [])) (behind old p) (settles old.left p) (Ok tt)
+put-taken old p h ps stop = ap (λ o. unless_refused o (ahead (settles old.left p) (given old.limit (next old.left p) ps stop))) h
 
-both : (s t : Bool) → (s && t) ≡ true → (s ≡ true) × (t ≡ true)
-both true t h = (refl, h)
-both false t h = absurd cc
+-- a part was refused
+pub put-refused : (old : Target) (p : Part) (e : WriteStop) → IsCause (fault old.limit old.left p) e → PutsAll (given_after old (p ∷ [])) old [] (Err e)
+put-refused old p (Fault f) h = λ ps stop. ap (λ o. unless_refused o (ahead (settles old.left p) (given old.limit (next old.left p) ps stop))) h
+put-refused old p Memory h = λ ps stop. ((given_after old (p ∷ []) ps stop).bytes, refl)
 
-ready_is : (m : Mark) (kids : Forest) (p : Passed) → is_closed kids ≡ true → once_ready m kids p ≡ p
-ready_is Told kids p h = refl
-ready_is Begun kids p h = refl
-ready_is Fresh (End m) p h = refl
-ready_is Fresh (Cut why) p h = absurd cc
-ready_is Fresh (Single m leaf next) p h = refl
-ready_is Fresh (Nested m e kids next) p h = refl
+pub puts-one : (old new : Target) (p : Part) (before now : List ℕ) (r : Result (Unit {0}) WriteStop)
+    → OnOk r (fault old.limit old.left p ≡ None) → IfErr r (IsCause (fault old.limit old.left p)) → OnOk r (new ≡ behind old p) → OnOk r (now ≡ before ++ settles old.left p) → OnErr r (now ≡ before)
+    → Puts old new (p ∷ []) before now r
+puts-one old new p before now (Ok done) t f o w u = (settles old.left p, w, subst (λ x. PutsAll (given_after old (p ∷ [])) x (settles old.left p) (Ok tt)) (sym o) (put-taken old p t))
+puts-one old new p before now (Err (Fault x)) t f o w u = ([], u ∙ sym (append-nil before), put-refused old p (Fault x) f)
+puts-one old new p before now (Err Memory) t f o w u = ([], u ∙ sym (append-nil before), put-refused old p Memory tt)
 
-then_is : (p q : Passed) → p.stop ≡ None → then_put p q ≡ put p.parts q
-then_is p q h = ap (λ s. unless_stopped s p q) h
+ahead-ahead : (a b : List ℕ) (g : Given) → ahead a (ahead b g) ≡ ahead (a ++ b) g
+ahead-ahead a b g = ap (λ l. record g { bytes = l }) (sym (append_assoc a b g.bytes))
 
-nested_is : (pass : Pass) (m : Mark) (e : Element) (kids next : Forest) → is_closed kids ≡ true → (passed pass kids).stop ≡ None →
-    passed pass (Nested m e kids next) ≡ put (start_parts pass e) (put (passed pass kids).parts (put (end_parts pass e) (passed pass next)))
-nested_is pass m e kids next c s =
-    ready_is m kids _ c ∙ ap (put (start_parts pass e)) (then_is (passed pass kids) (put (end_parts pass e) (passed pass next)) s)
+begins-ahead : (a b : List ℕ) (g : Given) → Begins b g.bytes → Begins (a ++ b) (ahead a g).bytes
+begins-ahead a b g h = (h.0, append_assoc a b h.0 ∙ ap (λ l. a ++ l) h.1)
 
-closed_done : (pass : Pass) (x : Forest) → is_closed x ≡ true → (passed pass x).stop ≡ None
-closed_done pass (End m) c = refl
-closed_done pass (Cut why) c = absurd cc
-closed_done pass (Single m (Chars text) next) c = closed_done pass next c
-closed_done pass (Nested m e kids next) c =
-    let two = both (is_closed kids) (is_closed next) c in
-    ap (λ (p : Passed). p.stop) (nested_is pass m e kids next two.0 (closed_done pass kids two.0)) ∙ closed_done pass next two.1
+-- parts, and then parts
+pub puts-then : (t0 t1 t2 : Target) (ps qs : List Part) (a b : List ℕ) (r : Result (Unit {0}) WriteStop)
+    → PutsAll (given_after t0 ps) t1 a (Ok tt) → PutsAll (given_after t1 qs) t2 b r → PutsAll (given_after t0 (ps ++ qs)) t2 (a ++ b) r
+puts-then t0 t1 t2 ps qs a b (Ok done) h k = λ more stop.
+    ap (λ l. given t0.limit t0.left l stop) (append_assoc ps qs more) ∙ h (qs ++ more) stop ∙ ap (ahead a) (k more stop) ∙ ahead-ahead a b (given t2.limit t2.left more stop)
+puts-then t0 t1 t2 ps qs a b (Err (Fault f)) h k = λ more stop.
+    ap (λ l. given t0.limit t0.left l stop) (append_assoc ps qs more) ∙ h (qs ++ more) stop ∙ ap (ahead a) (k more stop)
+puts-then t0 t1 t2 ps qs a b (Err Memory) h k = λ more stop.
+    let e = ap (λ l. given t0.limit t0.left l stop) (append_assoc ps qs more) ∙ h (qs ++ more) stop in
+    subst (λ (g : Given). Begins (a ++ b) g.bytes) (sym e) (begins-ahead a b (given_after t1 qs more stop) (k more stop))
 
--- Of everything
+-- nothing is put behind parts of which one was refused
+pub puts-stopped : (t0 t : Target) (ps qs : List Part) (a : List ℕ) (e : WriteStop) → PutsAll (given_after t0 ps) t a (Err e) → PutsAll (given_after t0 (ps ++ qs)) t a (Err e)
+puts-stopped t0 t ps qs a (Fault f) h = λ more stop. ap (λ l. given t0.limit t0.left l stop) (append_assoc ps qs more) ∙ h (qs ++ more) stop
+puts-stopped t0 t ps qs a Memory h = λ more stop. subst (λ l. Begins a (given t0.limit t0.left l stop).bytes) (sym (append_assoc ps qs more)) (h (qs ++ more) stop)
 
-some_attrs : (attrs : List Attr) (ps : List Part) → attrs_of ps ≡ [] → attrs_of (map attribute_part attrs ++ ps) ≡ attrs
-some_attrs [] ps h = h
-some_attrs (a ∷ attrs) ps h = ap (λ l. a ∷ l) (some_attrs attrs ps h)
+-- so far, and then one more
+pub record SoFar (t0 t1 : Target) (all left : List Part) (before now : List ℕ) : Type 0 where
+  pub front : List Part
+  pub bytes : List ℕ
+  pub is : all ≡ front ++ left
+  pub out : now ≡ before ++ bytes
+  pub law : PutsAll (given_after t0 front) t1 bytes (Ok tt)
 
-lists_attrs : (attrs : List Attr) (ps : List Part) → lists (map attribute_part attrs ++ ps) ≡ lists ps
-lists_attrs [] ps = refl
-lists_attrs (a ∷ attrs) ps = lists_attrs attrs ps
+pub none-yet : (t : Target) (all : List Part) (before : List ℕ) → SoFar t t all all before before
+none-yet t all before = record { front = []; bytes = []; is = refl; out = sym (append-nil before); law = λ ps stop. refl }
 
-ready_attrs : (ps : List Part) (m : Mark) (kids : Forest) (p : Passed) → attrs_of ps ≡ [] → attrs_of (p.parts ++ ps) ≡ [] → attrs_of ((once_ready m kids p).parts ++ ps) ≡ []
-ready_attrs ps Told kids p a h = h
-ready_attrs ps Begun kids p a h = h
-ready_attrs ps Fresh (End m) p a h = h
-ready_attrs ps Fresh (Cut why) p a h = a
-ready_attrs ps Fresh (Single m leaf next) p a h = h
-ready_attrs ps Fresh (Nested m e kids next) p a h = h
+pub one-more : (t0 t1 t2 : Target) (all : List Part) (p : Part) (left : List Part) (before now next : List ℕ) → SoFar t0 t1 all (p ∷ left) before now → Puts t1 t2 (p ∷ []) now next (Ok tt) → SoFar t0 t2 all left before next
+one-more t0 t1 t2 all p left before now next s h = record {
+  front = s.front ++ p ∷ [];
+  bytes = s.bytes ++ h.0;
+  is = s.is ∙ sym (append_assoc s.front (p ∷ []) left);
+  out = h.1 ∙ ap (λ l. l ++ h.0) s.out ∙ append_assoc before s.bytes h.0;
+  law = puts-then t0 t1 t2 s.front (p ∷ []) s.bytes h.0 (Ok tt) s.law h.2;
+}
 
-no_attrs : (x : Forest) (ps : List Part) → attrs_of ps ≡ [] → attrs_of ((passed pass.All x).parts ++ ps) ≡ []
-no_attrs (End m) ps h = h
-no_attrs (Cut why) ps h = h
-no_attrs (Single m (Chars text) next) ps h = refl
-no_attrs (Nested m e kids next) ps h = ready_attrs ps m kids _ h refl
+pub one-refused : (t0 t1 t2 : Target) (all : List Part) (p : Part) (left : List Part) (before now next : List ℕ) (e : WriteStop) → SoFar t0 t1 all (p ∷ left) before now → Puts t1 t2 (p ∷ []) now next (Err e) → Puts t0 t2 all before next (Err e)
+one-refused t0 t1 t2 all p left before now next e s h = (
+  s.bytes ++ h.0,
+  h.1 ∙ ap (λ l. l ++ h.0) s.out ∙ append_assoc before s.bytes h.0,
+  subst (λ l. PutsAll (given_after t0 l) t2 (s.bytes ++ h.0) (Err e)) (append_assoc s.front (p ∷ []) left ∙ sym s.is)
+      (puts-stopped t0 t2 (s.front ++ p ∷ []) left (s.bytes ++ h.0) e (puts-then t0 t1 t2 s.front (p ∷ []) s.bytes h.0 (Err e) s.law h.2)),
+)
 
-start_lists : (e : Element) (attrs : List Attr) (f g : Future) (kids next : Forest) (others : Future) →
-    attrs ≡ e.attrs → f ≡ g → inner None g ≡ kids → inner None (outer g) ≡ next → outer (outer g) ≡ others →
-    part_before (part.Start e.name e.decls) attrs f ≡ Nested Fresh (expanded_element e) kids next ∷ others
-start_lists e attrs f g kids next others a b c d h = rw (a, b, c, d, h) refl
+pub all-put : (t0 t1 : Target) (all : List Part) (before now : List ℕ) → SoFar t0 t1 all [] before now → Puts t0 t1 all before now (Ok tt)
+all-put t0 t1 all before now s = (s.bytes, s.out, subst (λ l. PutsAll (given_after t0 l) t1 s.bytes (Ok tt)) (sym (append-nil s.front) ∙ sym s.is) s.law)
 
--- the parts of a complete list, before parts that end it
-copied : (x : Forest) → IsProper None x → (ps : List Part) → attrs_of ps ≡ [] → inner None (lists ps) ≡ End Fresh →
-    let f = lists ((passed pass.All x).parts ++ ps) in (inner None f ≡ expanded x) × (outer f ≡ outer (lists ps))
-copied (End m) h ps a i = (i ∙ ap End (sym h), refl)
-copied (Cut why) h ps a i = absurd cc
-copied (Single m (Chars []) next) h ps a i = absurd (h.1 refl)
-copied (Single m (Chars (c ∷ cs)) (End n)) h ps a i = (ap (text_before (c ∷ cs)) i ∙ by_marks m n h.0 h.3, refl) where
-  by_marks : (m n : Mark) → m ≡ Fresh → n ≡ Fresh → Single Fresh (Chars (c ∷ cs)) (End Fresh) ≡ Single m (Chars (c ∷ cs)) (End n)
-  by_marks m n p q = cc
-copied (Single m (Chars (c ∷ cs)) (Cut why)) h ps a i = absurd h.2
-copied (Single m (Chars (c ∷ cs)) (Single n leaf next)) h ps a i = absurd h.2
-copied (Single m (Chars (c ∷ cs)) (Nested n e kids next)) h ps a i =
-    let x = copied (Nested n e kids next) h.3 ps a i in
-    (ap (text_before (c ∷ cs)) x.0 ∙ ap (λ k. Single k (Chars (c ∷ cs)) (expanded (Nested n e kids next))) (sym h.0), x.1)
-copied (Nested m e kids next) h ps a i =
-    let closed = whole_closed kids h.1 in
-    let ks : List Part = (passed pass.All kids).parts in
-    let ns : List Part = (passed pass.All next).parts in
-    let xs : List Part = ks ++ part.End e.name ∷ (ns ++ ps) in
-    let attrs : List Part = map attribute_part e.attrs in
-    let k = copied kids h.1 (part.End e.name ∷ (ns ++ ps)) refl refl in
-    let n = copied next h.2 ps a i in
-    let parts : (passed pass.All (Nested m e kids next)).parts ++ ps ≡ part.Start e.name e.decls ∷ (attrs ++ xs) =
-    ap (λ (p : Passed). p.parts ++ ps) (nested_is pass.All m e kids next closed (closed_done pass.All kids closed))
-    ∙ ap (λ l. part.Start e.name e.decls ∷ l) (append_assoc attrs (ks ++ part.End e.name ∷ ns) ps ∙ ap (λ l. attrs ++ l) (append_assoc ks (part.End e.name ∷ ns) ps)) in
-    let whole : lists ((passed pass.All (Nested m e kids next)).parts ++ ps) ≡ Nested Fresh (expanded_element e) (expanded kids) (expanded next) ∷ outer (lists ps) =
-    ap lists parts
-    ∙ start_lists e (attrs_of (attrs ++ xs)) (lists (attrs ++ xs)) (lists xs) (expanded kids) (expanded next) (outer (lists ps))
-    (some_attrs e.attrs xs (no_attrs kids (part.End e.name ∷ (ns ++ ps)) refl)) (lists_attrs e.attrs xs)
-    k.0 (ap (inner None) k.1 ∙ n.0) (ap outer k.1 ∙ n.1) in
-    (ap (inner None) whole ∙ ap (λ k. Nested k (expanded_element e) (expanded kids) (expanded next)) (sym h.0), ap outer whole)
+-- both were put
+pub both-put : (t0 t1 t2 : Target) (ps qs : List Part) (before now next : List ℕ) (r : Result (Unit {0}) WriteStop) → Puts t0 t1 ps before now (Ok tt) → Puts t1 t2 qs now next r → Puts t0 t2 (ps ++ qs) before next r
+both-put t0 t1 t2 ps qs before now next r h k = (h.0 ++ k.0, k.1 ∙ ap (λ l. l ++ k.0) h.1 ∙ append_assoc before h.0 k.0, puts-then t0 t1 t2 ps qs h.0 k.0 r h.2 k.2)
 
-pub copies-all : (tree : Forest) → IsCutTree None tree → forest (run_of (outcome pass.All tree)).parts ≡ expanded tree
-copies-all tree h =
-    put_by pass.All tree
-    ∙ (ap forest (sym (append-nil (passed pass.All tree).parts)) ∙ (copied tree h.0 [] refl refl).0)
+-- Events
 
--- Of a document
+pub lacks-memory : (r : Result Turn WriteStop) → IsErrAnd r (λ stop. stop ≡ Memory) → r ≡ Err Memory
+lacks-memory (Ok turn) h = absurd h
+lacks-memory (Err stop) h = ap (λ s. Err s) h
 
-plain_attrs : (attrs : List RawAttr) → map expanded_attr (map plain_attr attrs) ≡ map plain_attr attrs
-plain_attrs [] = refl
-plain_attrs (a ∷ attrs) = ap (λ l. plain_attr a ∷ l) (plain_attrs attrs)
+-- the same was to come
+pub takes-same : (was also : Future → Given) (new : Copier) (before now : List ℕ) (r : Result Turn WriteStop) → ((f : Future) → also f ≡ was f) → Takes was new before now r → Takes also new before now r
+takes-same was also new before now (Ok More) e h = (h.0, h.1, λ f. e f ∙ h.2 f)
+takes-same was also new before now (Ok Over) e h = (h.0, h.1, λ f. e f ∙ h.2 f)
+takes-same was also new before now (Err (Fault x)) e h = (h.0, h.1, λ f. e f ∙ h.2 f)
+takes-same was also new before now (Err Memory) e h = (h.0, h.1, λ f. subst (λ (g : Given). Begins h.0 g.bytes) (sym (e f)) (h.2 f))
 
-plain_element : (name : List ℕ) (attrs : List RawAttr) → expanded_element (element_of name attrs) ≡ element_of name attrs
-plain_element name attrs = ap (λ l. record (element_of name attrs) { attrs = l }) (plain_attrs attrs)
+-- the start of an element was put, and memory was wanting for what is kept of it
+pub takes-unkept : (c : Copier) (t : Target) (o : Open) (attrs : List Attr) (before now : List ℕ) (new : Copier) → Puts c.writer t (start_parts c.pass c.scope o.name attrs) before now (Ok tt) → Takes (begin_ahead c o attrs) new before now (Err Memory)
+takes-unkept c t o attrs before now new h = (
+  h.0,
+  h.1,
+  λ f.
+      let p = rest c.pass c.scope (o ∷ reverse c.elements) f in
+      subst (λ (g : Given). Begins h.0 g.bytes) (sym (h.2 p.parts p.stop)) ((given t.limit t.left p.parts p.stop).bytes, refl),
+)
 
-nested_plain : (name : List ℕ) (attrs : List RawAttr) (kids next : Forest) → expanded kids ≡ kids → expanded next ≡ next →
-    expanded (Nested Fresh (element_of name attrs) kids next) ≡ Nested Fresh (element_of name attrs) kids next
-nested_plain name attrs kids next k n = rw (k, n, plain_element name attrs) refl
+-- it was put and kept
+pub takes-start : (c new : Copier) (t : Target) (o : Open) (attrs : List Attr) (before now : List ℕ)
+    → Puts c.writer t (start_parts c.pass c.scope o.name attrs) before now (Ok tt) → new ≡ record c { elements = c.elements ++ o ∷ []; writer = t } → Takes (begin_ahead c o attrs) new before now (Ok More)
+takes-start c new t o attrs before now h e =
+    subst (λ x. Takes (begin_ahead c o attrs) x before now (Ok More)) (sym e) (
+      h.0,
+      h.1,
+      λ f.
+          let p = rest c.pass c.scope (o ∷ reverse c.elements) f in
+          h.2 p.parts p.stop
+          ∙ ap (λ os. ahead h.0 (given_of t (rest c.pass c.scope os f))) (sym (reverse-append c.elements (o ∷ []))),
+    )
 
-followed_plain : (why : Option Why) (b : Body) (f : Future) → AreExpanded f → AreExpanded (followed why b f)
-followed_plain why (body.Chars text blank) f h = (text_expanded text (inner why f) (inner_expanded why f h), outer_expanded f h)
-followed_plain why (body.Start name attrs true) f h = (nested_plain name attrs (End Fresh) (inner why f) refl (inner_expanded why f h), outer_expanded f h)
-followed_plain why (body.Start name attrs false) f h =
-    let g = outer_expanded f h in
-    (nested_plain name attrs (inner why f) (inner why (outer f)) (inner_expanded why f h) (inner_expanded why (outer f) g), outer_expanded (outer f) g)
-followed_plain why (body.End name) f h = (refl, h)
-followed_plain why (body.CData text) f h = h
-followed_plain why (body.Comment text) f h = h
-followed_plain why (body.Pi target text) f h = h
-followed_plain why body.Doctype f h = h
-followed_plain why body.Declaration f h = h
+-- it was refused
+pub takes-refused : (c new : Copier) (t : Target) (o : Open) (attrs : List Attr) (before now : List ℕ) (e : WriteStop) → Puts c.writer t (start_parts c.pass c.scope o.name attrs) before now (Err e) → Takes (begin_ahead c o attrs) new before now (Err e)
+takes-refused c new t o attrs before now (Fault x) h = (h.0, h.1, λ f. let p = rest c.pass c.scope (o ∷ reverse c.elements) f in h.2 p.parts p.stop)
+takes-refused c new t o attrs before now Memory h = (h.0, h.1, λ f. let p = rest c.pass c.scope (o ∷ reverse c.elements) f in h.2 p.parts p.stop)
 
-future_plain : (why : Option Why) (bs : List Body) → AreExpanded (future why bs)
-future_plain why [] = tt
-future_plain why (b ∷ bs) = followed_plain why b (future why bs) (future_plain why bs)
+-- what was before an element is again behind it
+pub rest-outer : (p : Pass) (scope around : List Binding) (name : Name) (outside : Option (List Binding)) (os : List Open) (f : Future) → unwrap_or outside scope ≡ around
+    → rest p scope (record { name = name; outer = Some around } ∷ os) f ≡ rest p scope (record { name = name; outer = outside } ∷ os) f
+rest-outer p scope around name outside os f e =
+    ap (λ s. then_put (passed p scope (inner f)) (put (end_parts p name) (rest p s os (outer f)))) (sym e)
 
-pub copies-documents : (limits : Limits) (bytes : List ℕ) (ended : Bool) → (run_on limits pass.All bytes ended).ending ≡ Complete → forest (run_on limits pass.All bytes ended).parts ≡ doc limits bytes ended
-copies-documents limits bytes ended h =
-    let l = lexed limits bytes ended in
-    let r = read limits bytes ended in
-    let tree = tree_of r in
-    let done = done_so (passed pass.All tree).stop (sym (ap (λ run. run.ending) (run-passed pass.All tree)) ∙ h) in
-    let complete = by_why r.why (λ o. passed-cut pass.All tree (deep_reading limits (length bytes) l.last at_start l.lexemes o) done) (is-cut-tree limits (length bytes) l.last l.lexemes) in
-    copies-all tree complete ∙ inner_expanded r.why (future r.why r.bodies) (future_plain r.why r.bodies)
-  where
-    by_why : (why : Option Why) → (why ≢ None → ⊥) → IsCutTree why (doc limits bytes ended) → IsCutTree None (doc limits bytes ended)
-    by_why None o t = t
-    by_why (Some why) o t = absurd (o (λ k. cc))
+-- what was to come on a start tag is what comes where the bindings are in force
+pub starts-within : (c d : Copier) (o : Open) (attrs : List Attr) (decls : List Binding) → d.scope ≡ scope_within c.scope decls → unwrap_or o.outer d.scope ≡ c.scope → d ≡ record c { scope = d.scope }
+    → (f : Future) → start_ahead c o.name attrs decls f ≡ begin_ahead d o attrs f
+starts-within c d o attrs decls s u e f =
+    let within = scope_within c.scope decls in
+    let os = reverse c.elements in
+    ap (λ p. given_of c.writer (put (start_parts c.pass within o.name attrs) p)) (rest-outer c.pass within c.scope o.name o.outer os f (ap (unwrap_or o.outer) (sym s) ∙ u))
+    ∙ ap (λ x. given_of c.writer (put (start_parts c.pass x o.name attrs) (rest c.pass x (o ∷ os) f))) (sym s)
+    ∙ ap (λ (x : Copier). begin_ahead x o attrs f) (sym e)
 
--- Of the texts
+-- Ends
 
-cut_text : (x : Forest) → IsCut x → all_text x ≡ []
-cut_text (End m) c = absurd c
-cut_text (Cut why) c = refl
-cut_text (Single m leaf next) c = absurd c
-cut_text (Nested m e kids next) c = absurd c
+-- what was to come on an element's end, where elements are copied
+pub closes : (c d : Copier) (o : Open) → c.pass ≡ pass.All → d ≡ record c { scope = unwrap_or o.outer c.scope } → (f : Future) → close_ahead c o f ≡ leaf_ahead d (part.End o.name ∷ []) f
+closes c d o h e f =
+    ap (λ p. given_of c.writer (put (end_parts p o.name) (rest c.pass (unwrap_or o.outer c.scope) (reverse c.elements) f))) h
+    ∙ ap (λ (x : Copier). leaf_ahead x (part.End o.name ∷ []) f) (sym e)
 
-cut_parts : (pass : Pass) (x : Forest) → IsCut x → (passed pass x).parts ≡ []
-cut_parts pass (End m) c = absurd c
-cut_parts pass (Cut why) c = refl
-cut_parts pass (Single m leaf next) c = absurd c
-cut_parts pass (Nested m e kids next) c = absurd c
+pub ends-one : (c : Copier) (left : List Open) (o : Open) → c.elements ≡ left ++ o ∷ [] → (f : Future) → end_ahead c f ≡ close_ahead (record c { elements = left }) o f
+ends-one c left o h f = ap (λ os. given_of c.writer (ended c.pass c.scope os f)) (ap reverse h ∙ reverse-append left (o ∷ []))
 
--- an element puts its list's texts and then the next ones, ready or not
-inner_parts : (m : Mark) (e : Element) (kids next : Forest) → (passed pass.Chars (Nested m e kids next)).parts ≡ (then_put (passed pass.Chars kids) (passed pass.Chars next)).parts
-inner_parts Told e kids next = refl
-inner_parts Begun e kids next = refl
-inner_parts Fresh e (End m) next = refl
-inner_parts Fresh e (Cut why) next = refl
-inner_parts Fresh e (Single m leaf rest) next = refl
-inner_parts Fresh e (Nested m f kids rest) next = refl
+-- What was to come, by the event
 
-then_nothing : (s : Option Why) (p q : Passed) → q.parts ≡ [] → (unless_stopped s p q).parts ≡ p.parts
-then_nothing None p q h = ap (λ l. p.parts ++ l) h ∙ append-nil p.parts
-then_nothing (Some why) p q h = refl
+pub told-start : (c : Copier) (e : Element) (first : First) (f : Future) → given_by c (event.Start e.offset e.name e.attrs e.decls first) f ≡ start_ahead c e.name e.attrs e.decls f
+told-start c e first f = ap (given_of c.writer) (rest-start c.pass c.scope (reverse c.elements) e f)
 
--- parts before others put these texts first
-abbrev Texts : List Part → List ℕ → List Part → Type 0
-Texts ps text others = inner None (lists (ps ++ others)) ≡ text_before text (inner None (lists others))
+placeless : (p : Pass) (offset : ℕ) (text : List ℕ) → leaf_parts p (Chars offset text) ≡ leaf_parts p (Chars 0 text)
+placeless pass.All offset text = refl
+placeless pass.Chars offset text = refl
+placeless pass.None offset text = refl
 
-inner_texts : (kids next : Forest) (ps : List Part) → ((qs : List Part) → Texts (passed pass.Chars kids).parts (all_text kids) qs) →
-    Texts (passed pass.Chars next).parts (all_text next) ps → (is_closed kids ≡ false → IsCut next) → (b : Bool) → is_closed kids ≡ b →
-    Texts (then_put (passed pass.Chars kids) (passed pass.Chars next)).parts (all_text kids ++ all_text next) ps
-inner_texts kids next ps h g o true c =
-    let k : Passed = passed pass.Chars kids in
-    let n : Passed = passed pass.Chars next in
-    ap (λ (p : Passed). inner None (lists (p.parts ++ ps))) (then_is k n (closed_done pass.Chars kids c))
-    ∙ (ap (λ l. inner None (lists l)) (append_assoc k.parts n.parts ps)
-    ∙ (h (n.parts ++ ps)
-    ∙ (ap (text_before (all_text kids)) g ∙ text-twice (all_text kids) (all_text next) (inner None (lists ps)))))
-inner_texts kids next ps h g o false c =
-    let k : Passed = passed pass.Chars kids in
-    let n : Passed = passed pass.Chars next in
-    let all : all_text kids ++ all_text next ≡ all_text kids = ap (λ l. all_text kids ++ l) (cut_text next (o c)) ∙ append-nil (all_text kids) in
-    ap (λ l. inner None (lists (l ++ ps))) (then_nothing k.stop k n (cut_parts pass.Chars next (o c)))
-    ∙ (h ps ∙ ap (λ l. text_before l (inner None (lists ps))) (sym all))
+placeless-comment : (p : Pass) (offset : ℕ) (text : List ℕ) → leaf_parts p (Comment offset text) ≡ leaf_parts p (Comment 0 text)
+placeless-comment pass.All offset text = refl
+placeless-comment pass.Chars offset text = refl
+placeless-comment pass.None offset text = refl
 
-texts : (why : Option Why) (x : Forest) → IsProper why x → (ps : List Part) → Texts (passed pass.Chars x).parts (all_text x) ps
-texts why (End m) h ps = refl
-texts why (Cut w) h ps = refl
-texts why (Single m (Chars text) next) h ps = ap (text_before text) (texts why next h.3 ps) ∙ text-twice text (all_text next) (inner None (lists ps))
-texts why (Nested m e kids next) h ps =
-    ap (λ l. inner None (lists (l ++ ps))) (inner_parts m e kids next)
-    ∙ inner_texts kids next ps (λ qs. texts why kids h.1 qs) (texts why next h.2 ps) h.3 (is_closed kids) refl
+placeless-instruction : (p : Pass) (offset : ℕ) (target text : List ℕ) → leaf_parts p (Pi offset target text) ≡ leaf_parts p (Pi 0 target text)
+placeless-instruction pass.All offset target text = refl
+placeless-instruction pass.Chars offset target text = refl
+placeless-instruction pass.None offset target text = refl
 
-pub copies-texts : (why : Option Why) (tree : Forest) → IsCutTree why tree → forest (run_of (outcome pass.Chars tree)).parts ≡ text_before (all_text tree) (End Fresh)
-copies-texts why tree h =
-    put_by pass.Chars tree ∙ (ap forest (sym (append-nil (passed pass.Chars tree).parts)) ∙ texts why tree h.0 [])
+pub told-chars : (c : Copier) (offset : ℕ) (text : List ℕ) (f : Future) → given_by c (event.Chars offset text) f ≡ leaf_ahead c (leaf_parts c.pass (Chars 0 text)) f
+told-chars c offset text f = ap (given_of c.writer) (rest-leaf c.pass c.scope (reverse c.elements) (Chars offset text) f ∙ ap (λ ps. put ps (still c f)) (placeless c.pass offset text))
 
--- Of nothing
+pub told-comment : (c : Copier) (offset : ℕ) (text : List ℕ) (f : Future) → given_by c (event.Comment offset text) f ≡ leaf_ahead c (leaf_parts c.pass (Comment 0 text)) f
+told-comment c offset text f = ap (given_of c.writer) (rest-leaf c.pass c.scope (reverse c.elements) (Comment offset text) f ∙ ap (λ ps. put ps (still c f)) (placeless-comment c.pass offset text))
 
-nothing_ready : (m : Mark) (kids : Forest) (p : Passed) → p.parts ≡ [] → (once_ready m kids p).parts ≡ []
-nothing_ready Told kids p h = h
-nothing_ready Begun kids p h = h
-nothing_ready Fresh (End m) p h = h
-nothing_ready Fresh (Cut why) p h = refl
-nothing_ready Fresh (Single m leaf next) p h = h
-nothing_ready Fresh (Nested m e kids next) p h = h
+pub told-instruction : (c : Copier) (offset : ℕ) (target text : List ℕ) (f : Future) → given_by c (event.Pi offset target text) f ≡ leaf_ahead c (leaf_parts c.pass (Pi 0 target text)) f
+told-instruction c offset target text f = ap (given_of c.writer) (rest-leaf c.pass c.scope (reverse c.elements) (Pi offset target text) f ∙ ap (λ ps. put ps (still c f)) (placeless-instruction c.pass offset target text))
 
-nothing : (x : Forest) → (passed pass.None x).parts ≡ []
-nothing (End m) = refl
-nothing (Cut why) = refl
-nothing (Single m (Chars text) next) = nothing next
-nothing (Nested m e kids next) =
-    let k = passed pass.None kids in
-    nothing_ready m kids _ (then_nothing k.stop k (passed pass.None next) (nothing next) ∙ nothing kids)
+pub told-end : (c : Copier) (offset : ℕ) (f : Future) → given_by c (event.End offset) f ≡ end_ahead c f
+told-end c offset f = ap (given_of c.writer) (rest-end c.pass c.scope (reverse c.elements) offset f)
 
-pub copies-nothing : (tree : Forest) → forest (run_of (outcome pass.None tree)).parts ≡ End Fresh
-copies-nothing tree = put_by pass.None tree ∙ ap forest (nothing tree)
+pub told-document-end : (c : Copier) (offset : ℕ) (f : Future) → given_by c (event.DocumentEnd offset) f ≡ end_ahead c f
+told-document-end c offset f = ap (given_of c.writer) (rest-end c.pass c.scope (reverse c.elements) offset f)

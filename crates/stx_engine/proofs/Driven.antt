@@ -18,14 +18,14 @@ use Rattle.stx_host.specs.declared.act.Lane.{Lane}
 use Rattle.stx_host.specs.declared.act.Lane.TheVariants.{Out}
 use Rattle.stx_host.proofs.CopiedSoFar.{and_nothing_more, fits_of, given_of, main_left, nothing_left, one_act}
 use Rattle.stx_host.proofs.Stretches.{between_joins, between_read, between_writes, between_fault, nothing_between, main_read-append, main_read-writes, main_reads_one, main_reads_writes}
-use Rattle.stx_engine.specs.Answer.{outcome_of, result_of, run_on}
+use Rattle.stx_engine.specs.Answer.{code_of, outcome_of, result_of, run_on}
 use Rattle.stx_engine.specs.Driving.{CountsBy, Drives, EndOnce, EndsAs, FailedAt, FailsBy, IsSettledAt, SameCounts, counted, main_gots}
-use Rattle.stx_engine.specs.Engine.{Appends, IsWaiting, Means, Pumps, StoppedBy, ahead, more, more_of}
+use Rattle.stx_engine.specs.Engine.{Appends, IsWaiting, Means, Pumps, StoppedBy, more, more_of}
 use Rattle.stx_engine.specs.Loading.{is_doc_read, opens}
-use Rattle.stx_engine.specs.More.{Given}
-use Rattle.stx_engine.specs.Passed.{ending_of}
-use Rattle.stx_engine.specs.Result.{head}
-use Rattle.stx_engine.specs.Tree.{Why, Need, Bad}
+use Rattle.stx_engine.specs.More.{Given, ahead}
+use Rattle.stx_engine.specs.Meaning.{Complete, Ending, Refused, Unready}
+use Rattle.stx_engine.specs.Output.{head}
+use Rattle.xml_events.specs.Tree.{Need, Bad}
 use Rattle.stx_engine.specs.declared.engine.Engine.{Engine}
 use Rattle.stx_engine.specs.declared.engine.Piece.TheVariants.{Start, End}
 use Rattle.stx_engine.specs.declared.engine.Pumped.{Pumped}
@@ -33,9 +33,8 @@ use Rattle.stx_engine.specs.declared.engine.Pumped.TheVariants as pumped
 use Rattle.stx_engine.specs.declared.outcome.HostFault.{HostFault}
 use Rattle.stx_engine.specs.declared.outcome.HostFault.TheVariants as fault
 use Rattle.stx_engine.specs.declared.outcome.Outcome.{Outcome}
-use Rattle.stx_engine.specs.declared.outcome.Outcome.TheVariants.{Done, Usage, Sheet, Xml, Host, Memory}
+use Rattle.stx_engine.specs.declared.outcome.Outcome.TheVariants.{Done, Run, Usage, Sheet, Xml, Host, Memory}
 use Rattle.stx_engine.specs.declared.pass.Pass.{Pass}
-use Rattle.stx_engine.proofs.Ending.{beginning-open}
 use Rattle.stx_engine.proofs.Loading.{counts_join}
 use Rattle.stx_engine.proofs.Prefixes.{begins_after, begins_front}
 
@@ -128,8 +127,8 @@ module _ (start : Engine) (main : List ℕ) where
   -- what was appended after so many bytes of the document, by what is wanted
   abbrev pub Goes : Engine → (n : ℕ) → (appended : List ℕ) → Pumped → Type 0
   Goes e n appended pumped.Main = (bytes : List ℕ) (ended : Bool) → more_of start Start (take n main ++ bytes) ended ≡ ahead appended (more e bytes ended)
-  Goes e n appended pumped.Done = (e.outcome ≡ Some Done) × (whole ≡ record { bytes = appended; stop = None })
-  Goes e n appended pumped.Stopped = StoppedBy e.outcome appended (λ bytes ended. whole)
+  Goes e n appended pumped.Done = (e.outcome ≡ Some Done) × (whole ≡ record { bytes = appended; ending = Complete })
+  Goes e n appended pumped.Stopped = StoppedBy start.sheet e.outcome appended (λ bytes ended. whole)
 
   ahead_twice : (xs ys : List ℕ) (g : Given) → ahead xs (ahead ys g) ≡ ahead (xs ++ ys) g
   ahead_twice xs ys g = ap (λ l. record g { bytes = l }) (sym (append_assoc xs ys g.bytes))
@@ -138,13 +137,14 @@ module _ (start : Engine) (main : List ℕ) where
   goes-piece : (given : List ℕ → Bool → Given) (new : Engine) (n : ℕ) (front appended : List ℕ) (p : Pumped)
       → ((bytes : List ℕ) (ended : Bool) → p ≡ pumped.Main → more_of start Start (take n main ++ bytes) ended ≡ ahead front (given bytes ended))
       → (rest : List ℕ) (at_end : Bool) → whole ≡ ahead front (given rest at_end)
-      → Appends given new appended p → Goes new n (front ++ appended) p
+      → Appends given start.sheet new appended p → Goes new n (front ++ appended) p
   goes-piece given new n front appended pumped.Main step rest at_end all a = λ bytes ended.
       step bytes ended refl ∙ ap (ahead front) (a.1 bytes ended) ∙ ahead_twice front appended (more new bytes ended)
   goes-piece given new n front appended pumped.Done step rest at_end all a = (a.0, all ∙ ap (ahead front) (a.1 rest at_end))
   goes-piece given new n front appended pumped.Stopped step rest at_end all a = by_outcome new.outcome a where
-    by_outcome : (o : Option Outcome) → StoppedBy o appended given → StoppedBy o (front ++ appended) (λ bytes ended. whole)
+    by_outcome : (o : Option Outcome) → StoppedBy start.sheet o appended given → StoppedBy start.sheet o (front ++ appended) (λ bytes ended. whole)
     by_outcome (Some (Xml file fault)) s = (s.0, λ bytes ended. all ∙ ap (ahead front) (s.1 rest at_end))
+    by_outcome (Some (Run file code offset)) s = (s.0, s.1, s.2, s.3, λ bytes ended. all ∙ ap (ahead front) (s.4 rest at_end))
     by_outcome (Some Memory) s = λ bytes ended. subst (λ g. Begins (front ++ appended) g.bytes) (sym all) (begins_after front appended (given rest at_end).bytes (s rest at_end))
     by_outcome (Some Done) s = absurd s
     by_outcome (Some Usage) s = absurd s
@@ -160,8 +160,9 @@ module _ (start : Engine) (main : List ℕ) where
   )
   goes-begins e n appended pumped.Done goes = ([], append-nil appended ∙ sym (ap (λ g. g.bytes) goes.1))
   goes-begins e n appended pumped.Stopped goes = by_outcome e.outcome goes where
-    by_outcome : (o : Option Outcome) → StoppedBy o appended (λ bytes ended. whole) → Begins appended whole.bytes
+    by_outcome : (o : Option Outcome) → StoppedBy start.sheet o appended (λ bytes ended. whole) → Begins appended whole.bytes
     by_outcome (Some (Xml file fault)) s = ([], append-nil appended ∙ sym (ap (λ g. g.bytes) (s.1 main true)))
+    by_outcome (Some (Run file code offset)) s = ([], append-nil appended ∙ sym (ap (λ g. g.bytes) (s.4 main true)))
     by_outcome (Some Memory) s = s main true
     by_outcome (Some Done) s = absurd s
     by_outcome (Some Usage) s = absurd s
@@ -183,6 +184,7 @@ module _ (limits : Limits) (pass : Pass) (start : Engine) where
   -- how an engine ended, by what it wants
   abbrev IsStop : Option Outcome → Type 0
   IsStop (Some (Xml file fault)) = Unit {0}
+  IsStop (Some (Run file code offset)) = Unit {0}
   IsStop (Some Memory) = Unit {0}
   IsStop outcome = ⊥
 
@@ -191,12 +193,13 @@ module _ (limits : Limits) (pass : Pass) (start : Engine) where
   StopsBy pumped.Done outcome = outcome ≡ Some Done
   StopsBy pumped.Stopped outcome = IsStop outcome
 
-  stops-by : (given : List ℕ → Bool → Given) (new : Engine) (appended : List ℕ) (p : Pumped) → Appends given new appended p → StopsBy p new.outcome
+  stops-by : (given : List ℕ → Bool → Given) (new : Engine) (appended : List ℕ) (p : Pumped) → Appends given start.sheet new appended p → StopsBy p new.outcome
   stops-by given new appended pumped.Main a = tt
   stops-by given new appended pumped.Done a = a.0
   stops-by given new appended pumped.Stopped a = by_outcome new.outcome a where
-    by_outcome : (o : Option Outcome) → StoppedBy o appended given → IsStop o
+    by_outcome : (o : Option Outcome) → StoppedBy start.sheet o appended given → IsStop o
     by_outcome (Some (Xml file fault)) s = tt
+    by_outcome (Some (Run file code offset)) s = tt
     by_outcome (Some Memory) s = tt
     by_outcome (Some Done) s = absurd s
     by_outcome (Some Usage) s = absurd s
@@ -225,28 +228,21 @@ module _ (limits : Limits) (pass : Pass) (start : Engine) where
     result_is : (bytes : List ℕ) (ended : Bool) → result_of (run_on limits pass bytes ended) ≡ (more_of start Start bytes ended).bytes
     result_is bytes ended = sym (ap (λ l. head ++ l) (means bytes ended).0)
 
-    -- a run on first bytes isn't done
-    not_done : (bytes front appended : List ℕ) (given : List ℕ → Bool → Given) (new : Engine) (rest : List ℕ) (p : Pumped)
-        → more_of start Start bytes false ≡ ahead front (given rest false) → Appends given new appended p → p ≡ pumped.Done → ⊥
-    not_done bytes front appended given new rest p all a is =
-        let done : Appends given new appended pumped.Done = subst (Appends given new appended) is a in
-        beginning-open limits pass bytes (sym (means bytes false).1 ∙ ap (λ g. ending_of g.stop) (all ∙ ap (ahead front) (done.1 rest false)))
-
     -- more is wanted, and all that is settled was written
     settled-at : (main : List ℕ) (n : ℕ) (out : List ℕ) (e : Engine) → IsWaiting e → Goes start main e n out pumped.Main
         → IsSettledAt limits pass (take n main) (record { out = out; note = []; main_read = n })
     settled-at main n out e waits goes =
         let bytes = take n main in
-        let here : more_of start Start bytes false ≡ record { bytes = out; stop = Some Need } =
-        ap (λ l. more_of start Start l false) (sym (append-nil bytes)) ∙ goes [] false ∙ ap (ahead out) waits.nothing ∙ ap (λ l. record { bytes = l; stop = Some Need }) (append-nil out) in
+        let here : more_of start Start bytes false ≡ record { bytes = out; ending = Unready Need } =
+        ap (λ l. more_of start Start l false) (sym (append-nil bytes)) ∙ goes [] false ∙ ap (ahead out) waits.nothing ∙ ap (λ l. record { bytes = l; ending = Unready Need }) (append-nil out) in
         record {
           out = sym (result_is bytes false ∙ ap (λ g. g.bytes) here);
           note = refl;
-          needs = sym (means bytes false).1 ∙ ap (λ g. ending_of g.stop) here;
+          needs = sym (means bytes false).1 ∙ ap (λ g. g.ending) here;
         }
 
-    pub starts : (old : Outside) (e : Engine) (next : List ℕ) (p : Pumped) → Pumps (more_of start Start) e [] next p → Driving old old e next 0 0 p
-    starts old e next p pumps = record {
+    pub starts : (old : Outside) (e : Engine) (next : List ℕ) (p : Pumped) → (p ≡ pumped.Done → ⊥) → Pumps (more_of start Start) start.sheet e [] next p → Driving old old e next 0 0 p
+    starts old e next p undone pumps = record {
       acts = [];
       out = [];
       between = nothing_between old;
@@ -266,7 +262,7 @@ module _ (limits : Limits) (pass : Pass) (start : Engine) where
         goes = subst (λ l. Goes start main e 0 l p) (sym pumps.1)
             (goes-piece start main (more_of start Start) e 0 [] pumps.0 p (λ bytes ended is. refl) main true refl pumps.2);
         all = λ is. absurd (false≢true is);
-        done = λ is. absurd (not_done [] [] pumps.0 (more_of start Start) e [] p refl pumps.2 is);
+        done = λ is. absurd (undone is);
       };
     }
 
@@ -305,9 +301,9 @@ module _ (limits : Limits) (pass : Pass) (start : Engine) where
 
     -- a piece of the main document was read and handed to the engine
     pub reads-piece : (old now new : Outside) (e after : Engine) (next room : List ℕ) (n read written : ℕ) (p : Pumped) → Driving old now e [] read written pumped.Main → IsWaiting e
-        → GivesBytes (now.to_come 0) n room → Reads now 0 (Got' n) new → Pumps (λ bytes ended. more e (take n room ++ bytes) ended) after [] next p
+        → GivesBytes (now.to_come 0) n room → Reads now 0 (Got' n) new → (p ≡ pumped.Done → ⊥) → Pumps (λ bytes ended. more e (take n room ++ bytes) ended) start.sheet after [] next p
         → Driving old new after next (read + n) written p
-    reads-piece old now new e after next room n read written p d waits gives change pumps =
+    reads-piece old now new e after next room n read written p d waits gives change undone pumps =
         let piece = take n room in
         let given_on : List ℕ → Bool → Given = λ bytes ended. more e (piece ++ bytes) ended in
         let at : ℕ = main_read d.acts in
@@ -347,13 +343,13 @@ module _ (limits : Limits) (pass : Pass) (start : Engine) where
                     ∙ goes (piece ++ drop n (drop at main)) true)
                     pumps.2));
                 all = λ is. absurd (false≢true is);
-                done = λ is. absurd (not_done (take at main ++ (piece ++ [])) d.out pumps.0 given_on after [] p (goes (piece ++ []) false) pumps.2 is);
+                done = λ is. absurd (undone is);
               };
         }
 
     -- the main document ended, and so the engine was told
     pub reads-end : (old now new : Outside) (e after : Engine) (next : List ℕ) (read written : ℕ) (p : Pumped) → Driving old now e [] read written pumped.Main → IsWaiting e
-        → IfSome (now.to_come 0) (λ bytes. bytes ≡ []) → Reads now 0 GotEnd new → (p ≡ pumped.Main → ⊥) → Pumps (more_of e End) after [] next p
+        → IfSome (now.to_come 0) (λ bytes. bytes ≡ []) → Reads now 0 GotEnd new → (p ≡ pumped.Main → ⊥) → Pumps (more_of e End) start.sheet after [] next p
         → Driving old new after next read written p
     reads-end old now new e after next read written p d waits ended change last pumps =
         let at : ℕ = main_read d.acts in
@@ -397,7 +393,7 @@ module _ (limits : Limits) (pass : Pass) (start : Engine) where
     pub record Fails (old new : Outside) (acts : List Act) (out : List ℕ) (o : Outcome) : Type 0 where
       pub counts : CountsBy o old new
       pub failed : FailedAt o acts out
-      pub ends : (main : List ℕ) → EndsAs limits pass main out o
+      pub ends : (main : List ℕ) → EndsAs limits pass start.sheet main out o
       pub undone : o ≡ Done → ⊥
 
     fails-by : (f : HostFault) (offset : ℕ) (old new : Outside) (acts : List Act) (out : List ℕ) → new.note_faults ≡ old.note_faults → Fails old new acts out (Host (codes "-") f offset)
@@ -406,6 +402,7 @@ module _ (limits : Limits) (pass : Pass) (start : Engine) where
     fails-by f offset old new acts out note facts Done e = subst (Fails old new acts out) (sym e) facts
     fails-by f offset old new acts out note facts Usage e = subst (Fails old new acts out) (sym e) facts
     fails-by f offset old new acts out note facts (Sheet fault) e = subst (Fails old new acts out) (sym e) facts
+    fails-by f offset old new acts out note facts (Run file code at) e = subst (Fails old new acts out) (sym e) facts
     fails-by f offset old new acts out note facts (Xml file fault) e = subst (Fails old new acts out) (sym e) facts
     fails-by f offset old new acts out note facts (Host file g at) e = subst (Fails old new acts out) (sym e) facts
 
@@ -415,7 +412,7 @@ module _ (limits : Limits) (pass : Pass) (start : Engine) where
 
     -- a write failed
     pub write-fails : (old now new : Outside) (e : Engine) (next all lens : List ℕ) (read written offset taken : ℕ) (p : Pumped) (o : Outcome) → Driving old now e next read written p
-        → all ≡ next → sum lens ≡ taken → taken < length all → OutFault (wrote now Out lens (take taken all)) new → offset ≡ counted (written + taken) → FailsBy fault.Write offset o → Drives limits pass old new o
+        → all ≡ next → sum lens ≡ taken → taken < length all → OutFault (wrote now Out lens (take taken all)) new → offset ≡ counted (written + taken) → FailsBy fault.Write offset o → Drives limits pass start.sheet old new o
     write-fails old now new e next all lens read written offset taken p o d same total some_all failed_all at told_by =
         let some : taken < length next = omega (arith, some_all, ap length same) in
         let failed : OutFault (wrote now Out lens (take taken next)) new = subst (λ l. OutFault (wrote now Out lens (take taken l)) new) same failed_all in
@@ -463,7 +460,7 @@ module _ (limits : Limits) (pass : Pass) (start : Engine) where
 
     -- a read failed
     pub read-fails : (old now new : Outside) (e : Engine) (read written : ℕ) (p : Pumped) (o : Outcome) → Driving old now e [] read written p
-        → MainFault now new → FailsBy fault.Read read o → Drives limits pass old new o
+        → MainFault now new → FailsBy fault.Read read o → Drives limits pass start.sheet old new o
     read-fails old now new e read written p o d failed told_by =
         let note = ap (λ x. x.note_faults) failed.alone ∙ d.counts.note in
         let fails = fails-by fault.Read read old new d.acts d.out note
@@ -499,7 +496,7 @@ module _ (limits : Limits) (pass : Pass) (start : Engine) where
 
     -- the engine is done, or was stopped
     pub ends : (old now : Outside) (e : Engine) (read written : ℕ) (p : Pumped) (o : Outcome) → Driving old now e [] read written p → (p ≡ pumped.Main → ⊥) → o ≡ unwrap_or e.outcome Memory
-        → Drives limits pass old now o
+        → Drives limits pass start.sheet old now o
     ends old now e read written p o d last is = record {
       acts = d.acts;
       out = d.out;
@@ -517,7 +514,7 @@ module _ (limits : Limits) (pass : Pass) (start : Engine) where
           record {
             reads = so_far.reads;
             prefix = begins-result main (main_read d.acts) d.out e p goes;
-            ends = subst (EndsAs limits pass main d.out) (sym is) (by_end main p goes last);
+            ends = subst (EndsAs limits pass start.sheet main d.out) (sym is) (by_end main p goes last);
             all = λ done. let at_end = so_far.done (is_done p e.outcome d.stop last (sym is ∙ done)) in (at_end, so_far.all at_end);
           };
     } where
@@ -525,6 +522,7 @@ module _ (limits : Limits) (pass : Pass) (start : Engine) where
       is_done pumped.Main x s other done = absurd (other refl)
       is_done pumped.Done x s other done = refl
       is_done pumped.Stopped (Some (Xml file fault)) s other done = cc
+      is_done pumped.Stopped (Some (Run file code offset)) s other done = cc
       is_done pumped.Stopped (Some Memory) s other done = cc
       is_done pumped.Stopped (Some Done) s other done = absurd s
       is_done pumped.Stopped (Some Usage) s other done = absurd s
@@ -534,6 +532,7 @@ module _ (limits : Limits) (pass : Pass) (start : Engine) where
 
       by_outcome : (o : Option Outcome) → IsStop o → CountsBy (unwrap_or o Memory) old now × FailedAt (unwrap_or o Memory) d.acts d.out
       by_outcome (Some (Xml file fault)) s = (d.counts, tt)
+      by_outcome (Some (Run file code offset)) s = (d.counts, tt)
       by_outcome (Some Memory) s = (d.counts.note, tt)
       by_outcome (Some Done) s = absurd s
       by_outcome (Some Usage) s = absurd s
@@ -547,13 +546,16 @@ module _ (limits : Limits) (pass : Pass) (start : Engine) where
       by_stop pumped.Stopped o s other = by_outcome o s
 
       -- all that the document gives was written
-      wrote_all : (main : List ℕ) (stop : Option Why) → more_of start Start main true ≡ record { bytes = d.out; stop = stop } → (o : Outcome) → o ≡ outcome_of (ending_of stop)
-          → (d.out ≡ result_of (run_on limits pass main true)) × (o ≡ outcome_of (run_on limits pass main true).ending)
-      wrote_all main stop all o e =
-          (sym (result_is main true ∙ ap (λ g. g.bytes) all), e ∙ ap outcome_of (sym (ap (λ g. ending_of g.stop) all) ∙ (means main true).1))
+      wrote_all : (main : List ℕ) (ending : Ending) → more_of start Start main true ≡ record { bytes = d.out; ending = ending } → (o : Outcome) → o ≡ outcome_of start.sheet ending
+          → (d.out ≡ result_of (run_on limits pass main true)) × (o ≡ outcome_of start.sheet (run_on limits pass main true).ending)
+      wrote_all main ending all o e =
+          (sym (result_is main true ∙ ap (λ g. g.bytes) all), e ∙ ap (outcome_of start.sheet) (sym (ap (λ g. g.ending) all) ∙ (means main true).1))
 
-      by_stopped : (main : List ℕ) (o : Option Outcome) → StoppedBy o d.out (λ bytes ended. more_of start Start main true) → EndsAs limits pass main d.out (unwrap_or o Memory)
-      by_stopped main (Some (Xml file fault)) s = wrote_all main (Some (Bad fault)) (s.1 main true) (Xml file fault) (ap (λ f. Xml f fault) s.0)
+      by_stopped : (main : List ℕ) (o : Option Outcome) → StoppedBy start.sheet o d.out (λ bytes ended. more_of start Start main true) → EndsAs limits pass start.sheet main d.out (unwrap_or o Memory)
+      by_stopped main (Some (Xml file fault)) s = wrote_all main (Unready (Bad fault)) (s.1 main true) (Xml file fault) (ap (λ f. Xml f fault) s.0)
+      by_stopped main (Some (Run file code offset)) s =
+          wrote_all main (Refused s.0) (s.4 main true) (Run file code offset)
+          (ap (λ f. Run f code offset) s.1 ∙ ap (λ x. Run start.sheet x offset) s.2 ∙ ap (λ n. Run start.sheet (code_of s.0) n) s.3)
       by_stopped main (Some Memory) s = tt
       by_stopped main (Some Done) s = absurd s
       by_stopped main (Some Usage) s = absurd s
@@ -561,11 +563,11 @@ module _ (limits : Limits) (pass : Pass) (start : Engine) where
       by_stopped main (Some (Host file fault offset)) s = absurd s
       by_stopped main None s = absurd s
 
-      by_end : (main : List ℕ) (p : Pumped) → Goes start main e (main_read d.acts) d.out p → (p ≡ pumped.Main → ⊥) → EndsAs limits pass main d.out (unwrap_or e.outcome Memory)
+      by_end : (main : List ℕ) (p : Pumped) → Goes start main e (main_read d.acts) d.out p → (p ≡ pumped.Main → ⊥) → EndsAs limits pass start.sheet main d.out (unwrap_or e.outcome Memory)
       by_end main pumped.Main goes other = absurd (other refl)
-      by_end main pumped.Done goes other = subst (λ x. EndsAs limits pass main d.out (unwrap_or x Memory)) (sym goes.0) (wrote_all main None goes.1 Done refl)
+      by_end main pumped.Done goes other = subst (λ x. EndsAs limits pass start.sheet main d.out (unwrap_or x Memory)) (sym goes.0) (wrote_all main Complete goes.1 Done refl)
       by_end main pumped.Stopped goes other = by_stopped main e.outcome goes
 
 -- an engine that wants more waits
-pub waits_where : (given : List ℕ → Bool → Given) (new : Engine) (before now : List ℕ) (p : Pumped) → Pumps given new before now p → p ≡ pumped.Main → IsWaiting new
-waits_where given new before now p pumps is = let at_main : Appends given new pumps.0 pumped.Main = subst (Appends given new pumps.0) is pumps.2 in at_main.0
+pub waits_where : (given : List ℕ → Bool → Given) (sheet : List ℕ) (new : Engine) (before now : List ℕ) (p : Pumped) → Pumps given sheet new before now p → p ≡ pumped.Main → IsWaiting new
+waits_where given sheet new before now p pumps is = let at_main : Appends given sheet new pumps.0 pumped.Main = subst (Appends given sheet new pumps.0) is pumps.2 in at_main.0

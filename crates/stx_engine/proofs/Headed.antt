@@ -23,7 +23,7 @@ use Rattle.stx_engine.specs.Running.{Asks, FailedIn, IsAnswered, RefusesWords, R
 use Rattle.stx_engine.specs.declared.outcome.HostFault.{HostFault}
 use Rattle.stx_engine.specs.declared.outcome.HostFault.TheVariants as fault
 use Rattle.stx_engine.specs.declared.outcome.Outcome.{Outcome}
-use Rattle.stx_engine.specs.declared.outcome.Outcome.TheVariants.{Done, Usage, Sheet, Xml, Host, Memory}
+use Rattle.stx_engine.specs.declared.outcome.Outcome.TheVariants.{Done, Run, Usage, Sheet, Xml, Host, Memory}
 use Rattle.stx_engine.proofs.Driven.{no_doc_read-writes, once-writes, opens-append, opens-writes}
 use Rattle.stx_engine.proofs.Loading.{map_some, undecided-then}
 use Rattle.stx_engine.proofs.Prefixes.{begins_all}
@@ -37,6 +37,7 @@ note_same Memory old new by = by
 note_same Done old new by = by.note
 note_same Usage old new by = by.note
 note_same (Sheet reason) old new by = by.note
+note_same (Run file code offset) old new by = by.note
 note_same (Xml file fault) old new by = by.note
 
 -- want of memory may come at the end of any run
@@ -144,6 +145,7 @@ failed-then words Memory acts lens out f = f
 failed-then words Done acts lens out f = f
 failed-then words Usage acts lens out f = f
 failed-then words (Sheet reason) acts lens out f = f
+failed-then words (Run file code offset) acts lens out f = f
 failed-then words (Xml file fault) acts lens out f = f
 
 -- no outcome that the host or want of memory brings
@@ -158,6 +160,7 @@ answered Memory own P p = absurd own
 answered Done own P p = p
 answered Usage own P p = p
 answered (Sheet reason) own P p = p
+answered (Run file code offset) own P p = p
 answered (Xml file fault) own P p = p
 
 -- an outcome is a failure, or the answer's
@@ -187,6 +190,7 @@ module _ (words : List (List ℕ)) (old mid new : Outside) (o : Outcome) (r : Ru
   either Done by failed = inr tt
   either Usage by failed = inr tt
   either (Sheet reason) by failed = inr tt
+  either (Run file code offset) by failed = inr tt
   either (Xml file fault) by failed = inr tt
 
   is_either : IsEither (IsFailure words old new acts r.out o) o
@@ -206,6 +210,7 @@ module _ (words : List (List ℕ)) (old mid new : Outside) (o : Outcome) (r : Ru
   failure_status Done failure is = absurd failure
   failure_status Usage failure is = absurd failure
   failure_status (Sheet reason) failure is = absurd failure
+  failure_status (Run file code offset) failure is = absurd failure
   failure_status (Xml file fault) failure is = absurd failure
 
   -- where no count rose, the host didn't fail
@@ -215,6 +220,7 @@ module _ (words : List (List ℕ)) (old mid new : Outside) (o : Outcome) (r : Ru
   failure_rose Done failure none = absurd failure
   failure_rose Usage failure none = absurd failure
   failure_rose (Sheet reason) failure none = absurd failure
+  failure_rose (Run file code offset) failure none = absurd failure
   failure_rose (Xml file fault) failure none = absurd failure
 
   module _ (docs : List Doc) (main : List ℕ) (tells : Tells old docs main) where
@@ -257,6 +263,7 @@ module _ (words : List (List ℕ)) (old mid new : Outside) (o : Outcome) (r : Ru
     zero_done Done is zero = refl
     zero_done Usage is zero = absurd (elim is [ inl e ↦ grind (arith, e, zero) | inr e ↦ grind (arith, e, zero) ])
     zero_done (Sheet reason) is zero = absurd (elim is [ inl e ↦ grind (arith, e, zero) | inr e ↦ grind (arith, e, zero) ])
+    zero_done (Run file code offset) is zero = absurd (elim is [ inl e ↦ grind (arith, e, zero) | inr e ↦ grind (arith, e, zero) ])
     zero_done (Xml file fault) is zero = absurd (elim is [ inl e ↦ grind (arith, e, zero) | inr e ↦ grind (arith, e, zero) ])
     zero_done (Host file f offset) is zero = absurd (elim is [ inl e ↦ grind (arith, e, zero) | inr e ↦ grind (arith, e, zero) ])
     zero_done Memory is zero = absurd (elim is [ inl e ↦ grind (arith, e, zero) | inr e ↦ grind (arith, e, zero) ])
@@ -285,6 +292,7 @@ module _ (words : List (List ℕ)) (old mid new : Outside) (o : Outcome) (r : Ru
     all_opened Done (inl failure) P p is five seven = absurd failure
     all_opened Usage (inl failure) P p is five seven = absurd failure
     all_opened (Sheet reason) (inl failure) P p is five seven = absurd failure
+    all_opened (Run file code offset) (inl failure) P p is five seven = absurd failure
     all_opened (Xml file fault) (inl failure) P p is five seven = absurd failure
 
     pub opens_first : OpensFirst docs (answer words docs main).opened result (since old.log new.log)
@@ -304,6 +312,7 @@ module _ (words : List (List ℕ)) (old mid new : Outside) (o : Outcome) (r : Ru
     by_failure Done (inr own) is some = absurd (elim some [ inl e ↦ grind (arith, is, e) | inr e ↦ grind (arith, is, e) ])
     by_failure Usage (inr own) is some = absurd (elim some [ inl e ↦ grind (arith, is, e) | inr e ↦ grind (arith, is, e) ])
     by_failure (Sheet reason) (inr own) is some = absurd (elim some [ inl e ↦ grind (arith, is, e) | inr e ↦ grind (arith, is, e) ])
+    by_failure (Run file code offset) (inr own) is some = absurd (elim some [ inl e ↦ grind (arith, is, e) | inr e ↦ grind (arith, is, e) ])
     by_failure (Xml file fault) (inr own) is some = absurd (elim some [ inl e ↦ grind (arith, is, e) | inr e ↦ grind (arith, is, e) ])
 
     -- an answer's line was cut
@@ -311,6 +320,7 @@ module _ (words : List (List ℕ)) (old mid new : Outside) (o : Outcome) (r : Ru
     own_status Done own is some = elim is [ inl e ↦ absurd (elim some [ inl f ↦ grind (arith, e, f) | inr f ↦ grind (arith, e, f) ]) | inr e ↦ e ]
     own_status Usage own is some = elim is [ inl e ↦ absurd (elim some [ inl f ↦ grind (arith, e, f) | inr f ↦ grind (arith, e, f) ]) | inr e ↦ e ]
     own_status (Sheet reason) own is some = elim is [ inl e ↦ absurd (elim some [ inl f ↦ grind (arith, e, f) | inr f ↦ grind (arith, e, f) ]) | inr e ↦ e ]
+    own_status (Run file code offset) own is some = elim is [ inl e ↦ absurd (elim some [ inl f ↦ grind (arith, e, f) | inr f ↦ grind (arith, e, f) ]) | inr e ↦ e ]
     own_status (Xml file fault) own is some = elim is [ inl e ↦ absurd (elim some [ inl f ↦ grind (arith, e, f) | inr f ↦ grind (arith, e, f) ]) | inr e ↦ e ]
     own_status (Host file f offset) own is some = absurd own
     own_status Memory own is some = absurd own
@@ -336,12 +346,13 @@ module _ (words : List (List ℕ)) (old mid new : Outside) (o : Outcome) (r : Ru
 
   -- The status
 
-  is_among_statuses : (x : Outcome) → (status : ℕ) → (status ≡ status_of x) ⊎ (status ≡ unwritten_status (status_of x)) → IsTrue (list_any (λ s. s == status) (0 ∷ 2 ∷ 3 ∷ 4 ∷ 5 ∷ 7 ∷ []))
+  is_among_statuses : (x : Outcome) → (status : ℕ) → (status ≡ status_of x) ⊎ (status ≡ unwritten_status (status_of x)) → IsTrue (list_any (λ s. s == status) (0 ∷ 1 ∷ 2 ∷ 3 ∷ 4 ∷ 5 ∷ 7 ∷ []))
   is_among_statuses (Host file f offset) status is = elim is [ inl e ↦ rw e refl | inr e ↦ rw e refl ]
   is_among_statuses Memory status is = elim is [ inl e ↦ rw e refl | inr e ↦ rw e refl ]
   is_among_statuses Done status is = elim is [ inl e ↦ rw e refl | inr e ↦ rw e refl ]
   is_among_statuses Usage status is = elim is [ inl e ↦ rw e refl | inr e ↦ rw e refl ]
   is_among_statuses (Sheet reason) status is = elim is [ inl e ↦ rw e refl | inr e ↦ rw e refl ]
+  is_among_statuses (Run file code offset) status is = elim is [ inl e ↦ rw e refl | inr e ↦ rw e refl ]
   is_among_statuses (Xml file fault) status is = elim is [ inl e ↦ rw e refl | inr e ↦ rw e refl ]
 
   -- 5 comes only where a count rose
@@ -351,6 +362,7 @@ module _ (words : List (List ℕ)) (old mid new : Outside) (o : Outcome) (r : Ru
   five_rose Done e is five = absurd (grind (arith, is, five))
   five_rose Usage e is five = absurd (grind (arith, is, five))
   five_rose (Sheet reason) e is five = absurd (grind (arith, is, five))
+  five_rose (Run file code offset) e is five = absurd (grind (arith, is, five))
   five_rose (Xml file fault) e is five = absurd (grind (arith, is, five))
   five_rose (Host file f offset) (inr own) is five = absurd own
 
@@ -372,7 +384,9 @@ module _ (words : List (List ℕ)) (old mid new : Outside) (o : Outcome) (r : Ru
   greater_five Usage by (inr is) h = inl is
   greater_five (Sheet reason) by (inl is) h = absurd (none_greater by is.1 h)
   greater_five (Sheet reason) by (inr is) h = inl is
+  greater_five (Run file code offset) by (inl is) h = absurd (none_greater by is.1 h)
   greater_five (Xml file fault) by (inl is) h = absurd (none_greater by is.1 h)
+  greater_five (Run file code offset) by (inr is) h = inl is
   greater_five (Xml file fault) by (inr is) h = inl is
 
   pub is_status : IsStatus old new result
@@ -388,6 +402,7 @@ module _ (words : List (List ℕ)) (old mid new : Outside) (o : Outcome) (r : Ru
   two_none Memory refuses is two = absurd (grind (arith, is, two))
   two_none Done refuses is two = absurd (grind (arith, is, two))
   two_none (Sheet reason) refuses is two = absurd (grind (arith, is, two))
+  two_none (Run file code offset) refuses is two = absurd (grind (arith, is, two))
   two_none (Xml file fault) refuses is two = absurd (grind (arith, is, two))
   two_none (Host file f offset) refuses is two = absurd (grind (arith, is, two))
 
@@ -399,6 +414,7 @@ module _ (words : List (List ℕ)) (old mid new : Outside) (o : Outcome) (r : Ru
   none_two Memory refuses is memory none = absurd (memory is)
   none_two Done refuses is memory none = absurd (not_none refuses none)
   none_two (Sheet reason) refuses is memory none = absurd (not_none refuses none)
+  none_two (Run file code offset) refuses is memory none = absurd (not_none refuses none)
   none_two (Xml file fault) refuses is memory none = absurd (not_none refuses none)
   none_two (Host file f offset) refuses is memory none = absurd (not_none refuses none)
 

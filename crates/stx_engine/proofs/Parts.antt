@@ -18,8 +18,7 @@ use Rattle.result_writer.specs.declared.fault.ResultFault.{ResultFault}
 use Rattle.result_writer.specs.declared.fault.ResultFault.TheVariants.{BadChar, BadComment, BadName, BadPi}
 use Rattle.result_writer.specs.declared.tag.HeldTag.{HeldTag}
 use Rattle.stx_engine.specs.Nesting.{Turns}
-use Rattle.stx_engine.specs.Output.{PartsNest, has_prefixes}
-use Rattle.stx_engine.specs.Result.{head}
+use Rattle.stx_engine.specs.Output.{PartsNest, has_prefixes, head}
 use Rattle.stx_engine.proofs.Dressing.{IsWord, dressed-good, escaped_text, fields, name_is, open_tag-is}
 use Rattle.stx_engine.proofs.Leaves.{comment_effect, comment_whole, instruction_effect, instruction_whole}
 use Rattle.stx_engine.proofs.Markup.{AreFields, Field, empty_effect, empty_whole, end_effect, end_whole, is_inner, start_effect, start_whole, tag_of}

@@ -12,7 +12,8 @@ use Rattle.stx_host.specs.Outside.{Outside, Rose, document, place}
 use Rattle.stx_host.specs.declared.act.Act.{Act}
 use Rattle.stx_host.specs.declared.act.Doc.{Doc}
 use Rattle.stx_host.proofs.Stretches.{between_joins, main_reads_join, main_read-append, nothing_between}
-use Rattle.stx_engine.specs.Answer.{Answer, Run, answer, answered, asked, outcome_of, result_of, run_answer, run_on, sheet_answer, sheet_named, words_answer}
+use Rattle.stx_engine.specs.Passed as gives
+use Rattle.stx_engine.specs.Answer.{Answer, answer, answered, asked, outcome_of, result_of, run_answer, run_on, sheet_answer, sheet_named, words_answer}
 use Rattle.stx_engine.specs.Driving.{CountsBy, Drives, EndOnce, FailedAt, IsSettledAt, SameCounts, UnlessFailed, main_gots}
 use Rattle.stx_engine.specs.Line.{line_of, status_of}
 use Rattle.stx_engine.specs.Loading.{LoadActs, LoadAnswers, LoadCounts, ReadsUndecided, opens}
@@ -20,7 +21,7 @@ use Rattle.stx_engine.specs.Running.{Asks, FailedIn, IsAnswered, OpensNames, Ref
 use Rattle.stx_engine.specs.Sheets.{pass_of}
 use Rattle.stx_engine.specs.declared.outcome.HostFault.TheVariants as fault
 use Rattle.stx_engine.specs.declared.outcome.Outcome.{Outcome}
-use Rattle.stx_engine.specs.declared.outcome.Outcome.TheVariants.{Done, Usage, Sheet, Xml, Host, Memory}
+use Rattle.stx_engine.specs.declared.outcome.Outcome.TheVariants.{Done, Run, Usage, Sheet, Xml, Host, Memory}
 use Rattle.stx_engine.specs.declared.pass.Pass.{Pass}
 use Rattle.stx_engine.proofs.Driven.{main_gots-append, opens-append}
 use Rattle.stx_engine.proofs.Loading.{accepted_answer, accepted_asks, map_some, no_main_gots, no_main_reads, of_any, refused_answer, undecided-then}
@@ -208,6 +209,7 @@ module _ (words : List (List ℕ)) (name : List ℕ) (named : sheet_named words 
   ran-stopped Done acts answers did counts = absurd answers
   ran-stopped Usage acts answers did counts = absurd answers
   ran-stopped (Xml file fault) acts answers did counts = absurd answers
+  ran-stopped (Run file code offset) acts answers did counts = absurd answers
 
   -- What follows a sheet that is accepted
 
@@ -222,6 +224,7 @@ module _ (words : List (List ℕ)) (name : List ℕ) (named : sheet_named words 
   counts_after mid Done same by = record { doc = by.doc ∙ same.doc; main = by.main ∙ same.main; out = by.out ∙ same.out; note = by.note ∙ same.note }
   counts_after mid Usage same by = record { doc = by.doc ∙ same.doc; main = by.main ∙ same.main; out = by.out ∙ same.out; note = by.note ∙ same.note }
   counts_after mid (Sheet fault) same by = record { doc = by.doc ∙ same.doc; main = by.main ∙ same.main; out = by.out ∙ same.out; note = by.note ∙ same.note }
+  counts_after mid (Run file code offset) same by = record { doc = by.doc ∙ same.doc; main = by.main ∙ same.main; out = by.out ∙ same.out; note = by.note ∙ same.note }
   counts_after mid (Xml file fault) same by = record { doc = by.doc ∙ same.doc; main = by.main ∙ same.main; out = by.out ∙ same.out; note = by.note ∙ same.note }
 
   failed_after : (o : Outcome) (first acts : List Act) (out : List ℕ) → main_read first ≡ 0 → FailedAt o acts out → FailedIn words o (first ++ acts) out
@@ -232,6 +235,7 @@ module _ (words : List (List ℕ)) (name : List ℕ) (named : sheet_named words 
   failed_after Done first acts out none failed = tt
   failed_after Usage first acts out none failed = absurd failed
   failed_after (Sheet reason) first acts out none failed = absurd failed
+  failed_after (Run file code offset) first acts out none failed = tt
   failed_after (Xml file fault) first acts out none failed = tt
 
   -- words that name a sheet aren't refused
@@ -240,12 +244,13 @@ module _ (words : List (List ℕ)) (name : List ℕ) (named : sheet_named words 
   not_refused (Sheet reason) acts out failed = absurd failed
   not_refused Memory acts out failed = tt
   not_refused Done acts out failed = subst IsSome (sym named) refl
+  not_refused (Run file code offset) acts out failed = subst IsSome (sym named) refl
   not_refused (Xml file fault) acts out failed = subst IsSome (sym named) refl
   not_refused (Host file fault offset) acts out failed = subst IsSome (sym named) refl
 
   -- the document was read through the engine
   pub ran-driven : (mid : Outside) (pass : Pass) (o : Outcome) (acts : List Act) → LoadAnswers (option_map (λ docs. document docs name) old.documents) name (Ok pass)
-      → LoadActs old mid doc sheet (Ok pass) acts → LoadCounts old mid (Ok pass) → Drives standard_limits pass mid new o → Runs words old new o
+      → LoadActs old mid doc sheet (Ok pass) acts → LoadCounts old mid (Ok pass) → Drives standard_limits pass name mid new o → Runs words old new o
   ran-driven mid pass o acts answers did counts d = record {
     acts = acts ++ d.acts;
     out = d.out;
@@ -258,7 +263,7 @@ module _ (words : List (List ℕ)) (name : List ℕ) (named : sheet_named words 
     refuses = not_refused o d.acts d.out d.failed;
     told = λ docs main documents told.
         let run = run_on standard_limits pass main true in
-        let a : answer words docs main ≡ answered (outcome_of run.ending) (result_of run) (name ∷ []) = answer-is docs main ∙ accepted_answer old.documents docs name main pass documents answers in
+        let a : answer words docs main ≡ answered (outcome_of name run.ending) (result_of run) (name ∷ []) = answer-is docs main ∙ accepted_answer old.documents docs name main pass documents answers in
         let asks : asked words docs ≡ Some pass = ap (λ n. option_and_then pass_of (option_and_then (document docs) n)) named ∙ accepted_asks old.documents docs name pass documents answers in
         let main_is : mid.to_come 0 ≡ Some main = did.between.main ∙ ap (λ n. option_map (λ bytes. drop n bytes) (old.to_come 0)) did.main_read ∙ ap (option_map (λ bytes. drop 0 bytes)) told in
         let result = d.told main main_is in
@@ -290,20 +295,22 @@ module _ (words : List (List ℕ)) (name : List ℕ) (named : sheet_named words 
     unless Done P p = p
     unless Usage P p = p
     unless (Sheet reason) P p = p
+    unless (Run file code offset) P p = p
     unless (Xml file fault) P p = p
 
-    answered-is : (o : Outcome) (a : Answer) (run : Run) (out : List ℕ) → a ≡ answered (outcome_of run.ending) (result_of run) (name ∷ []) → (out ≡ result_of run) × (o ≡ outcome_of run.ending) → IsAnswered out o a
+    answered-is : (o : Outcome) (a : Answer) (run : gives.Run) (out : List ℕ) → a ≡ answered (outcome_of name run.ending) (result_of run) (name ∷ []) → (out ≡ result_of run) × (o ≡ outcome_of name run.ending) → IsAnswered out o a
     answered-is o a run out is ends = record {
       output = ends.0 ∙ sym (ap (λ x. x.out) is);
       line = ap line_of ends.1 ∙ sym (ap (λ x. x.note) is);
       code = ap status_of ends.1 ∙ sym (ap (λ x. x.status) is);
     }
 
-    answered-by : (o : Outcome) (a : Answer) (run : Run) (out : List ℕ) → a ≡ answered (outcome_of run.ending) (result_of run) (name ∷ [])
-        → UnlessFailed o ((out ≡ result_of run) × (o ≡ outcome_of run.ending)) → UnlessFailed o (IsAnswered out o a)
+    answered-by : (o : Outcome) (a : Answer) (run : gives.Run) (out : List ℕ) → a ≡ answered (outcome_of name run.ending) (result_of run) (name ∷ [])
+        → UnlessFailed o ((out ≡ result_of run) × (o ≡ outcome_of name run.ending)) → UnlessFailed o (IsAnswered out o a)
     answered-by (Host file fault offset) a run out is ends = tt
     answered-by Memory a run out is ends = tt
     answered-by Done a run out is ends = answered-is Done a run out is ends
     answered-by Usage a run out is ends = answered-is Usage a run out is ends
     answered-by (Sheet reason) a run out is ends = answered-is (Sheet reason) a run out is ends
+    answered-by (Run file code offset) a run out is ends = answered-is (Run file code offset) a run out is ends
     answered-by (Xml file fault) a run out is ends = answered-is (Xml file fault) a run out is ends

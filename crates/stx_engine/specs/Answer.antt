@@ -1,9 +1,11 @@
 -- What the program answers: words, documents and a main document in, and what it writes, its status and the names that it
 -- opens out. Nothing here knows in which pieces the bytes come.
-use Rattle.std.specs.Prelude.{ℕ, Bool, true, false, ◌==◌, if◌then◌else◌, List, [], ◌∷◌, ◌++◌, length, Option, Some, None, codes}
+use Rattle.std.specs.Prelude.{ℕ, Bool, true, false, ◌==◌, if◌then◌else◌, List, [], ◌∷◌, Option, Some, None, codes}
 use Rattle.std.specs.Option.{option_and_then}
 use Rattle.stx_base.specs.Course.{Answer as Came, Given, Over, Unknown}
 use Rattle.stx_base.specs.StandardLimits.{standard_limits}
+use Rattle.stx_base.specs.declared.fault.RunCode.{RunCode}
+use Rattle.stx_base.specs.declared.fault.RunCode.TheVariants as run
 use Rattle.stx_base.specs.declared.fault.SheetCode.{SheetCode}
 use Rattle.stx_base.specs.declared.fault.SheetCode.TheVariants as code
 use Rattle.stx_base.specs.declared.limits.Limits.{Limits}
@@ -11,30 +13,17 @@ use Rattle.stx_base.specs.declared.part.Part.{Part}
 use Rattle.stx_host.specs.Outside.{document}
 use Rattle.stx_host.specs.declared.act.Doc.{Doc}
 use Rattle.stx_engine.specs.declared.outcome.Outcome.{Outcome}
-use Rattle.stx_engine.specs.declared.outcome.Outcome.TheVariants.{Done, Usage, Sheet, Xml, Memory}
+use Rattle.stx_engine.specs.declared.outcome.Outcome.TheVariants.{Done, Run, Usage, Sheet, Xml, Memory}
 use Rattle.stx_engine.specs.declared.pass.Pass.{Pass}
-use Rattle.stx_engine.specs.Document.{Reading, reading, at_start, tree_of}
-use Rattle.stx_engine.specs.Lexed.{lexed}
 use Rattle.stx_engine.specs.Line.{line_of, status_of}
-use Rattle.stx_engine.specs.Meaning.{Said, Put, Ending, Complete, Unready, Here, outcome}
-use Rattle.stx_engine.specs.Result.{head, text}
+use Rattle.result_writer.specs.declared.fault.ResultFault.{ResultFault}
+use Rattle.result_writer.specs.declared.fault.ResultFault.TheVariants as fault
+use Rattle.xml_events.specs.Document.{doc}
+use Rattle.xml_events.specs.Tree.{Need, Bad}
+use Rattle.stx_engine.specs.Meaning.{Said, Put, Ending, Complete, Unready, Refused, Here, outcome}
+use Rattle.stx_engine.specs.Output.{output}
+use Rattle.stx_engine.specs.Passed.{Run as Gives}
 use Rattle.stx_engine.specs.Sheets.{pass_of}
-use Rattle.stx_engine.specs.Tree.{Need, Bad, Forest}
-
--- the lexemes of a document's bytes that make its tree
-abbrev pub read : Limits → List ℕ → (ended : Bool) → Reading
-read limits bytes ended =
-    let l = lexed limits bytes ended in
-    reading limits (length bytes) l.last at_start l.lexemes
-
--- the tree of a document's bytes (XML 1.0, 2.1); `ended` says that these are all its bytes
-abbrev pub doc : Limits → List ℕ → (ended : Bool) → Forest
-doc limits bytes ended = tree_of (read limits bytes ended)
-
--- what a run gives: the parts that it puts, and how it ends
-pub record Run : Type 0 where
-  pub parts : List Part
-  pub ending : Ending
 
 -- the parts that were put
 abbrev pub parts_put : List Said → List Part
@@ -42,18 +31,18 @@ parts_put [] = []
 parts_put (Put part ∷ said) = part ∷ parts_put said
 
 -- each run has an end, so that the last two don't come
-abbrev pub run_of : Came Here Said Ending → Run
+abbrev pub run_of : Came Here Said Ending → Gives
 run_of (Over said ending) = record { parts = parts_put said; ending = ending }
 run_of (Given said here) = record { parts = parts_put said; ending = Unready Need }
 run_of (Unknown said) = record { parts = parts_put said; ending = Unready Need }
 
--- a run on a document's bytes
-abbrev pub run_on : Limits → Pass → List ℕ → (ended : Bool) → Run
-run_on limits pass bytes ended = run_of (outcome pass (doc limits bytes ended))
+-- a run on a document's bytes, of which these are all, or where it isn't ended the first ones
+abbrev pub run_on : Limits → Pass → List ℕ → (ended : Bool) → Gives
+run_on limits pass bytes ended = run_of (outcome limits.elements pass (doc limits false bytes ended))
 
--- the bytes of a result, with what it begins with
-abbrev pub result_of : Run → List ℕ
-result_of run = head ++ text run.parts
+-- the bytes of a run's result
+abbrev pub result_of : Gives → List ℕ
+result_of run = output run.parts
 
 -- what is settled of the result once these first bytes of a document are read
 abbrev pub settled : Limits → Pass → List ℕ → List ℕ
@@ -69,12 +58,25 @@ pub record Answer : Type 0 where
 abbrev pub answered : Outcome → (out : List ℕ) → (opened : List (List ℕ)) → Answer
 answered o out opened = record { out = out; note = line_of o; status = status_of o; opened = opened }
 
--- the outcome of a run: faults are those of the main document, `-`. A document that has ended needs no more of it, so that
--- the last doesn't come
-abbrev pub outcome_of : Ending → Outcome
-outcome_of Complete = Done
-outcome_of (Unready (Bad fault)) = Xml (codes "-") fault
-outcome_of (Unready Need) = Memory
+-- what a run is told as that is stopped by a fault of its result
+abbrev pub code_of : ResultFault → RunCode
+code_of fault.BadName = run.BadName
+code_of fault.BadChar = run.BadChar
+code_of fault.BadComment = run.BadComment
+code_of fault.BadPi = run.BadPi
+code_of fault.LateAttribute = run.LateAttribute
+code_of fault.UnmatchedEnd = run.UnmatchedEnd
+code_of fault.WrongEnd = run.WrongEnd
+code_of fault.UnclosedResult = run.UnclosedResult
+code_of fault.ResultDepth = run.ResultDepth
+
+-- the outcome of a run: faults of the document are those of the main one, `-`, and faults of the result are told at the root of the
+-- sheet. A document that has ended needs no more of it, so that the last doesn't come
+abbrev pub outcome_of : (sheet : List ℕ) → Ending → Outcome
+outcome_of sheet Complete = Done
+outcome_of sheet (Refused fault) = Run sheet (code_of fault) 0
+outcome_of sheet (Unready (Bad fault)) = Xml (codes "-") fault
+outcome_of sheet (Unready Need) = Memory
 
 -- the word begins with `-`
 abbrev pub is_option : (word : List ℕ) → Bool
@@ -100,7 +102,7 @@ abbrev pub run_answer : (name : List ℕ) → Option Pass → (main : List ℕ) 
 run_answer name None main = refused name code.NotBuilt
 run_answer name (Some pass) main =
     let run = run_on standard_limits pass main true in
-    answered (outcome_of run.ending) (result_of run) (name ∷ [])
+    answered (outcome_of name run.ending) (result_of run) (name ∷ [])
 
 -- the same by the sheet's bytes, if there is one
 abbrev pub sheet_answer : (name : List ℕ) → Option (List ℕ) → (main : List ℕ) → Answer

@@ -12,7 +12,7 @@ use Rattle.stx_host.specs.declared.act.Lane.{Lane}
 use Rattle.stx_engine.specs.Answer.{outcome_of, result_of, run_on, settled}
 use Rattle.stx_engine.specs.Loading.{is_doc_read, opens}
 use Rattle.stx_engine.specs.Meaning.{Unready}
-use Rattle.stx_engine.specs.Tree.{Need}
+use Rattle.xml_events.specs.Tree.{Need}
 use Rattle.stx_engine.specs.declared.driver.Refused.{Refused}
 use Rattle.stx_engine.specs.declared.outcome.HostFault.{HostFault}
 use Rattle.stx_engine.specs.declared.outcome.HostFault.TheVariants as fault
@@ -79,10 +79,10 @@ UnlessFailed Memory P = Unit {0}
 UnlessFailed outcome P = P
 
 -- how a run ends that the host and memory let end: all of its result was written
-abbrev pub EndsAs : Limits → Pass → (main out : List ℕ) → Outcome → Type 0
-EndsAs limits pass main out outcome =
+abbrev pub EndsAs : Limits → Pass → (sheet main out : List ℕ) → Outcome → Type 0
+EndsAs limits pass sheet main out outcome =
     let run = run_on limits pass main true in
-    UnlessFailed outcome ((out ≡ result_of run) × (outcome ≡ outcome_of run.ending))
+    UnlessFailed outcome ((out ≡ result_of run) × (outcome ≡ outcome_of sheet run.ending))
 
 -- how many bytes each read of the main document gave, in order; none at its end
 abbrev pub main_gots : List Act → List ℕ
@@ -100,14 +100,14 @@ abbrev pub ReadsAll : (main : List ℕ) → List Act → (ended : Bool) → Outc
 ReadsAll main acts ended outcome = outcome ≡ Done → (ended ≡ true) × (main_read acts ≡ length main)
 
 -- what was written of a main document's result, at each read and in the end
-pub record WritesResult (limits : Limits) (pass : Pass) (main : List ℕ) (acts : List Act) (ended : Bool) (out : List ℕ) (outcome : Outcome) : Type 0 where
+pub record WritesResult (limits : Limits) (pass : Pass) (sheet main : List ℕ) (acts : List Act) (ended : Bool) (out : List ℕ) (outcome : Outcome) : Type 0 where
   pub reads : AtMainReads acts out [] (λ taken. IsSettledAt limits pass (take taken.main_read main) taken)
   pub prefix : Begins out (result_of (run_on limits pass main true))
-  pub ends : EndsAs limits pass main out outcome
+  pub ends : EndsAs limits pass sheet main out outcome
   pub all : ReadsAll main acts ended outcome
 
 -- what a run did with the main document and to `Out`, and how it ended
-pub record Drives (limits : Limits) (pass : Pass) (old new : Outside) (outcome : Outcome) : Type 0 where
+pub record Drives (limits : Limits) (pass : Pass) (sheet : List ℕ) (old new : Outside) (outcome : Outcome) : Type 0 where
   pub acts : List Act
   pub out : List ℕ
   pub between : Between old new acts out []
@@ -118,4 +118,4 @@ pub record Drives (limits : Limits) (pass : Pass) (old new : Outside) (outcome :
   pub ids : new.open_ids ≡ old.open_ids
   pub counts : CountsBy outcome old new
   pub failed : FailedAt outcome acts out
-  pub told : (main : List ℕ) → old.to_come 0 ≡ Some main → WritesResult limits pass main acts ended out outcome
+  pub told : (main : List ℕ) → old.to_come 0 ≡ Some main → WritesResult limits pass sheet main acts ended out outcome

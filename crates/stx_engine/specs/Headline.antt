@@ -61,7 +61,7 @@ OpensFirst docs names status acts =
 
 -- the statuses there are; 5 comes only where a count rose, and where one became greater the status is 5 or 7
 pub record IsStatus (old new : Outside) (status : ℕ) : Type 0 where
-  pub some : IsTrue (list_any (λ s. s == status) (0 ∷ 2 ∷ 3 ∷ 4 ∷ 5 ∷ 7 ∷ []))
+  pub some : IsTrue (list_any (λ s. s == status) (0 ∷ 1 ∷ 2 ∷ 3 ∷ 4 ∷ 5 ∷ 7 ∷ []))
   pub five : status ≡ 5 → SomeRose old new
   pub greater : SomeGreater old new → (status ≡ 5) ⊎ (status ≡ 7)
 

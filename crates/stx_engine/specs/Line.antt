@@ -1,6 +1,8 @@
 -- What is said of a run's outcome.
 use Rattle.std.specs.Prelude.{ℕ, List, [], ◌++◌, codes, encode_utf8_all}
 use Rattle.std.specs.Fmt.{decimal}
+use Rattle.stx_base.specs.declared.fault.RunCode.{RunCode}
+use Rattle.stx_base.specs.declared.fault.RunCode.TheVariants as run
 use Rattle.stx_base.specs.declared.fault.SheetCode.{SheetCode}
 use Rattle.stx_base.specs.declared.fault.SheetCode.TheVariants as code
 use Rattle.stx_base.specs.declared.fault.XmlKind.{XmlKind}
@@ -8,7 +10,7 @@ use Rattle.stx_base.specs.declared.fault.XmlKind.TheVariants as kind
 use Rattle.stx_engine.specs.declared.outcome.HostFault.{HostFault}
 use Rattle.stx_engine.specs.declared.outcome.HostFault.TheVariants.{Doc, Read, Write}
 use Rattle.stx_engine.specs.declared.outcome.Outcome.{Outcome}
-use Rattle.stx_engine.specs.declared.outcome.Outcome.TheVariants.{Done, Usage, Sheet, Xml, Host, Memory}
+use Rattle.stx_engine.specs.declared.outcome.Outcome.TheVariants.{Done, Run, Usage, Sheet, Xml, Host, Memory}
 
 -- the name of a sheet's fault
 abbrev pub sheet_code_name : SheetCode → List ℕ
@@ -31,6 +33,32 @@ sheet_code_name code.NoProcedure = codes "NoProcedure"
 sheet_code_name code.NoBuffer = codes "NoBuffer"
 sheet_code_name code.NoVariable = codes "NoVariable"
 sheet_code_name code.NotBuilt = codes "NotBuilt"
+
+-- the name of a run's fault
+abbrev pub run_code_name : RunCode → List ℕ
+run_code_name run.Overflow = codes "Overflow"
+run_code_name run.ZeroDivisor = codes "ZeroDivisor"
+run_code_name run.Fraction = codes "Fraction"
+run_code_name run.NotWhole = codes "NotWhole"
+run_code_name run.NotOne = codes "NotOne"
+run_code_name run.NotNode = codes "NotNode"
+run_code_name run.SequenceTooLong = codes "SequenceTooLong"
+run_code_name run.TextTooLong = codes "TextTooLong"
+run_code_name run.ChildrenTwice = codes "ChildrenTwice"
+run_code_name run.BufferBusy = codes "BufferBusy"
+run_code_name run.TooManySources = codes "TooManySources"
+run_code_name run.NoDocument = codes "NoDocument"
+run_code_name run.Instances = codes "Instances"
+run_code_name run.BadName = codes "BadName"
+run_code_name run.BadChar = codes "BadChar"
+run_code_name run.BadComment = codes "BadComment"
+run_code_name run.BadPi = codes "BadPi"
+run_code_name run.LateAttribute = codes "LateAttribute"
+run_code_name run.UnmatchedEnd = codes "UnmatchedEnd"
+run_code_name run.WrongEnd = codes "WrongEnd"
+run_code_name run.UnclosedResult = codes "UnclosedResult"
+run_code_name run.ResultDepth = codes "ResultDepth"
+run_code_name run.BufferFull = codes "BufferFull"
 
 -- the name of a document's fault
 abbrev pub xml_kind_name : XmlKind → List ℕ
@@ -58,7 +86,6 @@ xml_kind_name kind.TooDeep = codes "TooDeep"
 xml_kind_name kind.TextTooLong = codes "TextTooLong"
 xml_kind_name kind.Truncated = codes "Truncated"
 xml_kind_name kind.InputTooLong = codes "InputTooLong"
-xml_kind_name kind.NotBuilt = codes "NotBuilt"
 
 -- the name of a host's fault
 abbrev pub host_fault_name : HostFault → List ℕ
@@ -80,6 +107,7 @@ out_of_memory = codes "stx: out of memory\n"
 -- the line that says why a run was stopped; empty for a run that is done
 abbrev pub line_of : Outcome → List ℕ
 line_of Done = []
+line_of (Run file code offset) = fault_line (encode_utf8_all file) (run_code_name code) offset
 line_of Usage = usage
 line_of (Sheet fault) = fault_line (encode_utf8_all fault.file) (sheet_code_name fault.code) fault.offset
 line_of (Xml file fault) = fault_line (encode_utf8_all file) (xml_kind_name fault.kind) fault.offset
@@ -89,6 +117,7 @@ line_of Memory = out_of_memory
 -- the status that a program ends with
 abbrev pub status_of : Outcome → ℕ
 status_of Done = 0
+status_of (Run file code offset) = 1
 status_of Usage = 2
 status_of (Sheet fault) = 3
 status_of (Xml file fault) = 4

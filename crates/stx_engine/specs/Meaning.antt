@@ -1,34 +1,48 @@
 -- What a run does with a document's tree.
-use Rattle.std.specs.Prelude.{ℕ, ◌+◌, List, [], ◌∷◌, map, Option, Some, None}
-use Rattle.stx_base.specs.Course.{Course, Ret, Halt, Ask, and_then, says, Answer, value, run}
+use Rattle.std.specs.Prelude.{ℕ, ◌+◌, if◌then◌else◌, List, [], ◌∷◌, map, Option, Some, None}
+use Rattle.stx_base.specs.Course.{Course, Ret, Halt, Say, Ask, and_then, Answer, value, run}
 use Rattle.stx_base.specs.declared.name.Attr.{Attr}
+use Rattle.stx_base.specs.declared.name.Binding.{Binding}
+use Rattle.stx_base.specs.declared.name.Name.{Name}
 use Rattle.stx_base.specs.declared.part.Part.{Part}
 use Rattle.stx_base.specs.declared.part.Part.TheVariants as part
+use Rattle.result_writer.specs.Target.{Left, fault, is_closed, next, nothing}
+use Rattle.result_writer.specs.declared.fault.ResultFault.{ResultFault}
+use Rattle.result_writer.specs.declared.fault.ResultFault.TheVariants.{UnclosedResult}
+use Rattle.xml_events.specs.Tree.{Why, Mark, Fresh, Told, Begun, Leaf, Chars, Comment, Pi, Element, Forest, End, Cut, Single, Nested}
+use Rattle.stx_engine.specs.Scope.{scope_within}
 use Rattle.stx_engine.specs.declared.pass.Pass.{Pass}
 use Rattle.stx_engine.specs.declared.pass.Pass.TheVariants as pass
-use Rattle.stx_engine.specs.Tree.{Why, Mark, Fresh, Told, Begun, Leaf, Chars, Element, Forest, End, Cut, Single, Nested}
 
 -- what a run says: a part of the result
 pub data Said : Type 0 where
   Put : Part → Said
 
--- how a run ends: it is done, or it comes to a node that isn't ready
+-- how a run ends: it is done, it comes to a node that isn't ready, or the result refuses a part
 pub data Ending : Type 0 where
   Complete : Ending
   Unready : Why → Ending
+  Refused : ResultFault → Ending
 
--- what is left of the current node and after it: its children, or None once they are gone, and the siblings that remain
+-- what a run carries along: what the parts that were put leave of the result
+pub record State : Type 0 where
+  pub result : Left
+
+-- what is left of the current node and after it: its children, or None once they are gone, and the siblings that remain; and the
+-- state
 pub record Here : Type 0 where
   pub kids : Option Forest
   pub left : Forest
+  pub state : State
 
--- what asked for a list of nodes: the pass-through that is in force for it
+-- what asked for a list of nodes: the pass-through that is in force for it, and the bindings
 pub record Asked : Type 0 where
   pub pass : Pass
+  pub scope : List Binding
 
 -- what is done by recursion: a list of nodes
 pub data Job : Type 0 where
-  Nodes : Forest → Asked → Job
+  Nodes : Forest → Asked → State → Job
 
 abbrev pub Does : Type 0
 Does = Course Job Here Said Ending
@@ -38,71 +52,93 @@ abbrev pub when_ready : Mark → (kids : Forest) → Does → Does
 when_ready Told kids go = go
 when_ready Begun kids go = go
 when_ready Fresh (Cut why) go = Halt (Unready why)
-when_ready Fresh (End m) go = go
+when_ready Fresh (End m offset) go = go
 when_ready Fresh (Single m leaf next) go = go
 when_ready Fresh (Nested m element kids next) go = go
-
-abbrev pub puts : List Part → Does → Does
-puts parts = says (map Put parts)
 
 abbrev pub attribute_part : Attr → Part
 attribute_part a = part.Attribute a.name a.value
 
--- the parts of an element's start, and of its end, where elements are copied
-abbrev pub start_parts : Pass → Element → List Part
-start_parts pass.All e = part.Start e.name e.decls ∷ map attribute_part e.attrs
-start_parts pass.Chars e = []
-start_parts pass.None e = []
+-- the parts of an element's start, where these bindings are in force within it, and of its end, where elements are copied
+abbrev pub start_parts : Pass → (scope : List Binding) → Name → List Attr → List Part
+start_parts pass.All scope name attrs = part.Start name scope ∷ map attribute_part attrs
+start_parts pass.Chars scope name attrs = []
+start_parts pass.None scope name attrs = []
 
-abbrev pub end_parts : Pass → Element → List Part
-end_parts pass.All e = part.End e.name ∷ []
-end_parts pass.Chars e = []
-end_parts pass.None e = []
+abbrev pub end_parts : Pass → Name → List Part
+end_parts pass.All name = part.End name ∷ []
+end_parts pass.Chars name = []
+end_parts pass.None name = []
 
--- the part of a text, where texts are copied
-abbrev pub text_parts : Pass → List ℕ → List Part
-text_parts pass.All text = part.Chars text ∷ []
-text_parts pass.Chars text = part.Chars text ∷ []
-text_parts pass.None text = []
+-- the part of another node, where such nodes are copied
+abbrev pub leaf_parts : Pass → Leaf → List Part
+leaf_parts pass.All (Chars offset text) = part.Chars text ∷ []
+leaf_parts pass.All (Comment offset text) = part.Comment text ∷ []
+leaf_parts pass.All (Pi offset target text) = part.Pi target text ∷ []
+leaf_parts pass.Chars (Chars offset text) = part.Chars text ∷ []
+leaf_parts pass.Chars (Comment offset text) = []
+leaf_parts pass.Chars (Pi offset target text) = []
+leaf_parts pass.None leaf = []
 
 -- the siblings that remain
 abbrev pub siblings : Asked → Here → Does
-siblings asked a = Ask (Nodes a.left asked) Ret
+siblings asked a = Ask (Nodes a.left asked a.state) Ret
 
--- a leaf without a template: it is copied where the pass-through names it
-abbrev pub pass_leaf : Leaf → Asked → Here → Does
-pass_leaf (Chars text) asked a = puts (text_parts asked.pass text) (Ret a)
+-- the result as it is behind a part
+abbrev pub with_part : State → Part → State
+with_part s p = record s { result = next s.result p }
 
--- an element without a template: its children are processed, between its start and its end where these are copied
-abbrev pub pass_element : Element → Forest → Asked → Here → Does
-pass_element e kids asked a =
-    puts (start_parts asked.pass e)
-    (Ask (Nodes kids asked) (λ b. puts (end_parts asked.pass e) (Ret (record a { kids = None }))))
+-- a part is put, unless it has a fault
+abbrev pub unless_refused : Option ResultFault → Part → Does → Does
+unless_refused None p go = Say (Put p) go
+unless_refused (Some fault) p go = Halt (Refused fault)
 
--- a list of nodes: what remains of it
-abbrev pub nodes : Forest → Asked → Does
-nodes (End m) asked = Ret (record { kids = None; left = End Begun })
-nodes (Cut why) asked = Halt (Unready why)
-nodes (Single m leaf next) asked =
-    and_then (pass_leaf leaf asked (record { kids = None; left = next })) (siblings asked)
-nodes (Nested m e kids next) asked =
-    when_ready m kids (and_then (pass_element e kids asked (record { kids = Some kids; left = next })) (siblings asked))
+module _ (limit : ℕ) where
+  -- parts are put one after another, up to the first that the result refuses
+  abbrev pub puts : List Part → State → (State → Does) → Does
+  puts [] s go = go s
+  puts (p ∷ ps) s go = unless_refused (fault limit s.result p) p (puts ps (with_part s p) go)
 
--- what one call does
-abbrev pub code : Job → Does
-code (Nodes list asked) = nodes list asked
+  -- a node without children and without a template: it is copied where the pass-through names its kind
+  abbrev pub pass_leaf : Leaf → Asked → Here → Does
+  pass_leaf leaf asked a = puts (leaf_parts asked.pass leaf) a.state (λ s. Ret (record a { state = s }))
+
+  -- an element without a template: its children are processed, between its start and its end where these are copied
+  abbrev pub pass_element : Element → Forest → Asked → Here → Does
+  pass_element e kids asked a =
+      let within = record asked { scope = scope_within asked.scope e.decls } in
+      puts (start_parts asked.pass within.scope e.name e.attrs) a.state (λ s.
+      Ask (Nodes kids within s) (λ b.
+      puts (end_parts asked.pass e.name) b.state (λ s. Ret (record a { kids = None; state = s }))))
+
+  -- a list of nodes: what remains of it
+  abbrev pub nodes : Forest → Asked → State → Does
+  nodes (End m offset) asked s = Ret (record { kids = None; left = End Begun offset; state = s })
+  nodes (Cut why) asked s = Halt (Unready why)
+  nodes (Single m leaf next) asked s =
+      and_then (pass_leaf leaf asked (record { kids = None; left = next; state = s })) (siblings asked)
+  nodes (Nested m e kids next) asked s =
+      when_ready m kids (and_then (pass_element e kids asked (record { kids = Some kids; left = next; state = s })) (siblings asked))
+
+  -- what one call does
+  abbrev pub code : Job → Does
+  code (Nodes list asked s) = nodes list asked s
+
+-- a run is done only where no element of the result is open
+abbrev pub ending_of : Left → Ending
+ending_of l = if is_closed l.elements l.held then Complete else Refused UnclosedResult
 
 -- what a run does: the document node's children are processed
 abbrev pub meaning : Pass → Forest → Does
-meaning pass tree = Ask (Nodes tree (record { pass = pass })) (λ a. Halt Complete)
+meaning pass tree = Ask (Nodes tree (record { pass = pass; scope = [] }) (record { result = nothing })) (λ a. Halt (ending_of a.state.result))
 
 -- how much there is of a tree
 abbrev pub size : Forest → ℕ
-size (End m) = 1
+size (End m offset) = 1
 size (Cut why) = 1
 size (Single m leaf next) = size next + 1
 size (Nested m e kids next) = size kids + size next + 1
 
--- what a run says, and how it ends: calls are never nested deeper
-abbrev pub outcome : Pass → Forest → Answer Here Said Ending
-outcome pass tree = value (run code (size tree + 1)) (meaning pass tree)
+-- what a run says, and how it ends, where so many elements of the result may be open: calls are never nested deeper
+abbrev pub outcome : (limit : ℕ) → Pass → Forest → Answer Here Said Ending
+outcome limit pass tree = value (run (code limit) (size tree + 1)) (meaning pass tree)

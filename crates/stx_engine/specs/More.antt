@@ -1,137 +1,125 @@
 -- What a run still gives.
-use Rattle.std.specs.Prelude.{◌≡◌, ℕ, true, false, List, [], ◌∷◌, ◌++◌, reverse, Option, Some, None}
-use Rattle.stx_base.specs.declared.fault.XmlFault.{XmlFault}
-use Rattle.stx_base.specs.declared.limits.Limits.{Limits}
+use Rattle.std.specs.Prelude.{◌≡◌, ℕ, suc, List, [], ◌∷◌, ◌++◌, reverse, unwrap_or, Option, Some, None, Result, Ok, Err}
+use Rattle.stx_base.specs.Course.{Begins}
+use Rattle.stx_base.specs.declared.name.Attr.{Attr}
+use Rattle.stx_base.specs.declared.name.Binding.{Binding}
+use Rattle.stx_base.specs.declared.name.Name.{Name}
 use Rattle.stx_base.specs.declared.part.Part.{Part}
+use Rattle.result_writer.specs.Target.{Left, Target, fault, next, settles}
+use Rattle.result_writer.specs.declared.fault.ResultFault.{ResultFault}
+use Rattle.result_writer.specs.declared.fault.WriteStop.{WriteStop}
+use Rattle.result_writer.specs.declared.fault.WriteStop.TheVariants.{Fault, Memory}
+use Rattle.xml_events.specs.Document.{inner, outer}
+use Rattle.xml_events.specs.Telling.{followed}
+use Rattle.xml_events.specs.Tree.{Future, Why}
+use Rattle.xml_events.specs.declared.event.Event.{Event}
+use Rattle.xml_events.specs.declared.event.Event.TheVariants as event
+use Rattle.stx_engine.specs.Meaning.{Ending, Complete, Refused, end_parts, start_parts}
+use Rattle.stx_engine.specs.Passed.{Passed, ending_by, passed, put, then_put}
+use Rattle.stx_engine.specs.Scope.{scope_within}
+use Rattle.stx_engine.specs.declared.copier.Copier.{Copier}
+use Rattle.stx_engine.specs.declared.copier.Open.{Open}
+use Rattle.stx_engine.specs.declared.copier.Turn.{Turn}
+use Rattle.stx_engine.specs.declared.copier.Turn.TheVariants.{More, Over}
 use Rattle.stx_engine.specs.declared.pass.Pass.{Pass}
-use Rattle.stx_engine.specs.declared.walk.Tag.{Tag}
-use Rattle.stx_engine.specs.declared.walk.Walk.{Walk}
-use Rattle.stx_engine.specs.declared.writer.Writer.{Writer}
-use Rattle.xml_tokens.specs.declared.lexeme.Body.{Body}
-use Rattle.xml_tokens.specs.declared.lexeme.Lexeme.{Lexeme}
-use Rattle.stx_engine.specs.Document.{Before, Reading, Future, inner, outer, future, text_before, element_of, before_next, fault_of, with_first}
-use Rattle.stx_engine.specs.Meaning.{end_parts}
-use Rattle.stx_engine.specs.Passed.{Passed, passed, put, then_put}
-use Rattle.stx_engine.specs.Result.{once_settled, text_from}
-use Rattle.stx_engine.specs.Tree.{Why, Fresh, Forest, End, Cut, Single, Nested}
 
--- the bytes of parts after a start tag that is held back, if one is
-abbrev pub text_after : (held : List ℕ) → List Part → List ℕ
-text_after [] ps = text_from false ps
-text_after (b ∷ bs) ps = once_settled ps (b ∷ bs) ++ text_from true ps
-
--- what a writer has settled, and then the bytes of parts
-abbrev pub gives : Writer → List Part → List ℕ
-gives w ps = w.settled.items ++ text_after w.held.items ps
-
--- parts were put
-abbrev pub PutsParts : (old new : Writer) → List Part → Type 0
-PutsParts old new parts = (ps : List Part) → gives new ps ≡ gives old (parts ++ ps)
-
--- a list that is neither cut nor begins with a text
-abbrev pub Follows : Forest → Type 0
-Follows (End mark) = Unit {0}
-Follows (Cut why) = ⊥
-Follows (Single mark leaf next) = ⊥
-Follows (Nested mark element kids next) = Unit {0}
-
--- the names of the open elements, the innermost first
-abbrev pub with_held : Option Tag → List (List ℕ) → List (List ℕ)
-with_held None names = names
-with_held (Some tag) names = tag.name ∷ names
-
-abbrev pub names_of : Walk → List (List ℕ)
-names_of w = with_held w.held (reverse w.begun)
-
--- where a walk stands before a lexeme
-abbrev pub before_of : Walk → Before
-before_of w = record { names = names_of w; rooted = w.rooted; run = w.run }
-
--- a start tag that isn't begun, and a text, before a future
-abbrev pub with_front : Option Why → Option Tag → (run : List ℕ) → Future → Future
-with_front why None run f = text_before run (inner why f) ∷ outer f
-with_front why (Some tag) run f =
-    Nested Fresh (element_of tag.name tag.attrs) (text_before run (inner why f)) (inner why (outer f)) ∷ outer (outer f)
-
--- what the open lists still put on a future, from the innermost outwards: each the nodes still to come, and then the end of
--- its element
-abbrev pub rest : Pass → Option Why → (begun : List (List ℕ)) → Future → Passed
-rest pass why [] f = passed pass (inner why f)
-rest pass why (name ∷ names) f =
-    then_put (passed pass (inner why f)) (put (end_parts pass (element_of name [])) (rest pass why names (outer f)))
-
--- what a walk still puts on a future
-abbrev pub still : Walk → Option Why → Future → Passed
-still w why f = rest w.copier.pass why (reverse w.begun) (with_front why w.held w.run f)
-
--- the bytes that are settled and still come, and why nothing follows them, if so
+-- the bytes that still come, and how the run ends behind them
 pub record Given : Type 0 where
   pub bytes : List ℕ
-  pub stop : Option Why
+  pub ending : Ending
 
-abbrev pub given : Walk → Option Why → Future → Given
-given w why f =
-    let p = still w why f in record { bytes = gives w.copier.writer p.parts; stop = p.stop }
+-- these bytes, and then what is given
+abbrev pub ahead : List ℕ → Given → Given
+ahead bytes g = record g { bytes = bytes ++ g.bytes }
 
--- what a walk still gives on what is read of a document
-abbrev pub given_on : Walk → Reading → Given
-given_on w r = given w r.why (future r.why r.bodies)
+abbrev pub unless_refused : Option ResultFault → Given → Given
+unless_refused None g = g
+unless_refused (Some fault) g = record { bytes = []; ending = Refused fault }
 
--- a walk that took nothing yet
-pub record StartsAs (limits : Limits) (pass : Pass) (w : Walk) : Type 0 where
-  pub limits_are : w.limits ≡ limits
-  pub pass_is : w.copier.pass ≡ pass
-  pub rooted : w.rooted ≡ false
-  pub begun : w.begun ≡ []
-  pub held : w.held ≡ None
-  pub run : w.run ≡ []
-  pub tag : w.copier.writer.held.items ≡ []
-  pub settled : w.copier.writer.settled.items ≡ []
+-- what a result still gives where these parts come, behind which the run stops or is over
+abbrev pub given : (limit : ℕ) → Left → List Part → Option Why → Given
+given limit l [] stop = record { bytes = []; ending = ending_by l stop }
+given limit l (p ∷ ps) stop = unless_refused (fault limit l p) (ahead (settles l p) (given limit (next l p) ps stop))
 
--- the settled bytes were handed out, and all else is as it was
-pub record HandsOut (old new : Walk) : Type 0 where
-  pub before : before_of new ≡ before_of old
-  pub limits : new.limits ≡ old.limits
-  pub settled : new.copier.writer.settled.items ≡ []
-  pub law : (why : Option Why) (f : Future)
-      → given old why f ≡ record (given new why f) { bytes = old.copier.writer.settled.items ++ (given new why f).bytes }
+-- what the open lists still put on a future, from the innermost outwards: each the nodes still to come, and then the end of its element;
+-- these bindings are in force in the innermost
+abbrev pub rest : Pass → (scope : List Binding) → List Open → Future → Passed
+rest pass scope [] f = passed pass scope (inner f)
+rest pass scope (o ∷ os) f =
+    then_put (passed pass scope (inner f)) (put (end_parts pass o.name) (rest pass (unwrap_or o.outer scope) os (outer f)))
 
--- an element or an end follows: the held start tag was begun
-pub record IsBegun (old new : Walk) : Type 0 where
-  pub held : new.held ≡ None
-  pub run : new.run ≡ old.run
-  pub names : reverse new.begun ≡ names_of old
-  pub rooted : new.rooted ≡ old.rooted
-  pub limits : new.limits ≡ old.limits
-  pub law : (why : Option Why) (f : Future) → Follows (inner why f) → given old why f ≡ given new why f
+-- what a copier still puts on a future
+abbrev pub still : Copier → Future → Passed
+still c f = rest c.pass c.scope (reverse c.elements) f
 
--- the text was written
-pub record IsWritten (old new : Walk) : Type 0 where
-  pub held : new.held ≡ None
-  pub run : new.run ≡ []
-  pub begun : new.begun ≡ old.begun
-  pub rooted : new.rooted ≡ old.rooted
-  pub limits : new.limits ≡ old.limits
-  pub law : (why : Option Why) (f : Future) → Follows (inner why f) → given old why f ≡ given new why f
+-- what a result still gives of what is to be put
+abbrev pub given_of : Target → Passed → Given
+given_of t p = given t.limit t.left p.parts p.stop
 
--- both
-pub record IsSettled (old new : Walk) : Type 0 where
-  pub held : new.held ≡ None
-  pub run : new.run ≡ []
-  pub names : reverse new.begun ≡ names_of old
-  pub rooted : new.rooted ≡ old.rooted
-  pub limits : new.limits ≡ old.limits
-  pub law : (why : Option Why) (f : Future) → Follows (inner why f) → given old why f ≡ given new why f
+abbrev pub given_on : Copier → Future → Given
+given_on c f = given_of c.writer (still c f)
 
--- a lexeme without a fault was taken: what the walk still gives on what is read after it is what it gave on the lexeme and
--- that
-pub record Takes (body : Body) (old new : Walk) : Type 0 where
-  pub before : before_of new ≡ before_next (before_of old) body
-  pub limits : new.limits ≡ old.limits
-  pub law : (r : Reading) → given_on old (with_first (before_of old) body r) ≡ given_on new r
+-- Parts were put one after another: what was appended, and then what the result still gives, is what it had to give. Or it refused one
+-- of them, or memory was wanting, and then what was appended is a beginning of that.
+abbrev pub PutsAll : (was : List Part → Option Why → Given) → (new : Target) → (appended : List ℕ) → Result (Unit {0}) WriteStop → Type 0
+PutsAll was new appended (Ok done) = (ps : List Part) (stop : Option Why) → was ps stop ≡ ahead appended (given new.limit new.left ps stop)
+PutsAll was new appended (Err (Fault fault)) = (ps : List Part) (stop : Option Why) → was ps stop ≡ record { bytes = appended; ending = Refused fault }
+PutsAll was new appended (Err Memory) = (ps : List Part) (stop : Option Why) → Begins appended (was ps stop).bytes
 
--- a lexeme is taken where it has no fault, and else its fault is the answer, and nothing changes
-abbrev pub Taken : Walk → Lexeme → Walk → Option XmlFault → Type 0
-Taken old l new None = (fault_of old.limits (before_of old) l.body ≡ None) × Takes l.body old new
-Taken old l new (Some fault) =
-    (fault_of old.limits (before_of old) l.body ≡ Some fault.kind) × (fault.offset ≡ l.offset) × (new ≡ old)
+-- what a result gives where these parts come before others
+abbrev pub given_after : Target → List Part → List Part → Option Why → Given
+given_after t parts ps stop = given t.limit t.left (parts ++ ps) stop
+
+abbrev pub Puts : (old new : Target) → List Part → (before now : List ℕ) → Result (Unit {0}) WriteStop → Type 0
+Puts old new parts before now result = (appended : List ℕ) × (now ≡ before ++ appended) × PutsAll (given_after old parts) new appended result
+
+-- An event was taken: what was appended, and then what the copier still gives, is what it had to give on the event. Or the run is over,
+-- a part was refused, or memory was wanting.
+abbrev pub Took : (was : Future → Given) → (new : Copier) → (appended : List ℕ) → Result Turn WriteStop → Type 0
+Took was new appended (Ok More) = (f : Future) → was f ≡ ahead appended (given_on new f)
+Took was new appended (Ok Over) = (f : Future) → was f ≡ record { bytes = appended; ending = Complete }
+Took was new appended (Err (Fault fault)) = (f : Future) → was f ≡ record { bytes = appended; ending = Refused fault }
+Took was new appended (Err Memory) = (f : Future) → Begins appended (was f).bytes
+
+abbrev pub Takes : (was : Future → Given) → (new : Copier) → (before now : List ℕ) → Result Turn WriteStop → Type 0
+Takes was new before now result = (appended : List ℕ) × (now ≡ before ++ appended) × Took was new appended result
+
+-- What a copier has to give on an event, and then a future.
+
+abbrev pub given_by : Copier → Event → Future → Given
+given_by c e f = given_on c (followed e f)
+
+-- where the event is a leaf's, of which these parts are put
+abbrev pub leaf_ahead : Copier → List Part → Future → Given
+leaf_ahead c parts f = given_of c.writer (put parts (still c f))
+
+-- where it is the start of this element, in which these bindings are in force already
+abbrev pub begin_ahead : Copier → Open → List Attr → Future → Given
+begin_ahead c o attrs f =
+    given_of c.writer (put (start_parts c.pass c.scope o.name attrs) (rest c.pass c.scope (o ∷ reverse c.elements) f))
+
+-- where it is the start of an element
+abbrev pub start_ahead : Copier → Name → List Attr → (decls : List Binding) → Future → Given
+start_ahead c name attrs decls f =
+    let within = scope_within c.scope decls in
+    given_of c.writer
+    (put (start_parts c.pass within name attrs) (rest c.pass within (record { name = name; outer = Some c.scope } ∷ reverse c.elements) f))
+
+-- where it is the end of the innermost list: the document's, if no element is open
+abbrev pub ended : Pass → (scope : List Binding) → List Open → Future → Passed
+ended pass scope [] f = record { parts = []; stop = None }
+ended pass scope (o ∷ os) f = put (end_parts pass o.name) (rest pass (unwrap_or o.outer scope) os f)
+
+-- where this element ends, which isn't among the open ones any more
+abbrev pub close_ahead : Copier → Open → Future → Given
+close_ahead c o f = given_of c.writer (put (end_parts c.pass o.name) (rest c.pass (unwrap_or o.outer c.scope) (reverse c.elements) f))
+
+abbrev pub end_ahead : Copier → Future → Given
+end_ahead c f = given_of c.writer (ended c.pass c.scope (reverse c.elements) f)
+
+-- how many elements are open behind an event that didn't end the document
+abbrev pub Opened : Event → (old new : ℕ) → Type 0
+Opened (event.Start offset name attrs decls first) old new = new ≡ suc old
+Opened (event.End offset) old new = old ≡ suc new
+Opened (event.DocumentEnd offset) old new = old ≡ suc new
+Opened other old new = new ≡ old

@@ -1,5 +1,5 @@
 -- The bytes of a whole result.
-use Rattle.std.specs.Prelude.{◌≡◌, ℕ, Bool, true, List, ◌++◌, None}
+use Rattle.std.specs.Prelude.{◌≡◌, ℕ, Bool, true, List, ◌++◌, None, codes}
 use Rattle.std.specs.List.{list_all}
 use Rattle.stx_base.specs.Course.{Begins}
 use Rattle.stx_base.specs.declared.part.Part.{Part}
@@ -7,9 +7,12 @@ use Rattle.stx_base.specs.declared.part.Part.TheVariants as part
 use Rattle.result_writer.specs.Allowed.{is_prefix}
 use Rattle.result_writer.specs.Target.{first_fault, nothing, text}
 use Rattle.stx_engine.specs.Nesting.{EndsHaveStarts}
-use Rattle.stx_engine.specs.Result.{head}
 
--- an XML declaration and a line feed, and then the parts
+-- what a result begins with
+abbrev pub head : List ℕ
+head = codes "<?xml version=\"1.0\" encoding=\"UTF-8\"?>\n"
+
+-- and then its parts
 abbrev pub output : List Part → List ℕ
 output ps = head ++ text ps
 

@@ -13,6 +13,7 @@ ghost use Rattle.stx_engine.specs.Words.{characters};
 ghost use Rattle.stx_engine.specs.declared.pass.Pass.{Pass};
 
 use crate::engine::{Engine, Piece, Pumped};
+use crate::law;
 use crate::line::{OUT_OF_MEMORY, line};
 use crate::outcome::{HostFault, Outcome};
 use crate::sheet::{PIECE, load_sheet};
@@ -28,7 +29,7 @@ const HOST_FAILED: u8 = 5;
 const MEMORY_WANTING: u8 = 7;
 
 /// Does all that the program does with the words after its name, and answers the status that it ends with: 0 where the
-/// document was read to its end and all was written, 2 where the words are refused, 3 where the sheet is, 4 where the
+/// document was read to its end and all was written, 1 where the result refuses a part, 2 where the words are refused, 3 where the sheet is, 4 where the
 /// document has a fault, 5 where the host failed, 7 where memory was wanting. What stopped the run stands in one line
 /// on the lane `Note`.
 pub fn transform<H: Host>(alloc: Global, words: &[String], host: &mut H) -> u8
@@ -53,6 +54,7 @@ pub fn transform<H: Host>(alloc: Global, words: &[String], host: &mut H) -> u8
     ensures words { RefusesUnnamed (H.outside host.old) (H.outside host.new) (characters words.now) result }
     ensures ids { (H.outside host.new).open_ids ≡ (H.outside host.old).open_ids }
 {
+    law::documents();
     let outcome = run(alloc, words, host);
     match line(alloc, &outcome) {
         Ok(line) => report(line.as_str(), outcome.status(), host),
@@ -79,17 +81,21 @@ fn run<H: Host>(alloc: Global, words: &[String], host: &mut H) -> Outcome
         Err(WordsFault::Memory) => return Outcome::Memory,
     };
     match load_sheet(alloc, host, &name) {
-        Ok(pass) => drive(alloc, Engine::new(alloc, pass, Limits::standard()), host),
+        Ok(pass) => drive(
+            alloc,
+            Engine::new(alloc, name, pass, Limits::standard()),
+            host,
+        ),
         Err(outcome) => outcome,
     }
 }
 
 // Reads the main document, hands it to the engine, and writes what is settled before each read.
 fn drive<H: Host>(alloc: Global, engine: Engine, host: &mut H) -> Outcome
-    requires goes_on { GoesOn engine.lexer }
+    requires goes_on { GoesOn engine.reader.lexer }
     requires waits { IsWaiting engine }
-    requires input { engine.lexer.limits.input ≤ 2 ^ 50 }
-    ensures { (limits : Limits) (pass : Pass) → Means limits pass engine → Drives limits pass (H.outside host.old) (H.outside host.new) result }
+    requires input { engine.reader.lexer.limits.input ≤ 2 ^ 50 }
+    ensures { (limits : Limits) (pass : Pass) → Means limits pass engine → Drives limits pass engine.sheet (H.outside host.old) (H.outside host.new) result }
 {
     let mut engine = engine;
     let mut settled = Vec::new(alloc);

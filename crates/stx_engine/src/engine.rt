@@ -1,15 +1,20 @@
-ghost use Rattle.std.specs.Prelude.{◌≡◌, ◌<◌, ◌^◌, IfOk, OnErr, None, Ok};
-ghost use Rattle.xml_tokens.specs.Reader.{begun, fed};
-ghost use Rattle.stx_engine.specs.Engine.{ended_reading, Expects, GoesOn, IsReady, IsWaiting, Means, Pumps, ReadsOn, Wants, more, more_of};
+ghost use Rattle.std.specs.Prelude.{◌≡◌, ◌<◌, None, Some, false, true};
+ghost use Rattle.xml_tokens.specs.Reader.{fed};
+ghost use Rattle.xml_events.specs.Source.{events_left, source};
+ghost use Rattle.stx_engine.specs.Answer.{code_of};
+ghost use Rattle.stx_engine.specs.Engine.{Expects, FailsBy, GoesOn, IsEnd, IsGoing, IsWaiting, Means, Pumps, Reads, Wants, more, more_of};
 ghost use Rattle.stx_engine.specs.declared.engine.Pumped.TheVariants as pumped;
 ghost use Rattle.stx_engine.specs.declared.engine.Reading.TheVariants as reading;
+ghost use Rattle.stx_engine.specs.declared.outcome.Outcome.TheVariants as outcome;
 
+use crate::copier::{Copier, Turn};
 use crate::outcome::Outcome;
 use crate::pass::Pass;
-use crate::walk::Walk;
+use result_writer::{ResultFault, WriteStop};
 use std::alloc::Global;
-use stx_base::{Limits, Memory, Text, XmlFault, XmlKind};
-use xml_tokens::{Lexer, Step};
+use std::mem;
+use stx_base::{Limits, Memory, RunCode, Text, XmlFault};
+use xml_events::{EventReader, Pull};
 
 /// What a result begins with.
 const HEAD: &[u8] = b"<?xml version=\"1.0\" encoding=\"UTF-8\"?>\n";
@@ -44,28 +49,36 @@ enum Reading {
     /// It was read to its end.
     Complete,
     Faulty(XmlFault),
+    /// The result refuses a part.
+    Refused(ResultFault),
+    /// Memory is wanting.
+    Lacks,
 }
 
 /// A run as a pure step over pieces of the main document.
 #[derive(Debug, Drop)]
 pub struct Engine {
     alloc: Global,
-    lexer: Lexer,
-    walk: Walk,
+    /// The sheet's name.
+    sheet: Text,
+    reader: EventReader,
+    copier: Copier,
     outcome: Option<Outcome>,
 }
 
 impl Engine {
     /// What it gives from its start on is the meaning of the document.
-    pub fn new(alloc: Global, pass: Pass, limits: Limits) -> Engine
-        ensures lexer { result.lexer ≡ begun limits }
-        ensures waits { limits.input < 2 ^ 64 → IsWaiting result }
+    pub fn new(alloc: Global, sheet: Text, pass: Pass, limits: Limits) -> Engine
+        ensures reader { result.reader ≡ source limits false }
+        ensures sheet { result.sheet ≡ sheet }
+        ensures waits { IsWaiting result }
         ensures meaning { Means limits pass result }
     {
         Engine {
             alloc,
-            lexer: Lexer::new(alloc, limits),
-            walk: Walk::new(alloc, limits, pass),
+            sheet,
+            reader: EventReader::new(alloc, limits, false),
+            copier: Copier::new(alloc, limits.elements, pass),
             outcome: None,
         }
     }
@@ -82,107 +95,148 @@ impl Engine {
     /// what was to come of the piece and all that follows it. Where memory is wanting what was appended is a beginning of
     /// that.
     pub fn pump(&mut self, piece: Piece<'_>, out: &mut Vec<u8>) -> Pumped
-        requires expects { Expects self.old.lexer piece }
+        requires expects { Expects self.old.reader.lexer piece }
         requires waits { IsWaiting self.old }
-        ensures pumps { Pumps (more_of self.old piece.entry) self.new out.old.items out.new.items result }
-        ensures wants { result ≡ pumped.Main → Wants piece.entry self.old.lexer self.new.lexer }
+        ensures pumps { Pumps (more_of self.old piece.entry) self.old.sheet self.new out.old.items out.new.items result }
+        ensures wants { result ≡ pumped.Main → Wants piece.entry self.old.reader.lexer self.new.reader.lexer }
+        ensures whole { result ≡ pumped.Done → IsEnd piece.entry }
+        ensures sheet { result ≡ pumped.Main → self.new.sheet ≡ self.old.sheet }
     {
-        match self.step(piece, out) {
-            Ok(pumped) => pumped,
-            Err(Memory) => {
-                self.outcome = Some(Outcome::Memory);
-                Pumped::Stopped
+        match piece {
+            Piece::Start => match out.extend_from_slice(HEAD) {
+                Ok(()) => Pumped::Main,
+                Err(_) => self.lack(),
+            },
+            Piece::Bytes(bytes) => match self.reader.feed(bytes) {
+                Ok(()) => self.go_on(out),
+                Err(Memory) => self.lack(),
+            },
+            Piece::End => {
+                self.reader.finish();
+                self.go_on(out)
             }
         }
     }
 
-    fn step(&mut self, piece: Piece<'_>, out: &mut Vec<u8>) -> Result<Pumped, Memory>
-        requires expects { Expects self.old.lexer piece }
-        requires waits { IsWaiting self.old }
-        ensures pumps { IfOk result (Pumps (more_of self.old piece.entry) self.new out.old.items out.new.items) }
-        ensures err { OnErr result (out.new.items ≡ out.old.items) }
-        ensures wants { result ≡ Ok pumped.Main → Wants piece.entry self.old.lexer self.new.lexer }
+    // Memory is wanting.
+    fn lack(&mut self) -> Pumped
+        ensures answer { result ≡ pumped.Stopped }
+        ensures outcome { self.new ≡ record self.old { outcome = Some outcome.Memory } }
     {
-        match piece {
-            Piece::Start => {
-                out.extend_from_slice(HEAD)?;
-                Ok(Pumped::Main)
-            }
-            Piece::Bytes(bytes) => {
-                self.lexer.feed(bytes)?;
-                self.go_on(out)
-            }
-            Piece::End => {
-                self.lexer.finish();
-                self.go_on(out)
-            }
-        }
+        self.outcome = Some(Outcome::Memory);
+        Pumped::Stopped
     }
 
     // Takes what was handed in, and appends all bytes that are settled.
-    fn go_on(&mut self, out: &mut Vec<u8>) -> Result<Pumped, Memory>
-        requires { IsReady self.old.walk self.old.lexer }
-        ensures pumps { IfOk result (Pumps (more self.old) self.new out.old.items out.new.items) }
-        ensures err { OnErr result (out.new.items ≡ out.old.items) }
-        ensures wants { result ≡ Ok pumped.Main → GoesOn self.new.lexer }
-        ensures ended { self.new.lexer.ended ≡ self.old.lexer.ended }
-        ensures fed { fed self.new.lexer ≡ fed self.old.lexer }
-        ensures limits { self.new.lexer.limits ≡ self.old.lexer.limits }
+    fn go_on(&mut self, out: &mut Vec<u8>) -> Pumped
+        requires { IsGoing self.old }
+        ensures pumps { Pumps (more self.old) self.old.sheet self.new out.old.items out.new.items result }
+        ensures wants { result ≡ pumped.Main → GoesOn self.new.reader.lexer }
+        ensures whole { result ≡ pumped.Done → self.old.reader.lexer.ended ≡ true }
+        ensures ended { self.new.reader.lexer.ended ≡ self.old.reader.lexer.ended }
+        ensures fed { fed self.new.reader.lexer ≡ fed self.old.reader.lexer }
+        ensures limits { self.new.reader.lexer.limits ≡ self.old.reader.lexer.limits }
+        ensures sheet { result ≡ pumped.Main → self.new.sheet ≡ self.old.sheet }
     {
-        match self.read_on()? {
-            Reading::Wants => {
-                self.walk.hand_out(out)?;
-                Ok(Pumped::Main)
-            }
+        match self.read_on(out) {
+            Reading::Wants => Pumped::Main,
             Reading::Complete => {
-                self.walk.hand_out(out)?;
                 self.outcome = Some(Outcome::Done);
-                Ok(Pumped::Done)
+                Pumped::Done
             }
-            Reading::Faulty(fault) => {
-                let file = Text::of(self.alloc, "-")?;
-                self.walk.hand_out(out)?;
-                self.outcome = Some(Outcome::Xml { file, fault });
-                Ok(Pumped::Stopped)
-            }
+            Reading::Faulty(fault) => self.fail(fault),
+            Reading::Refused(fault) => self.refuse(fault),
+            Reading::Lacks => self.lack(),
         }
     }
 
-    // Takes all lexemes that are complete.
-    fn read_on(&mut self) -> Result<Reading, Memory>
-        requires { IsReady self.old.walk self.old.lexer }
-        ensures going { IfOk result (ReadsOn self.old.walk self.new.walk self.old.lexer self.new.lexer) }
-        ensures wants { result ≡ Ok reading.Wants → GoesOn self.new.lexer }
-        ensures ended { self.new.lexer.ended ≡ self.old.lexer.ended }
-        ensures fed { fed self.new.lexer ≡ fed self.old.lexer }
-        ensures limits { self.new.lexer.limits ≡ self.old.lexer.limits }
+    // The main document has a fault.
+    fn fail(&mut self, fault: XmlFault) -> Pumped
+        ensures answer { result ≡ pumped.Stopped }
+        ensures outcome { FailsBy fault self.new.outcome }
+        ensures others { self.new ≡ record self.old { outcome = self.new.outcome } }
+    {
+        match Text::of(self.alloc, "-") {
+            Ok(file) => {
+                self.outcome = Some(Outcome::Xml { file, fault });
+                Pumped::Stopped
+            }
+            Err(Memory) => self.lack(),
+        }
+    }
+
+    // The result has a fault, which is told at the root of the sheet.
+    fn refuse(&mut self, fault: ResultFault) -> Pumped
+        ensures answer { result ≡ pumped.Stopped }
+        ensures outcome { self.new.outcome ≡ Some (outcome.Run self.old.sheet (code_of fault) 0) }
+        ensures reader { self.new.reader ≡ self.old.reader }
+    {
+        let file = mem::replace(&mut self.sheet, Text::new(self.alloc));
+        self.outcome = Some(Outcome::Run {
+            file,
+            code: code_of(fault),
+            offset: 0,
+        });
+        Pumped::Stopped
+    }
+
+    // Takes all nodes that are ready.
+    fn read_on(&mut self, out: &mut Vec<u8>) -> Reading
+        requires { IsGoing self.old }
+        ensures reads { Reads (more self.old) self.new out.old.items out.new.items (Some result) }
+        ensures wants { result ≡ reading.Wants → GoesOn self.new.reader.lexer }
+        ensures whole { result ≡ reading.Complete → self.old.reader.lexer.ended ≡ true }
+        ensures ended { self.new.reader.lexer.ended ≡ self.old.reader.lexer.ended }
+        ensures fed { fed self.new.reader.lexer ≡ fed self.old.reader.lexer }
+        ensures limits { self.new.reader.lexer.limits ≡ self.old.reader.lexer.limits }
+        ensures sheet { self.new.sheet ≡ self.old.sheet }
     {
         loop {
-            match self.lexer.next() {
-                Step::Lexeme(lexeme) => {
-                    if let Some(fault) = self.walk.take(lexeme)? {
-                        return Ok(Reading::Faulty(fault));
-                    }
-                }
-                Step::Need => return Ok(Reading::Wants),
-                Step::End => return Ok(self.at_end()),
-                Step::Bad(fault) => return Ok(Reading::Faulty(fault)),
-                Step::Memory => return Err(Memory),
+            if let Some(reading) = self.advance(out) {
+                return reading;
             }
         }
     }
 
-    fn at_end(&self) -> Reading
-        ensures wants { result ≡ reading.Wants → ⊥ }
-        ensures reading { fed self.now.lexer < 2 ^ 64 → result ≡ ended_reading self.now.walk (fed self.now.lexer) }
+    // Takes the next node, if one is ready.
+    fn advance(&mut self, out: &mut Vec<u8>) -> Option<Reading>
+        requires { IsGoing self.old }
+        ensures reads { Reads (more self.old) self.new out.old.items out.new.items result }
+        ensures shrinks { result ≡ None → events_left self.new.reader < events_left self.old.reader }
+        ensures wants { result ≡ Some reading.Wants → GoesOn self.new.reader.lexer }
+        ensures whole { result ≡ Some reading.Complete → self.old.reader.lexer.ended ≡ true }
+        ensures ended { self.new.reader.lexer.ended ≡ self.old.reader.lexer.ended }
+        ensures fed { fed self.new.reader.lexer ≡ fed self.old.reader.lexer }
+        ensures limits { self.new.reader.lexer.limits ≡ self.old.reader.lexer.limits }
+        ensures sheet { self.new.sheet ≡ self.old.sheet }
     {
-        if self.walk.is_complete() {
-            Reading::Complete
-        } else {
-            Reading::Faulty(XmlFault {
-                kind: XmlKind::Truncated,
-                offset: self.lexer.fed(),
-            })
+        match self.reader.next() {
+            Pull::Event(event) => match self.copier.take(event, out) {
+                Ok(Turn::More) => None,
+                Ok(Turn::Over) => Some(Reading::Complete),
+                Err(WriteStop::Fault(fault)) => Some(Reading::Refused(fault)),
+                Err(WriteStop::Memory) => Some(Reading::Lacks),
+            },
+            Pull::Need => Some(Reading::Wants),
+            Pull::End => Some(Reading::Complete),
+            Pull::Bad(fault) => Some(Reading::Faulty(fault)),
+            Pull::Memory => Some(Reading::Lacks),
         }
+    }
+}
+
+fn code_of(fault: ResultFault) -> RunCode
+    ensures { result ≡ code_of fault }
+{
+    match fault {
+        ResultFault::BadName => RunCode::BadName,
+        ResultFault::BadChar => RunCode::BadChar,
+        ResultFault::BadComment => RunCode::BadComment,
+        ResultFault::BadPi => RunCode::BadPi,
+        ResultFault::LateAttribute => RunCode::LateAttribute,
+        ResultFault::UnmatchedEnd => RunCode::UnmatchedEnd,
+        ResultFault::WrongEnd => RunCode::WrongEnd,
+        ResultFault::UnclosedResult => RunCode::UnclosedResult,
+        ResultFault::ResultDepth => RunCode::ResultDepth,
     }
 }

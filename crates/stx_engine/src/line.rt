@@ -1,9 +1,9 @@
 ghost use Rattle.std.specs.Prelude.{◌≡◌, IfOk, string_bytes};
-ghost use Rattle.stx_engine.specs.Line.{fault_line as fault_line_of, host_fault_name, line_of, sheet_code_name, xml_kind_name};
+ghost use Rattle.stx_engine.specs.Line.{fault_line as fault_line_of, host_fault_name, line_of, run_code_name, sheet_code_name, xml_kind_name};
 
 use crate::outcome::{HostFault, Outcome};
 use std::alloc::Global;
-use stx_base::{Memory, SheetCode, XmlKind};
+use stx_base::{Memory, RunCode, SheetCode, XmlKind};
 
 /// What the program says of words that it refuses.
 const USAGE: &str =
@@ -18,6 +18,9 @@ pub fn line(alloc: Global, outcome: &Outcome) -> Result<String, Memory>
 {
     match outcome {
         Outcome::Done => Ok(String::new(alloc)),
+        Outcome::Run { file, code, offset } => {
+            fault_line(alloc, file.as_str(), run_code(*code), *offset)
+        }
         Outcome::Usage => copied(alloc, USAGE),
         Outcome::Sheet(fault) => {
             fault_line(
@@ -61,6 +64,36 @@ fn host_fault(fault: HostFault) -> &'static str
         HostFault::Doc => "Doc",
         HostFault::Read => "Read",
         HostFault::Write => "Write",
+    }
+}
+
+fn run_code(code: RunCode) -> &'static str
+    ensures { result.now ≡ run_code_name code }
+{
+    match code {
+        RunCode::Overflow => "Overflow",
+        RunCode::ZeroDivisor => "ZeroDivisor",
+        RunCode::Fraction => "Fraction",
+        RunCode::NotWhole => "NotWhole",
+        RunCode::NotOne => "NotOne",
+        RunCode::NotNode => "NotNode",
+        RunCode::SequenceTooLong => "SequenceTooLong",
+        RunCode::TextTooLong => "TextTooLong",
+        RunCode::ChildrenTwice => "ChildrenTwice",
+        RunCode::BufferBusy => "BufferBusy",
+        RunCode::TooManySources => "TooManySources",
+        RunCode::NoDocument => "NoDocument",
+        RunCode::Instances => "Instances",
+        RunCode::BadName => "BadName",
+        RunCode::BadChar => "BadChar",
+        RunCode::BadComment => "BadComment",
+        RunCode::BadPi => "BadPi",
+        RunCode::LateAttribute => "LateAttribute",
+        RunCode::UnmatchedEnd => "UnmatchedEnd",
+        RunCode::WrongEnd => "WrongEnd",
+        RunCode::UnclosedResult => "UnclosedResult",
+        RunCode::ResultDepth => "ResultDepth",
+        RunCode::BufferFull => "BufferFull",
     }
 }
 
@@ -118,6 +151,5 @@ fn xml_kind(kind: XmlKind) -> &'static str
         XmlKind::TextTooLong => "TextTooLong",
         XmlKind::Truncated => "Truncated",
         XmlKind::InputTooLong => "InputTooLong",
-        XmlKind::NotBuilt => "NotBuilt",
     }
 }

@@ -1,4 +1,4 @@
-use stx_base::{SheetFault, Text, XmlFault};
+use stx_base::{RunCode, SheetFault, Text, XmlFault};
 
 /// Which call on the host failed.
 #[derive(Clone, Copy, Debug, PartialEq, Eq)]
@@ -16,6 +16,13 @@ pub enum HostFault {
 pub enum Outcome {
     /// The document was read to its end and all was written.
     Done,
+    /// An instruction of a sheet has a fault, or the result refuses what it puts.
+    Run {
+        file: Text,
+        code: RunCode,
+        /// Of the instruction's start tag.
+        offset: u64,
+    },
     /// The words are refused.
     Usage,
     /// The sheet is refused.
@@ -45,6 +52,7 @@ impl Outcome {
     {
         match self {
             Outcome::Done => 0,
+            Outcome::Run { .. } => 1,
             Outcome::Usage => 2,
             Outcome::Sheet(_) => 3,
             Outcome::Xml { .. } => 4,

@@ -12,16 +12,17 @@ use Rattle.stx_engine.proofs.driver.drive.Goals as goal
 pub loop-refused-init : goal.loop-refused-init
 loop-refused-init g c =
     let first = c.pump-pumped in
-    let pumps = subst (λ l. Pumps (more_of c.args.engine Start) first.new.self l first.new.out.items first.result) c.new-settled.ensures.items first.ensures.pumps in (
+    let pumps = subst (λ l. Pumps (more_of c.args.engine Start) c.args.engine.sheet first.new.self l first.new.out.items first.result) c.new-settled.ensures.items first.ensures.pumps in (
       λ is.
           let same = first.ensures.wants is in (
             subst GoesOn (sym same) c.requires.goes_on,
             omega arith,
             omega (arith, ap (λ r. r.limits.input) same, c.requires.input),
-            waits_where (more_of c.args.engine Start) first.new.self c.new-settled.result.items first.new.out.items first.result first.ensures.pumps is,
+            waits_where (more_of c.args.engine Start) c.args.engine.sheet first.new.self c.new-settled.result.items first.new.out.items first.result first.ensures.pumps is,
+            first.ensures.sheet is,
           ),
       λ limits pass means.
-          starts limits pass c.args.engine means (g.H.Host.outside c.args.host.now) first.new.self first.new.out.items first.result pumps,
+          starts limits pass c.args.engine means (g.H.Host.outside c.args.host.now) first.new.self first.new.out.items first.result (λ is. first.ensures.whole is) pumps,
     )
 
 pub returns-in-Err : goal.returns-in-Err
@@ -66,15 +67,16 @@ loop-refused-preserved-in-Bytes g c =
     let was = loop.invariant.0 is_main in (
       λ is.
           let wants = next.ensures.wants is in
-          (wants.0, omega (arith, wants.1, was.1, length-take c.in-Bytes.got c.read.new.room, c.in-Bytes.ensures.answer.fits), omega (arith, ap (λ m. m.input) wants.2, was.2), waits_where given next.new.self c.clear.new.self.items next.new.out.items next.result next.ensures.pumps is),
+          (wants.0, omega (arith, wants.1, was.1, length-take c.in-Bytes.got c.read.new.room, c.in-Bytes.ensures.answer.fits), omega (arith, ap (λ m. m.input) wants.2, was.2), waits_where given loop.engine.sheet next.new.self c.clear.new.self.items next.new.out.items next.result next.ensures.pumps is, next.ensures.sheet is ∙ was.4),
       λ limits pass means.
           reads-piece limits pass c.args.engine means old new (g.H.Host.outside c.read.new.self) loop.engine next.new.self next.new.out.items c.read.new.room c.in-Bytes.got loop.read c.saturating_add-written.result
           next.result
           (subst (Driving limits pass c.args.engine old new loop.engine [] loop.read c.saturating_add-written.result) is_main
           (writes-on limits pass c.args.engine means old (g.H.Host.outside loop.host) new loop.engine loop.settled.items c.as_slice.result.now wrote.0 loop.read loop.written c.saturating_add-written.result loop.pumped
           (loop.invariant.1 limits pass means) c.as_slice.ensures.value wrote.1 wrote.2 (c.saturating_add-written.ensures ∙ ap (λ n. counted (loop.written + n)) (c.len.ensures ∙ loop.settled.ok.0))))
-          was.3 c.in-Bytes.ensures.answer c.in-Bytes.ensures.change
-          (subst (λ l. Pumps given next.new.self l next.new.out.items next.result) c.clear.ensures.items next.ensures.pumps),
+          was.3 c.in-Bytes.ensures.answer c.in-Bytes.ensures.change (λ is. next.ensures.whole is)
+          (subst (λ l. Pumps given c.args.engine.sheet next.new.self l next.new.out.items next.result) c.clear.ensures.items
+          (subst (λ x. Pumps given x next.new.self c.clear.new.self.items next.new.out.items next.result) was.4 next.ensures.pumps)),
     )
 
 pub loop-refused-preserved : goal.loop-refused-preserved
@@ -93,5 +95,6 @@ loop-refused-preserved g c =
           (writes-on limits pass c.args.engine means old (g.H.Host.outside loop.host) new loop.engine loop.settled.items c.as_slice.result.now wrote.0 loop.read loop.written c.saturating_add-written.result loop.pumped
           (loop.invariant.1 limits pass means) c.as_slice.ensures.value wrote.1 wrote.2 (c.saturating_add-written.ensures ∙ ap (λ n. counted (loop.written + n)) (c.len.ensures ∙ loop.settled.ok.0))))
           was.3 c.in-End.ensures.answer c.in-End.ensures.change (λ is. next.ensures.wants is)
-          (subst (λ l. Pumps (more_of loop.engine End) next.new.self l next.new.out.items next.result) c.clear.ensures.items next.ensures.pumps),
+          (subst (λ l. Pumps (more_of loop.engine End) c.args.engine.sheet next.new.self l next.new.out.items next.result) c.clear.ensures.items
+          (subst (λ x. Pumps (more_of loop.engine End) x next.new.self c.clear.new.self.items next.new.out.items next.result) was.4 next.ensures.pumps)),
     )

@@ -11,10 +11,10 @@ use Rattle.stx_engine.proofs.driver.drive.Given as goal
 -- written, and what is settled now is to be written next
 abbrev pub invariant-loop-refused : goal.invariant-loop-refused
 invariant-loop-refused g l =
-    (l.pumped ≡ pumped.Main → GoesOn l.engine.lexer × (l.read ≤ fed l.engine.lexer) × (l.engine.lexer.limits.input ≤ 2 ^ 50) × IsWaiting l.engine)
+    (l.pumped ≡ pumped.Main → GoesOn l.engine.reader.lexer × (l.read ≤ fed l.engine.reader.lexer) × (l.engine.reader.lexer.limits.input ≤ 2 ^ 50) × IsWaiting l.engine × (l.engine.sheet ≡ l.fn.engine.sheet))
     × ((limits : Limits) (pass : Pass) → Means limits pass l.fn.engine
     → Driving limits pass l.fn.engine (g.H.Host.outside l.initial.host) (g.H.Host.outside l.host) l.engine l.settled.items l.read l.written l.pumped)
 
 -- what the limit leaves
 abbrev pub decreases-loop-refused : goal.decreases-loop-refused
-decreases-loop-refused g l = cond (is_main l.pumped) (l.engine.lexer.limits.input + 2 - fed l.engine.lexer) 0
+decreases-loop-refused g l = cond (is_main l.pumped) (l.engine.reader.lexer.limits.input + 2 - fed l.engine.reader.lexer) 0

@@ -5,7 +5,7 @@ use Rattle.stx_engine.specs.Running.{Reports}
 use Rattle.stx_engine.specs.Words.{characters}
 use Rattle.stx_engine.specs.declared.outcome.Outcome.TheVariants.{Memory}
 use Rattle.stx_engine.proofs.Headed.{ran-wanting-line, gives_answer, reads_to_end, decides_sheet, asks_settled, begins_output, opens_first, notes_failure, is_status, refuses_unnamed, gives_ids_back}
-use Rattle.stx_engine.proofs.Nesting.{answer-matches}
+use Rattle.stx_engine.proofs.Nested.{answer-nests}
 use Rattle.stx_engine.proofs.driver.transform.Goals as goal
 
 -- the line of the run's outcome
@@ -56,7 +56,7 @@ returns-in-Ok-clause-nested g c = λ docs main tells.
     let old = g.H.Host.outside c.args.host.now in
     let mid = g.H.Host.outside c.run-outcome.new.host in
     let new = g.H.Host.outside c.report.new.host in
-    answer-matches words docs main (since old.out new.out)
+    answer-nests c.documents.ensures.nested words docs main (since old.out new.out)
     (begins_output words old mid new c.run-outcome.result c.run-outcome.ensures c.report.result
     (subst (λ line. Reports mid line (status_of c.run-outcome.result) new c.report.result) (c.as_str.ensures.value ∙ c.in-Ok.ensures)
     (subst (λ status. Reports mid c.as_str.result.now status new c.report.result) c.status.ensures c.report.ensures)) docs main tells)
@@ -165,7 +165,7 @@ returns-clause-nested g c = λ docs main tells.
     let old = g.H.Host.outside c.args.host.now in
     let mid = g.H.Host.outside c.run-outcome.new.host in
     let new = g.H.Host.outside c.report-in-Err.new.host in
-    answer-matches words docs main (since old.out new.out)
+    answer-nests c.documents.ensures.nested words docs main (since old.out new.out)
     (begins_output words old mid new Memory (ran-wanting-line words old mid c.run-outcome.result c.run-outcome.ensures) c.report-in-Err.result
     (subst (λ status. Reports mid (line_of Memory) status new c.report-in-Err.result) c.status-in-Err.ensures c.report-in-Err.ensures) docs main tells)
 

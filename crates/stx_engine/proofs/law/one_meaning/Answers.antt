@@ -5,10 +5,10 @@ use Rattle.stx_engine.proofs.Total.{has_meaning, outcome_is}
 use Rattle.stx_engine.proofs.law.one_meaning.Goals as goal
 
 pub returns-clause-some : goal.returns-clause-some
-returns-clause-some c = λ pass tree. has_meaning pass tree
+returns-clause-some c = has_meaning
 
 pub returns-clause-one : goal.returns-clause-one
-returns-clause-one c = λ pass tree os ps e f a b. one_end a b
+returns-clause-one c = λ limit pass tree os ps e f a b. one_end a b
 
 pub returns-clause-function : goal.returns-clause-function
-returns-clause-function c = λ pass tree os e. (λ h. outcome_is pass tree os e h, λ h. record { depth = size tree + 1; comes = h })
+returns-clause-function c = λ limit pass tree os e. (λ h. outcome_is limit pass tree os e h, λ h. record { depth = size tree + 1; comes = h })

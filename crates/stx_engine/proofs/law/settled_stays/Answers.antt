@@ -1,11 +1,11 @@
-use Rattle.stx_engine.proofs.Settling.{settled-begins, over-stays, answer-begins}
+use Rattle.stx_engine.proofs.Growing.{answer-stays, bytes-stay, run-stays}
 use Rattle.stx_engine.proofs.law.settled_stays.Goals as goal
 
 pub returns-clause-output : goal.returns-clause-output
-returns-clause-output c = λ limits pass bytes more ended. settled-begins limits bytes more ended pass
+returns-clause-output c = bytes-stay c.growing.ensures
 
 pub returns-clause-over : goal.returns-clause-over
-returns-clause-over c = λ limits pass bytes more ended. over-stays limits bytes more ended pass
+returns-clause-over c = run-stays c.growing.ensures
 
 pub returns-clause-answer : goal.returns-clause-answer
-returns-clause-answer c = answer-begins
+returns-clause-answer c = answer-stays c.growing.ensures

@@ -1,9 +1,10 @@
-use Rattle.std.proofs.Common.{◌++◌, ◌∙◌, ap, append_assoc}
-use Rattle.stx_engine.proofs.Results.{on_both}
-use Rattle.stx_engine.proofs.Starting.{text_after-start}
+use Rattle.stx_engine.specs.More.{begin_ahead, start_ahead}
+use Rattle.stx_engine.specs.declared.copier.Open.{Open}
+use Rattle.stx_engine.proofs.Copying.{starts-within, takes-same}
 use Rattle.stx_engine.proofs.copier.Copier.start.Goals as goal
 
-pub returns-in-All-clause-put : goal.returns-in-All-clause-put
-returns-in-All-clause-put c =
-    let w = c.args.self.now.writer in
-    rw c.in-All.is (on_both c.start.result c.start.ensures.settled c.start.ensures.held (λ settled held. λ ps. rw (settled, held, c.as_str.ensures.bytes) (append_assoc w.settled.items _ _ ∙ ap (λ l. w.settled.items ++ l) (text_after-start w.held.items c.args.name.now c.args.attrs.now ps))))
+pub returns-clause-takes : goal.returns-clause-takes
+returns-clause-takes c =
+    let o : Open = record { name = c.args.name; outer = c.in_ok-outer.outer } in
+    takes-same (begin_ahead c.enter.new.self o c.args.attrs) (start_ahead c.args.self.now c.args.name c.args.attrs c.args.decls.now) c.begin.new.self c.args.out.now.items c.begin.new.out.items c.begin.result
+    (starts-within c.args.self.now c.enter.new.self o c.args.attrs c.args.decls.now c.in_ok-outer.ensures.scope c.in_ok-outer.ensures.outer c.in_ok-outer.ensures.others) c.begin.ensures.takes

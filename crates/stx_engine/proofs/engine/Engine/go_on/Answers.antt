@@ -1,30 +1,38 @@
-use Rattle.std.proofs.Common.{◌∙◌, Ok, rules, subst, ap, arith}
-use Rattle.std.proofs.lemmas.Str.{chars-IsAscii}
-use Rattle.std.specs.Prelude.{codes}
-use Rattle.stx_engine.specs.Engine.{ReadsOn}
-use Rattle.stx_engine.proofs.Pumping.{appends-wants}
+use Rattle.std.proofs.Common.{◌≡◌, Some, refl, sym, ap, subst}
+use Rattle.stx_engine.specs.Answer.{code_of}
+use Rattle.stx_engine.specs.Engine.{Pumps, more}
+use Rattle.stx_engine.specs.declared.engine.Engine.{Engine}
+use Rattle.stx_engine.specs.declared.outcome.Outcome.TheVariants.{Done, Run}
+use Rattle.stx_engine.proofs.Pumping.{pumps-done, pumps-faulty, pumps-lacks, pumps-refused, pumps-wants}
 use Rattle.stx_engine.proofs.engine.Engine.go_on.Goals as goal
 
-pub returns-in_ok-hand_out-in-Wants-clause-pumps : goal.returns-in_ok-hand_out-in-Wants-clause-pumps
-returns-in_ok-hand_out-in-Wants-clause-pumps c =
-    let old = c.args.self.now in
-    let mid = c.read_on.new.self in
-    let read = c.in_ok-read_on.ensures in (
-      mid.walk.copier.writer.settled.items,
-      c.in_ok-hand_out-in-Wants.ensures.ok,
-      appends-wants old (record mid { walk = c.hand_out.new.self }) mid.walk
-          (subst (ReadsOn old.walk mid.walk old.lexer mid.lexer) c.in-Wants.is read.going) c.in_ok-hand_out-in-Wants.ensures.rest
-          (read.wants (ap Ok c.in-Wants.is)).unended (omega (arith, ap (λ m. m.input) read.limits, c.requires.limit)),
-    )
+pub returns-in-Wants-clause-pumps : goal.returns-in-Wants-clause-pumps
+returns-in-Wants-clause-pumps c =
+    let s = c.args.self.now in
+    let e = c.read_on.new.self in
+    pumps-wants (more s) s.sheet e e c.args.out.now.items c.read_on.new.out.items c.in-Wants.ensures.reads
 
-pub returns-in_ok-hand_out-in-Faulty-clause-pumps : goal.returns-in_ok-hand_out-in-Faulty-clause-pumps
-returns-in_ok-hand_out-in-Faulty-clause-pumps c =
-    let old = c.args.self.now in
-    let mid = c.read_on.new.self in (
-      mid.walk.copier.writer.settled.items,
-      c.in_ok-hand_out-in-Faulty.ensures.ok,
-      (
-        c.in_ok-file-in-Faulty.ensures ∙ chars-IsAscii (codes "-") (search rules),
-        subst (ReadsOn old.walk mid.walk old.lexer mid.lexer) c.in-Faulty.is c.in_ok-read_on.ensures.going,
-      ),
-    )
+pub returns-in-Complete-clause-pumps : goal.returns-in-Complete-clause-pumps
+returns-in-Complete-clause-pumps c =
+    let s = c.args.self.now in
+    let e = c.read_on.new.self in
+    pumps-done (more s) s.sheet e (record e { outcome = Some Done }) c.args.out.now.items c.read_on.new.out.items c.in-Complete.ensures.reads refl
+
+pub returns-in-Faulty-clause-pumps : goal.returns-in-Faulty-clause-pumps
+returns-in-Faulty-clause-pumps c =
+    let s = c.args.self.now in
+    subst (Pumps (more s) s.sheet c.fail.new.self c.args.out.now.items c.read_on.new.out.items) (sym c.fail.ensures.answer)
+    (pumps-faulty (more s) s.sheet c.read_on.new.self c.fail.new.self c.args.out.now.items c.read_on.new.out.items c.in-Faulty.fault c.in-Faulty.ensures.reads c.fail.ensures.outcome)
+
+pub returns-in-Refused-clause-pumps : goal.returns-in-Refused-clause-pumps
+returns-in-Refused-clause-pumps c =
+    let s = c.args.self.now in
+    subst (Pumps (more s) s.sheet c.refuse.new.self c.args.out.now.items c.read_on.new.out.items) (sym c.refuse.ensures.answer)
+    (pumps-refused (more s) s.sheet c.read_on.new.self c.refuse.new.self c.args.out.now.items c.read_on.new.out.items c.in-Refused.fault c.in-Refused.ensures.reads
+    (subst (λ x. c.refuse.new.self.outcome ≡ Some (Run x (code_of c.in-Refused.fault) 0)) c.in-Refused.ensures.sheet c.refuse.ensures.outcome))
+
+pub returns-in-Lacks-clause-pumps : goal.returns-in-Lacks-clause-pumps
+returns-in-Lacks-clause-pumps c =
+    let s = c.args.self.now in
+    subst (Pumps (more s) s.sheet c.lack.new.self c.args.out.now.items c.read_on.new.out.items) (sym c.lack.ensures.answer)
+    (pumps-lacks (more s) s.sheet c.read_on.new.self c.lack.new.self c.args.out.now.items c.read_on.new.out.items c.in-Lacks.ensures.reads (ap (λ (e : Engine). e.outcome) c.lack.ensures.outcome))

@@ -1,0 +1,146 @@
+-- The prefixes of a run's parts are names, where those of its document are.
+use Rattle.std.proofs.Common.{◌≡◌, ℕ, Bool, true, false, not, ◌&&◌, List, [], ◌∷◌, ◌++◌, Option, Some, None, map, refl, ap, ◌∙◌}
+use Rattle.std.specs.Prelude.{if◌then◌else◌, filter}
+use Rattle.std.specs.List.{list_all}
+use Rattle.std.proofs.lemmas.Bool.{and_from, and_parts}
+use Rattle.stx_base.specs.declared.name.Attr.{Attr}
+use Rattle.stx_base.specs.declared.name.Binding.{Binding}
+use Rattle.stx_base.specs.declared.name.Name.{Name}
+use Rattle.stx_base.specs.declared.part.Part.{Part}
+use Rattle.result_writer.specs.Allowed.{is_empty, is_prefix}
+use Rattle.result_writer.specs.Laws.{WritesPrefixes}
+use Rattle.result_writer.specs.Table.{has_prefix, in_order, placed, precedes}
+use Rattle.result_writer.specs.Target.{Left, fault, first_fault, next, nothing, or_else}
+use Rattle.result_writer.specs.declared.fault.ResultFault.{ResultFault}
+use Rattle.xml_events.specs.Tree.{Why, Mark, Fresh, Told, Begun, Leaf, Chars, Comment, Pi, Forest, End, Cut, Single, Nested}
+use Rattle.stx_engine.specs.Accepted.{RunsNest, declares_names}
+use Rattle.stx_engine.specs.Meaning.{attribute_part, end_parts, leaf_parts, start_parts}
+use Rattle.stx_engine.specs.Output.{has_prefixes, output}
+use Rattle.stx_engine.specs.Passed.{Passed, once_ready, passed, put, run_from, then_put, unless_refused, unless_stopped, with_first}
+use Rattle.stx_engine.specs.Scope.{scope_within}
+use Rattle.stx_engine.specs.declared.pass.Pass.{Pass}
+use Rattle.stx_engine.specs.declared.pass.Pass.TheVariants as pass
+use Rattle.stx_engine.proofs.Beginnings.{run-passed}
+use Rattle.stx_engine.proofs.Parts.{parts-nest}
+
+abbrev named : Binding → Bool
+named b = is_prefix b.prefix
+
+filter_named : (q : Binding → Bool) (bs : List Binding) → list_all named bs ≡ true → list_all named (filter q bs) ≡ true
+filter_named q [] h = refl
+filter_named q (b ∷ bs) h =
+    let both = and_parts (named b) (list_all named bs) h in
+    by_test (q b) both.0 (filter_named q bs both.1) where
+      by_test : (t : Bool) → named b ≡ true → list_all named (filter q bs) ≡ true → list_all named (if t then b ∷ filter q bs else filter q bs) ≡ true
+      by_test true is all = and_from _ _ is all
+      by_test false is all = all
+
+placed_named : (b : Binding) (cs : List Binding) → named b ≡ true → list_all named cs ≡ true → list_all named (placed b cs) ≡ true
+placed_named b [] h k = and_from _ _ h refl
+placed_named b (c ∷ cs) h k =
+    let both = and_parts (named c) (list_all named cs) k in
+    by_test (precedes b.prefix c.prefix) (placed_named b cs h both.1) both.0 where
+      by_test : (t : Bool) → list_all named (placed b cs) ≡ true → named c ≡ true → list_all named (if t then b ∷ c ∷ cs else c ∷ placed b cs) ≡ true
+      by_test true all is = and_from _ _ h k
+      by_test false all is = and_from _ _ is all
+
+order_named : (sorted bs : List Binding) → list_all named sorted ≡ true → list_all named bs ≡ true → list_all named (in_order sorted bs) ≡ true
+order_named sorted [] h k = h
+order_named sorted (b ∷ bs) h k =
+    let both = and_parts (named b) (list_all named bs) k in order_named (placed b sorted) bs (placed_named b sorted both.0 h) both.1
+
+within_named : (scope decls : List Binding) → list_all named scope ≡ true → list_all named decls ≡ true → list_all named (scope_within scope decls) ≡ true
+within_named scope decls h k =
+    order_named (filter (λ b. not (has_prefix decls b.prefix)) scope) (filter (λ b. not (is_empty b.uri)) decls) (filter_named _ scope h) (filter_named _ decls k)
+
+-- Parts
+
+abbrev all : List Part → Type 0
+all ps = list_all has_prefixes ps ≡ true
+
+all-append : (ps qs : List Part) → all ps → all qs → all (ps ++ qs)
+all-append [] qs h k = k
+all-append (p ∷ ps) qs h k = let both = and_parts (has_prefixes p) (list_all has_prefixes ps) h in and_from _ _ both.0 (all-append ps qs both.1 k)
+
+all-attributes : (attrs : List Attr) → all (map attribute_part attrs)
+all-attributes [] = refl
+all-attributes (a ∷ attrs) = and_from true _ refl (all-attributes attrs)
+
+all-start : (p : Pass) (scope : List Binding) (name : Name) (attrs : List Attr) → list_all named scope ≡ true → all (start_parts p scope name attrs)
+all-start pass.All scope name attrs h = and_from _ _ h (all-attributes attrs)
+all-start pass.Chars scope name attrs h = refl
+all-start pass.None scope name attrs h = refl
+
+all-end : (p : Pass) (name : Name) → all (end_parts p name)
+all-end pass.All name = refl
+all-end pass.Chars name = refl
+all-end pass.None name = refl
+
+all-leaf : (p : Pass) (leaf : Leaf) → all (leaf_parts p leaf)
+all-leaf pass.All (Chars offset text) = refl
+all-leaf pass.All (Comment offset text) = refl
+all-leaf pass.All (Pi offset target text) = refl
+all-leaf pass.Chars (Chars offset text) = refl
+all-leaf pass.Chars (Comment offset text) = refl
+all-leaf pass.Chars (Pi offset target text) = refl
+all-leaf pass.None leaf = refl
+
+all-then : (p q : Passed) → all p.parts → all q.parts → all (then_put p q).parts
+all-then p q h k = by_stop p.stop where
+  by_stop : (s : Option Why) → all (unless_stopped s p q).parts
+  by_stop None = all-append p.parts q.parts h k
+  by_stop (Some why) = h
+
+all-once : (m : Mark) (kids : Forest) (p : Passed) → all p.parts → all (once_ready m kids p).parts
+all-once Fresh (Cut why) p h = refl
+all-once Fresh (End m offset) p h = h
+all-once Fresh (Single m leaf next) p h = h
+all-once Fresh (Nested m e kids next) p h = h
+all-once Told kids p h = h
+all-once Begun kids p h = h
+
+all-passed : (p : Pass) (scope : List Binding) (f : Forest) → list_all named scope ≡ true → declares_names f ≡ true → all (passed p scope f).parts
+all-passed p scope (End m offset) h k = refl
+all-passed p scope (Cut why) h k = refl
+all-passed p scope (Single m leaf next) h k = all-append (leaf_parts p leaf) (passed p scope next).parts (all-leaf p leaf) (all-passed p scope next h k)
+all-passed p scope (Nested m e kids next) h k =
+    let b = and_parts (list_all named e.decls) (declares_names kids && declares_names next) k in
+    let c = and_parts (declares_names kids) (declares_names next) b.1 in
+    let inside = scope_within scope e.decls in
+    let w = within_named scope e.decls h b.0 in
+    let start = start_parts p inside e.name e.attrs in
+    let end = put (end_parts p e.name) (passed p scope next) in
+    let list = then_put (passed p inside kids) end in
+    all-once m kids (put start list)
+    (all-append start list.parts (all-start p inside e.name e.attrs w)
+    (all-then (passed p inside kids) end (all-passed p inside kids w c.0)
+    (all-append (end_parts p e.name) (passed p scope next).parts (all-end p e.name) (all-passed p scope next h c.1))))
+
+-- What a run puts was accepted.
+
+module _ (limit : ℕ) where
+  put-faultless : (l : Left) (ps : List Part) (stop : Option Why) → first_fault limit l (run_from limit l ps stop).parts ≡ None
+  put-faultless l [] stop = refl
+  put-faultless l (p ∷ ps) stop = by_fault (fault limit l p) refl (put-faultless (next l p) ps stop) where
+    by_fault : (o : Option ResultFault) → fault limit l p ≡ o → first_fault limit (next l p) (run_from limit (next l p) ps stop).parts ≡ None
+        → first_fault limit l (unless_refused o (with_first p (run_from limit (next l p) ps stop))).parts ≡ None
+    by_fault None e h = ap (λ o. or_else o (first_fault limit (next l p) (run_from limit (next l p) ps stop).parts)) e ∙ h
+    by_fault (Some f) e h = refl
+
+  put-all : (l : Left) (ps : List Part) (stop : Option Why) → all ps → all (run_from limit l ps stop).parts
+  put-all l [] stop h = refl
+  put-all l (p ∷ ps) stop h =
+      let both = and_parts (has_prefixes p) (list_all has_prefixes ps) h in
+      by_fault (fault limit l p) (put-all (next l p) ps stop both.1) both.0 where
+        by_fault : (o : Option ResultFault) → all (run_from limit (next l p) ps stop).parts → has_prefixes p ≡ true
+            → all (unless_refused o (with_first p (run_from limit (next l p) ps stop))).parts
+        by_fault None k one = and_from _ _ one k
+        by_fault (Some f) k one = refl
+
+pub runs-nest : WritesPrefixes → RunsNest
+runs-nest prefixes limit p tree front declares begins =
+    let q = passed p [] tree in
+    let r = run_from limit nothing q.parts q.stop in
+    let same = ap (λ x. output x.parts) (run-passed limit p tree) in
+    parts-nest prefixes limit r.parts front (put-faultless limit nothing q.parts q.stop) (put-all limit nothing q.parts q.stop (all-passed p [] tree refl declares))
+    (begins.0, begins.1 ∙ same)

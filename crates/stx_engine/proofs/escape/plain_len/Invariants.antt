@@ -1,7 +1,0 @@
-use Rattle.std.proofs.Common.{◌≡◌, take}
-use Rattle.stx_engine.specs.Escape.{escaped}
-use Rattle.stx_engine.proofs.escape.plain_len.Given as goal
-
--- the bytes so far stand for themselves
-abbrev pub invariant-loop-at : goal.invariant-loop-at
-invariant-loop-at l = escaped l.context (take l.at l.bytes) ≡ take l.at l.bytes

@@ -1,0 +1,74 @@
+-- Documents whose copies a result accepts.
+use Rattle.std.specs.Prelude.{◌≡◌, ◌≢◌, ℕ, ◌-◌, ◌≤◌, Bool, true, ◌&&◌, nat_lt, List}
+use Rattle.std.specs.List.{list_all}
+use Rattle.stx_base.specs.Course.{Begins}
+use Rattle.stx_base.specs.declared.limits.Limits.{Limits}
+use Rattle.stx_base.specs.declared.name.Attr.{Attr}
+use Rattle.result_writer.specs.Allowed.{are_chars, is_good_attribute, is_good_comment, is_good_data, is_good_name, is_good_target, is_prefix}
+use Rattle.result_writer.specs.declared.fault.ResultFault.{ResultFault}
+use Rattle.xml_events.specs.Tree.{Leaf, Chars, Comment, Pi, Element, Forest, End, Cut, Single, Nested}
+use Rattle.stx_host.specs.declared.act.Doc.{Doc}
+use Rattle.stx_engine.specs.Answer.{answer, result_of, run_of, run_on}
+use Rattle.stx_engine.specs.Meaning.{Refused, outcome}
+use Rattle.stx_engine.specs.Nesting.{EndsHaveStarts}
+use Rattle.stx_engine.specs.Output.{output}
+use Rattle.stx_engine.specs.declared.pass.Pass.{Pass}
+
+abbrev pub is_good_leaf : Leaf → Bool
+is_good_leaf (Chars offset text) = are_chars text
+is_good_leaf (Comment offset text) = are_chars text && is_good_comment text
+is_good_leaf (Pi offset target text) = are_chars text && (is_good_target target && is_good_data text)
+
+abbrev pub is_good_attr : Attr → Bool
+is_good_attr a = is_good_attribute a.name && are_chars a.value
+
+abbrev pub is_good_element : Element → Bool
+is_good_element e = is_good_name e.name && list_all is_good_attr e.attrs
+
+-- all nodes have names and characters that a result may have, and at most so many elements stand one within another
+abbrev pub is_good : (room : ℕ) → Forest → Bool
+is_good room (End m offset) = true
+is_good room (Cut why) = true
+is_good room (Single m leaf next) = is_good_leaf leaf && is_good room next
+is_good room (Nested m e kids next) = nat_lt 0 room && (is_good_element e && (is_good (room - 1) kids && is_good room next))
+
+-- No result refuses a part of such a document, where so many of its elements may be open.
+abbrev pub TakesGood : Type 0
+TakesGood = (limit : ℕ) (pass : Pass) (tree : Forest) (fault : ResultFault) → is_good limit tree ≡ true → (run_of (outcome limit pass tree)).ending ≢ Refused fault
+
+-- all prefixes that are declared are names, or none
+abbrev pub declares_names : Forest → Bool
+declares_names (End m offset) = true
+declares_names (Cut why) = true
+declares_names (Single m leaf next) = declares_names next
+declares_names (Nested m e kids next) = list_all (λ b. is_prefix b.prefix) e.decls && (declares_names kids && declares_names next)
+
+-- No end tag in a result of such a document lacks its start tag, wherever the result stops.
+abbrev pub RunsNest : Type 0
+RunsNest =
+    (limit : ℕ) (pass : Pass) (tree : Forest) (front : List ℕ)
+    → declares_names tree ≡ true
+    → Begins front (output (run_of (outcome limit pass tree)).parts)
+    → EndsHaveStarts front
+
+-- A result takes all parts of a document, where as many elements of it may be open as of the document.
+abbrev pub DocumentsAreTaken : Type 0
+DocumentsAreTaken =
+    (limits : Limits) (pass : Pass) (bytes : List ℕ) (ended : Bool) (fault : ResultFault)
+    → limits.depth ≤ limits.elements
+    → (run_on limits pass bytes ended).ending ≢ Refused fault
+
+-- No end tag in a result lacks its start tag, wherever the result stops.
+abbrev pub DocumentsNest : Type 0
+DocumentsNest =
+    (limits : Limits) (pass : Pass) (bytes : List ℕ) (ended : Bool) (front : List ℕ)
+    → Begins front (result_of (run_on limits pass bytes ended))
+    → EndsHaveStarts front
+
+-- So it is with all that the program writes.
+abbrev pub AnswersNest : Type 0
+AnswersNest = (words : List (List ℕ)) (docs : List Doc) (main front : List ℕ) → Begins front (answer words docs main).out → EndsHaveStarts front
+
+-- So that no answer is that the result refuses a part.
+abbrev pub AnswersAreTaken : Type 0
+AnswersAreTaken = (words : List (List ℕ)) (docs : List Doc) (main : List ℕ) → (answer words docs main).status ≢ 1

@@ -1,0 +1,15 @@
+-- Where a document has ended, and where it hasn't.
+use Rattle.std.specs.Prelude.{◌≢◌, ℕ, true, false, List}
+use Rattle.stx_base.specs.declared.limits.Limits.{Limits}
+use Rattle.xml_events.specs.Tree.{Need}
+use Rattle.stx_engine.specs.Answer.{run_on}
+use Rattle.stx_engine.specs.Meaning.{Complete, Unready}
+use Rattle.stx_engine.specs.declared.pass.Pass.{Pass}
+
+-- A run on a whole document needs no more of it.
+abbrev pub WholeIsOver : Type 0
+WholeIsOver = (limits : Limits) (pass : Pass) (bytes : List ℕ) → (run_on limits pass bytes true).ending ≢ Unready Need
+
+-- A run on a document's first bytes is not done.
+abbrev pub BeginningIsOpen : Type 0
+BeginningIsOpen = (limits : Limits) (pass : Pass) (bytes : List ℕ) → (run_on limits pass bytes false).ending ≢ Complete

@@ -1,0 +1,47 @@
+-- What a run gives of a document's first bytes stays so.
+use Rattle.std.specs.Prelude.{◌≡◌, ◌≢◌, ℕ, Bool, false, List, ◌++◌, Some}
+use Rattle.stx_base.specs.Course.{Begins}
+use Rattle.stx_base.specs.StandardLimits.{standard_limits}
+use Rattle.stx_base.specs.declared.limits.Limits.{Limits}
+use Rattle.stx_host.specs.declared.act.Doc.{Doc}
+use Rattle.xml_events.specs.Growing.{Grows}
+use Rattle.xml_events.specs.Tree.{Forest, Need}
+use Rattle.stx_engine.specs.Answer.{answer, asked, result_of, run_of, run_on, settled}
+use Rattle.stx_engine.specs.Meaning.{Unready, outcome}
+use Rattle.stx_engine.specs.Output.{output}
+use Rattle.stx_engine.specs.declared.pass.Pass.{Pass}
+
+-- What is settled stays so.
+abbrev pub SettledStays : Type 0
+SettledStays =
+    (limit : ℕ) (pass : Pass) (old new : Forest)
+    → Grows old new
+    → Begins (output (run_of (outcome limit pass old)).parts) (output (run_of (outcome limit pass new)).parts)
+
+-- A run that needs no more of the document is over.
+abbrev pub OverStays : Type 0
+OverStays =
+    (limit : ℕ) (pass : Pass) (old new : Forest)
+    → Grows old new
+    → (run_of (outcome limit pass old)).ending ≢ Unready Need
+    → run_of (outcome limit pass new) ≡ run_of (outcome limit pass old)
+
+-- What a document's first bytes settle stays so, whatever bytes follow.
+abbrev pub BytesStay : Type 0
+BytesStay =
+    (limits : Limits) (pass : Pass) (bytes more : List ℕ) (ended : Bool)
+    → Begins (settled limits pass bytes) (result_of (run_on limits pass (bytes ++ more) ended))
+
+-- A run that needs no more of the document is over.
+abbrev pub RunStays : Type 0
+RunStays =
+    (limits : Limits) (pass : Pass) (bytes more : List ℕ) (ended : Bool)
+    → (run_on limits pass bytes false).ending ≢ Unready Need
+    → run_on limits pass (bytes ++ more) ended ≡ run_on limits pass bytes false
+
+-- So it is with the program's whole answer.
+abbrev pub AnswerStays : Type 0
+AnswerStays =
+    (words : List (List ℕ)) (docs : List Doc) (pass : Pass) (bytes more : List ℕ)
+    → asked words docs ≡ Some pass
+    → Begins (settled standard_limits pass bytes) (answer words docs (bytes ++ more)).out
