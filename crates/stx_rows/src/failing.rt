@@ -234,7 +234,7 @@ fn each_call_fails_in_turn(rt: HostRuntime) -> Result<(), Failure> {
             let given = Given {
                 words: &[SHEET],
                 sheet: Some(PASS_ALL),
-                main: series.main,
+                main: series.main.as_bytes(),
                 in_bytes: series.in_bytes,
             };
             let ran = given.run_failing(rt.alloc(), &fails)?;
@@ -259,7 +259,7 @@ fn calls_fail_at_refusals(rt: HostRuntime) -> Result<(), Failure> {
         let given = Given {
             words,
             sheet,
-            main: "<a/>",
+            main: "<a/>".as_bytes(),
             in_bytes: false,
         };
         let ran = given.run_failing(rt.alloc(), &[Fail { call, nth }])?;
@@ -283,7 +283,7 @@ fn fault_line_fails(rt: HostRuntime) -> Result<(), Failure> {
         let given = Given {
             words,
             sheet,
-            main: "<a/>",
+            main: "<a/>".as_bytes(),
             in_bytes: false,
         };
         let fails = [Fail {
@@ -330,7 +330,7 @@ fn line_of_a_failure_fails(rt: HostRuntime) -> Result<(), Failure> {
         let given = Given {
             words: &[SHEET],
             sheet: Some(PASS_ALL),
-            main,
+            main: main.as_bytes(),
             in_bytes: true,
         };
         let ran = given.run_failing(rt.alloc(), &fails)?;
@@ -354,7 +354,7 @@ fn too_little_room(rt: HostRuntime) -> Result<(), Failure> {
     let given = Given {
         words: &[SHEET],
         sheet: Some(PASS_ALL),
-        main,
+        main: main.as_bytes(),
         in_bytes: false,
     };
     for (acts, bytes, status, out, opened, main_reads, note) in ROOMS {

@@ -2,11 +2,15 @@
 #![tactic(auto)]
 
 #[cfg(test)]
+mod copying;
+#[cfg(test)]
+mod documents;
+#[cfg(test)]
 mod failing;
 #[cfg(test)]
-mod first_path;
+mod limits;
 #[cfg(test)]
-mod plain_rows;
+mod reading;
 #[cfg(test)]
 mod row;
 #[cfg(test)]

@@ -15,7 +15,7 @@ pub struct Given<'a> {
     pub words: &'a [&'a str],
     /// What the host has under `s.stx`, if anything.
     pub sheet: Option<&'a str>,
-    pub main: &'a str,
+    pub main: &'a [u8],
     /// Whether the main document is read one byte at a time.
     pub in_bytes: bool,
 }
@@ -51,7 +51,7 @@ impl Given<'_> {
                 cuts.push(1u32)?;
             }
         }
-        let main = list(alloc, self.main.as_bytes())?;
+        let main = list(alloc, self.main)?;
         let fails = list(alloc, fails)?;
         MemHost::new(alloc, main, docs, cuts, fails, acts, bytes)
     }
