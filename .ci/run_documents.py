@@ -1,0 +1,74 @@
+#!/usr/bin/env python3
+"""Run the program on documents of each kind, and compare output, note and status.
+
+Usage: run_documents.py ROWS PROGRAM...
+
+ROWS is the file with the tables of documents that the tests of whole runs use:
+those that are read to their end and those with a fault, each with what copying
+and stripping it gives. PROGRAM is the command, without the name of a sheet.
+Three more documents, which only their size makes faulty, are made here.
+"""
+
+import ast
+import re
+import subprocess
+import sys
+import tempfile
+from pathlib import Path
+
+SHEET = '<stx:transform version="1.0" xmlns:stx="http://stx.sourceforge.net/2002/ns"{}></stx:transform>'
+HEAD = '<?xml version="1.0" encoding="UTF-8"?>\n'
+TABLE = re.compile(r"^pub static (\w+): \[\([^\]]*\); (\d+)\] = \[\n(.*?)^\];$", re.M | re.S)
+# The limits of a lexeme's bytes and of a text's characters.
+LIMIT = 64 * 1024 * 1024
+
+
+def tables(source):
+    """Each table by its name."""
+    found = {}
+    for name, count, body in TABLE.findall(source):
+        body = re.sub(r"^\s*//.*$", "", body, flags=re.M)
+        body = re.sub(r"\\u\{(\w+)\}", lambda code: f"\\U{int(code[1], 16):08x}", body)
+        rows = ast.literal_eval("[" + body + "]")
+        if len(rows) != int(count):
+            raise ValueError(f"{len(rows)} rows of {count} are read in {name}")
+        found[name] = rows
+    return found
+
+
+def documents(source):
+    """The bytes of each document, what copying and stripping it writes behind the head, and its fault, if it has one."""
+    rows = tables(source)
+    for document, copied, stripped in rows["COPIES"]:
+        yield document.encode(), copied, stripped, None
+    for document, copied, stripped, fault in rows["FAULTS"]:
+        yield document.encode(), copied, stripped, fault
+    yield b"<a>\xff</a>", "", "", "BadUtf8 at 3"
+    yield b"<a>" * 513, "<a>" * 510, "", "TooDeep at 1536"
+    yield b"<a>" + b"x" * (LIMIT + 1), "", "", "LexemeTooLong at 3"
+    half = b"<![CDATA[" + b"x" * (LIMIT // 2) + b"]]>"
+    yield b"<a>" + half + half + b"x</a>", "", "", f"TextTooLong at {3 + 2 * len(half)}"
+
+
+def main(rows, *program):
+    sheets = {"all": ' pass-through="all"', "text": ' pass-through="text"', "none": ' pass-through="none"'}
+    ran = failed = 0
+    with tempfile.TemporaryDirectory() as folder:
+        for name, attribute in sheets.items():
+            Path(folder, name).write_text(SHEET.format(attribute), encoding="ascii")
+        for document, copied, stripped, fault in documents(Path(rows).read_text(encoding="utf-8")):
+            content = {"all": copied, "text": stripped, "none": ""}
+            wanted_note = f"stx: -: {fault}\n" if fault else ""
+            for name in sheets:
+                run = subprocess.run([*program, name], input=document, cwd=folder, capture_output=True, check=False)
+                wanted = (4 if fault else 0, (HEAD + content[name]).encode(), wanted_note.encode())
+                ran += 1
+                if (run.returncode, run.stdout, run.stderr) != wanted:
+                    failed += 1
+                    print(f"{document[:80]!r} under {name}: {run.returncode} {run.stdout[:200]!r} {run.stderr!r}, not {wanted[0]} {wanted[1][:200]!r} {wanted[2]!r}")
+    print(f"runs of the program on documents: {ran - failed} passed, {failed} failed")
+    return 1 if failed else 0
+
+
+if __name__ == "__main__":
+    sys.exit(main(*sys.argv[1:]))
