@@ -4,8 +4,9 @@
 Usage: make_documents.py SHAPE MEGABYTES > DOCUMENT
 
 A document is one root element and a line feed. It holds start tags, end tags,
-attributes and text in ASCII, with no prefixed names and, but for the shape
-`references`, no references, so that every program under comparison can read it.
+attributes and text in ASCII, so that every program under comparison can read
+it. Only the shape `references` has references, and only `namespaces` has
+declarations and prefixed names.
 It ends with the first unit that reaches MEGABYTES (of 1,000,000 bytes).
 """
 
@@ -89,6 +90,18 @@ def deep(number):
     return f"{OPENING}bottom {number}{CLOSING}\n"
 
 
+def namespaces(number):
+    # A feed: all prefixes are declared by the root, but for that of some notes.
+    note = ""
+    if number % 10 == 0:
+        note = f'<x:note xmlns:x="urn:example:notes:{number % 7}">note {number}</x:note>'
+    return (
+        f"<entry><title>item {number}</title><dc:creator>maker {number % 97}</dc:creator>"
+        f'<media:thumbnail url="http://example.org/{number}.png" media:width="{number * 7 % 1000}"></media:thumbnail>'
+        f'<geo:point geo:lat="{number * 13 % 90}">point {number}</geo:point>{note}</entry>\n'
+    )
+
+
 def one_text(number):
     return SENTENCES[number * 37 % len(SENTENCES)]
 
@@ -99,17 +112,23 @@ SHAPES = {
     "text": text,
     "references": references,
     "deep": deep,
+    "namespaces": namespaces,
     "one_text": one_text,
 }
+
+# Declarations stand as a copy writes them: the default namespace and then prefixes in order.
+DECLARATIONS = (
+    ' xmlns="http://www.w3.org/2005/Atom" xmlns:dc="http://purl.org/dc/elements/1.1/" '
+    'xmlns:geo="http://www.georss.org/georss" xmlns:media="http://search.yahoo.com/mrss/"'
+)
 
 
 def document(shape, size):
     """Yield the document in pieces of bytes."""
     unit = SHAPES[shape]
-    written = 0
     number = 1
     end = b"</doc>\n"
-    piece = ["<doc>\n"]
+    piece = [f"<doc{DECLARATIONS if shape == 'namespaces' else ''}>\n"]
     remaining = size - len(end) - len(piece[0])
     while remaining > 0:
         part = unit(number)
