@@ -93,29 +93,32 @@ fn sheets(rt: HostRuntime) -> Result<(), Fail> {
     compare(&rt, NO_PASS, main, whole(""))
 }
 
+fn faulty<'a>(content: &'a str, note: &'a str) -> Wanted<'a> {
+    Wanted {
+        content,
+        status: 4,
+        note,
+    }
+}
+
 /// Runs the sheets on a document with a fault.
 fn compare_faulty(
     rt: &(impl Abort + AllocGlobal),
     main: &[u8],
-    (all, text): (&str, &str),
+    all: &str,
+    text: &str,
     fault: &str,
 ) -> Result<(), Fail> {
     let note = format!(in rt.alloc(); "stx: -: {fault}\n")?;
-    for (sheet, content) in [(PASS_ALL, all), (PASS_TEXT, text), (PASS_NONE, "")] {
-        let wanted = Wanted {
-            content,
-            status: 4,
-            note: note.as_str(),
-        };
-        compare(rt, sheet, main, wanted)?;
-    }
-    Ok(())
+    compare(rt, PASS_ALL, main, faulty(all, note.as_str()))?;
+    compare(rt, PASS_TEXT, main, faulty(text, note.as_str()))?;
+    compare(rt, PASS_NONE, main, faulty("", note.as_str()))
 }
 
 #[test]
 fn refused(rt: HostRuntime) -> Result<(), Fail> {
     for (main, all, text, fault) in &FAULTS {
-        compare_faulty(&rt, main.as_bytes(), (all, text), fault)?;
+        compare_faulty(&rt, main.as_bytes(), all, text, fault)?;
     }
     Ok(())
 }
@@ -141,7 +144,7 @@ fn bytes_that_are_no_text(rt: HostRuntime) -> Result<(), Fail> {
         let mut main = Vec::from_slice(rt.alloc(), before.as_bytes())?;
         main.push(*byte)?;
         main.extend_from_slice(behind.as_bytes())?;
-        compare_faulty(&rt, main.as_slice(), (all, text), fault)?;
+        compare_faulty(&rt, main.as_slice(), all, text, fault)?;
     }
     Ok(())
 }
