@@ -19,6 +19,9 @@ use crate::text::{BadText, Context, lines_of, said, text_of};
 use std::alloc::Global;
 use stx_base::{Memory, XmlKind, is_char, is_ncname, is_space};
 
+/// From so many bytes on it pays to compare them many at a time.
+const MANY: usize = 32;
+
 /// Why a whole shape says nothing.
 #[derive(Clone, Copy, Debug, PartialEq, Eq)]
 pub enum Unread {
@@ -74,15 +77,20 @@ fn is_plain(bytes: &[u8]) -> bool
     ensures { result ≡ span.is_plain bytes.now }
 {
     match bytes {
-        [] => false,
-        [_, ..] => are_plain(bytes),
+        [] | [b'<', ..] => false,
+        _ => are_plain(bytes),
     }
 }
 
 fn are_plain(bytes: &[u8]) -> bool
     ensures { result ≡ list_all span.is_plain_byte bytes.now }
 {
-    bytes.iter().all(|b| is_plain_byte(*b))
+    // No byte ends the loop, so that many bytes are compared at once.
+    let mut plain = true;
+    for b in bytes {
+        plain = plain & is_plain_byte(*b);
+    }
+    plain
 }
 
 /// A Char of ASCII but for `<`, `&`, `]` and a carriage return.
@@ -112,7 +120,22 @@ fn char_fault(bytes: &[u8]) -> Option<XmlKind>
 fn are_ascii_chars(bytes: &[u8]) -> bool
     ensures { result ≡ list_all (λ b. nat_lt b 128 && class.is_char b) bytes.now }
 {
-    bytes.iter().all(|b| is_ascii_char(*b))
+    if bytes.len() < MANY {
+        bytes.iter().all(|b| is_ascii_char(*b))
+    } else {
+        are_many_ascii_chars(bytes)
+    }
+}
+
+fn are_many_ascii_chars(bytes: &[u8]) -> bool
+    ensures { result ≡ list_all (λ b. nat_lt b 128 && class.is_char b) bytes.now }
+{
+    // No byte ends the loop, so that many bytes are compared at once.
+    let mut chars = true;
+    for b in bytes {
+        chars = chars & is_ascii_char(*b);
+    }
+    chars
 }
 
 fn is_ascii_char(byte: u8) -> bool
