@@ -21,6 +21,7 @@ pub mod JudgedLemmas
 pub mod FindLemmas
 pub mod OutsideLemmas
 pub mod PlainLemmas
+pub mod NameLemmas
 pub mod TextSpelling
 pub mod TextReading
 pub mod LineSpelling

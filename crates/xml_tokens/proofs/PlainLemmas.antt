@@ -48,7 +48,7 @@ module _ (bytes : List ℕ) (low : list_all is_low_char bytes ≡ true) where
       ap (list_all is_char) (chars-IsAscii bytes (are_ascii bytes parts.0)) ∙ parts.1
 
 -- a name of ASCII, by its first byte
-ascii-name : (b : ℕ) (bs : List ℕ) → list_all (λ x. nat_lt x 128 && is_name_char x) (b ∷ bs) ≡ true → is_name (chars (b ∷ bs)) ≡ is_name_start b
+pub ascii-name : (b : ℕ) (bs : List ℕ) → list_all (λ x. nat_lt x 128 && is_name_char x) (b ∷ bs) ≡ true → is_name (chars (b ∷ bs)) ≡ is_name_start b
 ascii-name b bs low =
     let parts = all-both (λ x. nat_lt x 128) is_name_char (b ∷ bs) low in
     ap is_name (chars-IsAscii (b ∷ bs) (are_ascii (b ∷ bs) parts.0)) ∙ (ap (λ t. is_name_start b && t) parts.1 ∙ with_true (is_name_start b)) where

@@ -1,13 +1,13 @@
 -- How texts are read span by span.
-use Rattle.std.specs.Prelude.{◌≡◌, ℕ, ◌+◌, ◌<◌, Bool, not, ◌&&◌, ◌||◌, ◌==◌, nat_lt, suc, List, [], ◌∷◌, ◌++◌, Option, Some, None, Result, Ok, Err, length, take, drop, if◌then◌else◌}
+use Rattle.std.specs.Prelude.{◌≡◌, ℕ, ◌+◌, ◌<◌, Bool, false, not, ◌&&◌, ◌||◌, ◌==◌, nat_le, nat_lt, suc, List, [], ◌∷◌, ◌++◌, Option, Some, None, Result, Ok, Err, length, take, drop, slice_get, if◌then◌else◌}
 use Rattle.std.specs.List.{list_all, list_any, position_or_len}
-use Rattle.std.specs.Option.{option_copied}
+use Rattle.std.specs.Option.{option_copied, option_map_or}
 use Rattle.std.specs.Str.{chars, is_utf8}
 use Rattle.std.specs.declared.vec.Vec.{Vec}
 use Rattle.std.specs.declared.alloc.Global.{Global}
 use Rattle.xml_tokens.specs.Texts.{first_part, is_ampersand, later_parts, result_map, said, worse}
 use Rattle.xml_tokens.specs.Tags.{attributes, attrs_said}
-use Rattle.stx_base.specs.Character.{is_char}
+use Rattle.stx_base.specs.Character.{is_char, is_name_char, is_name_start}
 use Rattle.stx_base.specs.declared.fault.XmlKind.{XmlKind}
 use Rattle.stx_base.specs.declared.fault.XmlKind.TheVariants.{BadUtf8, BadChar}
 use Rattle.xml_tokens.specs.declared.judge.Unread.{Unread}
@@ -93,6 +93,19 @@ AreAttributes bytes (Some found) =
 -- what an XML declaration tells, by its bytes
 abbrev pub as_told : XmlDeclaration → List ℕ × Option (List ℕ)
 as_told told = (told.version.now, option_copied told.encoding)
+
+-- a NameChar of ASCII
+abbrev pub is_ascii_name_byte : ℕ → Bool
+is_ascii_name_byte b = nat_lt b 128 && is_name_char b
+
+-- a byte beyond ASCII stands at this place
+abbrev pub is_wide_at : ℕ → List ℕ → Bool
+is_wide_at at bytes = option_map_or (nat_le 128) (slice_get bytes at) false
+
+-- so many bytes and those behind them, where the first one is a NameStartChar
+abbrev pub cut_name : ℕ → List ℕ → Option (List ℕ × List ℕ)
+cut_name len [] = None
+cut_name len (b ∷ bs) = if is_name_start b then Some (take len (b ∷ bs), drop len (b ∷ bs)) else None
 
 -- a Char of ASCII that says itself wherever it stands in character data
 abbrev pub is_plain_byte : ℕ → Bool

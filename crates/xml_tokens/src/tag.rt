@@ -11,13 +11,20 @@ use crate::cut::{head, tail};
 use crate::lexeme::{Body, RawAttr};
 use crate::text::{BadText, Context, is_ascii_name_byte, is_name_of, said, text_of, until_byte};
 use std::alloc::Global;
-use stx_base::{List, Memory, is_space};
+use stx_base::{List, Memory, is_name_start, is_space};
 
 fn name_len(bytes: &[u8]) -> usize
     ensures value { result ≡ prefix_len spec.is_name_byte bytes.now }
     ensures bound { result ≤ length bytes.now }
 {
     bytes.iter().take_while(|b| is_name_byte(**b)).count()
+}
+
+fn ascii_name_len(bytes: &[u8]) -> usize
+    ensures value { result ≡ prefix_len span.is_ascii_name_byte bytes.now }
+    ensures bound { result ≤ length bytes.now }
+{
+    bytes.iter().take_while(|b| is_ascii_name_byte(**b)).count()
 }
 
 /// A byte of an ASCII NameChar, or of a character beyond ASCII.
@@ -54,8 +61,33 @@ fn after_byte(byte: u8, bytes: &[u8]) -> Option<&[u8]>
 }
 
 /// A Name (XML 1.0, 2.3), as long as possible, and what follows it.
-#[tactic(auto, unfolding(crate::specs::Tags::named))]
+#[inline]
 pub fn named(bytes: &[u8]) -> Option<(&[u8], &[u8])>
+    requires { IsUtf8 bytes.now }
+    ensures { option_map (λ found. (found.0.now, found.1.now)) result ≡ spec.named bytes.now }
+{
+    let len = ascii_name_len(bytes);
+    if is_wide_at(bytes, len) {
+        wide_named(bytes)
+    } else {
+        ascii_named(bytes, len)
+    }
+}
+
+/// Whether a byte beyond ASCII stands at a place.
+fn is_wide_at(bytes: &[u8], at: usize) -> bool
+    ensures { result ≡ span.is_wide_at at bytes.now }
+{
+    match bytes.get(at) {
+        Some(byte) => *byte >= 0x80,
+        None => false,
+    }
+}
+
+/// A Name that characters beyond ASCII may be in.
+#[inline(never)]
+#[tactic(auto, unfolding(crate::specs::Tags::named))]
+fn wide_named(bytes: &[u8]) -> Option<(&[u8], &[u8])>
     requires { IsUtf8 bytes.now }
     ensures { option_map (λ found. (found.0.now, found.1.now)) result ≡ spec.named bytes.now }
 {
@@ -64,6 +96,17 @@ pub fn named(bytes: &[u8]) -> Option<(&[u8], &[u8])>
         Some((name, rest))
     } else {
         None
+    }
+}
+
+/// A Name of so many bytes of ASCII, each of which may stand in one.
+fn ascii_named(bytes: &[u8], len: usize) -> Option<(&[u8], &[u8])>
+    requires { len ≤ length bytes.now }
+    ensures { option_map (λ found. (found.0.now, found.1.now)) result ≡ span.cut_name len bytes.now }
+{
+    match bytes {
+        [first, ..] if is_name_start(char::from(*first)) => Some(bytes.split_at(len)),
+        _ => None,
     }
 }
 

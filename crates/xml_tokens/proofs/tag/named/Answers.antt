@@ -1,9 +1,10 @@
-use Rattle.std.proofs.Common.{IsUtf8, take, sym, ap, ◌∙◌, subst}
-use Rattle.xml_tokens.specs.Tags.{is_name_byte}
-use Rattle.xml_tokens.proofs.AttributeLemmas.{name_end-ascii}
-use Rattle.xml_tokens.proofs.Utf8Lemmas.{utf8-front}
+use Rattle.std.proofs.Common.{sym, ap, ◌∙◌}
+use Rattle.xml_tokens.specs.Spans.{cut_name, is_wide_at}
+use Rattle.xml_tokens.proofs.NameLemmas.{ascii-named}
 use Rattle.xml_tokens.proofs.tag.named.Goals as goal
 
-pub is_name_of-requires : goal.is_name_of-requires
-is_name_of-requires c =
-    subst IsUtf8 (sym (c.split_at.ensures.front ∙ ap (λ n. take n c.args.bytes.now) c.name_len.ensures.value)) (utf8-front is_name_byte name_end-ascii c.args.bytes.now c.requires).0
+pub returns-else-is_wide_at : goal.returns-else-is_wide_at
+returns-else-is_wide_at c =
+    let bytes = c.args.bytes.now in
+    let len = c.ascii_name_len-len.ensures.value in
+    c.ascii_named.ensures ∙ (ap (λ n. cut_name n bytes) len ∙ ascii-named bytes (ap (λ n. is_wide_at n bytes) (sym len) ∙ sym c.if-is_wide_at.ensures))
