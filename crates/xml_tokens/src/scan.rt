@@ -157,11 +157,8 @@ fn outside_len(bytes: &[u8]) -> usize
 fn is_unmarked(byte: u8) -> bool
     ensures { result ≡ resume.is_unmarked byte }
 {
-    if byte > b'>' {
-        byte != b'['
-    } else {
-        !matches!(byte, b'>' | b'"' | b'\'')
-    }
+    // Most bytes are small letters, so these come first.
+    byte > b'[' || !matches!(byte, b'[' | b'>' | b'"' | b'\'')
 }
 
 fn ends(byte: u8, bracket: bool) -> bool

@@ -143,7 +143,12 @@ pub fn equated(bytes: &[u8]) -> Option<(&[u8], &[u8])>
 fn has_byte(byte: u8, bytes: &[u8]) -> bool
     ensures { result ≡ list_any (λ b. b == byte) bytes.now }
 {
-    bytes.iter().any(|b| *b == byte)
+    // No byte ends the loop, so that many bytes are compared at once.
+    let mut found = false;
+    for b in bytes {
+        found = found | (*b == byte);
+    }
+    found
 }
 
 /// The name, the value as written, and the bytes after an attribute (Attribute; XML 1.0, 3.1).

@@ -302,7 +302,11 @@ pub fn is_ascii_name_byte(byte: u8) -> bool
     ensures { result ≡ (nat_lt byte 128 && class.is_name_char byte) }
 {
     // Most bytes of names are small letters, so these come first.
-    matches!(byte, b'a'..=b'z') || matches!(byte, b'A'..=b'Z' | b'0'..=b':' | b'-' | b'.' | b'_')
+    if byte >= b'a' {
+        byte <= b'z'
+    } else {
+        matches!(byte, b'A'..=b'Z' | b'0'..=b':' | b'-' | b'.' | b'_')
+    }
 }
 
 /// The Char whose number these digits write.
