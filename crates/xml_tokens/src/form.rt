@@ -16,6 +16,7 @@ pub enum Form {
     Undecided,
 }
 
+#[inline]
 pub fn form_of(bytes: &[u8]) -> Form
     ensures { result ≡ form bytes.now }
 {

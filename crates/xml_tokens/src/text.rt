@@ -70,6 +70,7 @@ fn changed_lines_of(alloc: Global, bytes: &[u8]) -> Result<Text, Memory>
 }
 
 /// The text that bytes say in which references may stand.
+#[inline]
 pub fn said(alloc: Global, bytes: &[u8], context: Context) -> Result<Result<Text, BadText>, Memory>
     requires { IsUtf8 bytes.now }
     ensures { IfOk result (λ said. said ≡ span.text_said context bytes.now) }
@@ -116,6 +117,7 @@ fn made(out: Vec<u8>) -> Text
 }
 
 /// The bytes of what bytes say in which references stand.
+#[inline(never)]
 fn resolve(
     alloc: Global,
     bytes: &[u8],
