@@ -24,8 +24,10 @@ use Rattle.xml_events.specs.declared.front.Front.{Front}
 use Rattle.xml_events.specs.declared.front.Run.{Run}
 use Rattle.xml_events.specs.declared.front.Tag.{Tag}
 use Rattle.xml_events.specs.declared.reader.Core.{Core}
+use Rattle.xml_events.specs.declared.reader.Turn.{Turn}
+use Rattle.xml_events.specs.declared.reader.Turn.TheVariants as turn
 use Rattle.xml_events.specs.Before.{Before, fault_of, before_next, is_complete, is_inside}
-use Rattle.xml_events.specs.Cores.{source_of, lists_open, holds, answer_of, IsReading, IsSound, IsSame, Reads, Answers, Steps, Takes, Fails, Refuses, Receives, Ends}
+use Rattle.xml_events.specs.Cores.{source_of, lists_open, holds, answer_of, IsReading, IsSound, IsSame, Reaches, Reads, Answers, Turns, Takes, Fails, Refuses, Receives, Ends}
 use Rattle.xml_events.specs.Document.{Item, Reading, stops, completes, cuts, at_end, judged, reading_from, lists_of, with_items, finished}
 use Rattle.xml_events.specs.Document as document
 use Rattle.xml_events.specs.Answering.{OverBehind, EndsWhole, lists_behind}
@@ -167,8 +169,8 @@ module _ (old : Core) (reads : IsReading old) (going : old.over ≡ None) where
     -- the document has a fault
     pub step-failed : (new : Core) (q : Reader) (fault : XmlFault) →
         ((more : List ℕ) (ended : Bool) → lists_of (reading_from old.place.limits (before_of old.place) (later old.lexer more ended)) ≡ cuts (Bad fault) (names_of old.place)) →
-        IsSame old.lexer q → Fails fault (record old { lexer = q }) new → (answer : Pull) → answer ≡ pull.Bad fault → Answers old answer new
-    step-failed new q fault law same f answer is = subst (λ a. Answers old a new) (sym is) (record {
+        IsSame old.lexer q → Fails fault (record old { lexer = q }) new → (t : Turn) → t ≡ turn.Bad fault → Turns old t new
+    step-failed new q fault law same f t is = subst (λ a. Turns old a new) (sym is) (record {
       sound = subst (λ o. holds o new) (sym f.over) (ap (λ (x : Front). x.known.items) f.front ∙ known);
       same = record {
         ended = ap (λ (r : Reader). r.ended) f.lexer ∙ same.ended;
@@ -195,34 +197,36 @@ module _ (old : Core) (reads : IsReading old) (going : old.over ≡ None) where
           ∙ ap (λ x. shown x (cuts (Bad fault) (names_of old.place))) f.front
 
     -- a lexeme has a fault
-    pub step-refused : (mid new : Core) (l : Lexeme) (answer : Pull) → mid.place ≡ old.place → mid.front ≡ old.front → mid.over ≡ old.over → step.Lexeme l ≡ due old.lexer →
-        IsSame old.lexer mid.lexer → Refuses mid l answer new → Answers old answer new
-    step-refused mid new l answer place front over d same r0 =
+    pub step-refused : (mid new : Core) (l : Lexeme) (fault : XmlFault) → mid.place ≡ old.place → mid.front ≡ old.front → mid.over ≡ old.over → step.Lexeme l ≡ due old.lexer →
+        IsSame old.lexer mid.lexer → Refuses mid l fault new → Turns old (turn.Bad fault) new
+    step-refused mid new l fault place front over d same r0 =
         step-failed new mid.lexer (record { kind = r.kind; offset = l.offset })
         (λ more ended.
         ap lists_of (read-lexeme old.place.limits (before_of old.place) old.lexer more ended reads.fresh l (sym d)
         ∙ ap (λ f. judged f (before_of old.place) l (reading_from old.place.limits (before_next (before_of old.place) l.body) (later (after old.lexer (step.Lexeme l)) more ended))) r.faulty))
-        same r.fails answer r.answer_is where
+        same r.fails (turn.Bad fault) (ap turn.Bad r.fault_is) where
           mid_is : mid ≡ record old { lexer = mid.lexer }
           mid_is =
               ap (λ p. record mid { place = p }) place
               ∙ ap (λ f. record mid { place = old.place; front = f }) front
               ∙ ap (λ o. record mid { place = old.place; front = old.front; over = o }) over
 
-          r : Refuses (record old { lexer = mid.lexer }) l answer new
-          r = subst (λ m. Refuses m l answer new) mid_is r0
+          r : Refuses (record old { lexer = mid.lexer }) l fault new
+          r = subst (λ m. Refuses m l fault new) mid_is r0
 
     -- either of both
     pub received : (mid new : Core) (l : Lexeme) → mid.place ≡ old.place → mid.front ≡ old.front → mid.over ≡ old.over → step.Lexeme l ≡ due old.lexer → mid.lexer ≡ after old.lexer (step.Lexeme l) →
-        IsSame old.lexer mid.lexer → length mid.lexer.unread < length old.lexer.unread → (r : Result (Option Pull) Memory) → IfOk r (Receives mid l new) → IfOk r (Steps old new)
-    received mid new l place front over d is same shorter (Ok None) t = step-taken mid new l place front over d is same shorter t
-    received mid new l place front over d is same shorter (Ok (Some answer)) t = step-refused mid new l answer place front over d same t
-    received mid new l place front over d is same shorter (Err e) t = tt
+        IsSame old.lexer mid.lexer → length mid.lexer.unread < length old.lexer.unread → (t : Turn) → Receives mid l t new → Turns old t new
+    received mid new l place front over d is same shorter turn.Taken r = step-taken mid new l place front over d is same shorter r
+    received mid new l place front over d is same shorter (turn.Bad fault) r = step-refused mid new l fault place front over d same r
+    received mid new l place front over d is same shorter turn.Memory r = tt
+    received mid new l place front over d is same shorter turn.Need r = absurd r
+    received mid new l place front over d is same shorter (turn.End offset) r = absurd r
 
     -- the lexer has a fault
-    pub step-bad : (new : Core) (q : Reader) (fault : XmlFault) → step.Bad fault ≡ due old.lexer → IsSame old.lexer q → Fails fault (record old { lexer = q }) new → (answer : Pull) → answer ≡ pull.Bad fault → Answers old answer new
-    step-bad new q fault d same f answer is =
-        step-failed new q fault (λ more ended. ap lists_of (read-last old.place.limits (before_of old.place) old.lexer more ended reads.fresh (step.Bad fault) (λ l e. cc) (λ e. cc) (sym d))) same f answer is
+    pub step-bad : (new : Core) (q : Reader) (fault : XmlFault) → step.Bad fault ≡ due old.lexer → IsSame old.lexer q → Fails fault (record old { lexer = q }) new → (t : Turn) → t ≡ turn.Bad fault → Turns old t new
+    step-bad new q fault d same f t is =
+        step-failed new q fault (λ more ended. ap lists_of (read-last old.place.limits (before_of old.place) old.lexer more ended reads.fresh (step.Bad fault) (λ l e. cc) (λ e. cc) (sym d))) same f t is
 
     -- more bytes are wanted
     short : (held : Option Tag) (run : Option Run) → IsShort (tag_items held ++ run_items run)
@@ -279,12 +283,12 @@ module _ (old : Core) (reads : IsReading old) (going : old.over ≡ None) where
     outer_of true true e = absurd cc
     outer_of false true e = absurd cc
 
-    pub step-ends : (new : Core) (q : Reader) → step.End ≡ due old.lexer → old.lexer.ended ≡ true → IsSame old.lexer q → length q.unread ≤ length old.lexer.unread → (answer : Pull) → Ends (fed q) (is_complete (before_of old.place)) (record old { lexer = q }) answer new → Answers old answer new
+    pub step-ends : (new : Core) (q : Reader) → step.End ≡ due old.lexer → old.lexer.ended ≡ true → IsSame old.lexer q → length q.unread ≤ length old.lexer.unread → (t : Turn) → Ends (fed q) (is_complete (before_of old.place)) (record old { lexer = q }) t new → Turns old t new
     step-ends new q d over same shorter answer ends = by_whole (is_complete (before_of old.place)) refl ends where
-      by_whole : (t : Bool) → is_complete (before_of old.place) ≡ t → Ends (fed q) t (record old { lexer = q }) answer new → Answers old answer new
+      by_whole : (t : Bool) → is_complete (before_of old.place) ≡ t → Ends (fed q) t (record old { lexer = q }) answer new → Turns old answer new
       by_whole false whole e = step-failed new q (record { kind = Truncated; offset = fed q }) (last-lists q d over same false whole) same e.1 answer e.0
       by_whole true whole e =
-          subst (λ a. Answers old a new) (sym e.0) (subst (λ n. Answers old (pull.Event (event.DocumentEnd (fed q))) n) (sym e.1) (record {
+          subst (λ a. Turns old a new) (sym e.0) (subst (λ n. Answers old (pull.Event (event.DocumentEnd (fed q))) n) (sym e.1) (record {
             sound = (known, nothing);
             same = same;
             limits = refl;
@@ -434,3 +438,26 @@ step-repeats old over is sound answer a = subst (λ x. Answers old x old) (sym a
     wants = λ e. absurd cc;
     keeps = λ e. absurd cc;
   }
+
+-- An event that comes next where the same is to come as before came next before, too.
+pub told-after : (old mid new : Core) (e : Event) → Reaches old mid → Answers mid (pull.Event e) new → Answers old (pull.Event e) new
+told-after old mid new e r a = record {
+  sound = a.sound;
+  same = record { ended = a.same.ended ∙ r.same.ended; fed_is = a.same.fed_is ∙ r.same.fed_is; limits = a.same.limits ∙ r.same.limits };
+  limits = a.limits ∙ r.limits;
+  is_answer = λ more ended. ap pulled (sym (r.law more ended)) ∙ a.is_answer more ended;
+  leaves = λ more ended. sym (r.law more ended) ∙ a.leaves more ended;
+  shrinks = let fewer = r.fewer in let less = a.shrinks in omega (arith, fewer, less);
+  goes = λ none. a.goes r.going;
+  counts = λ more ended. a.counts more ended ∙ ap (λ f. lists_behind e (length f)) (r.law more ended);
+  whole = whole e a.whole;
+  wants = λ k. absurd cc;
+  keeps = λ k. absurd cc;
+} where
+  whole : (x : Event) → EndsWhole (source_of mid) (pull.Event x) → EndsWhole (source_of old) (pull.Event x)
+  whole (event.Start o name attrs decls first) w = tt
+  whole (event.End o) w = tt
+  whole (event.Chars o text) w = tt
+  whole (event.Comment o text) w = tt
+  whole (event.Pi o target text) w = tt
+  whole (event.DocumentEnd o) w = sym r.same.ended ∙ w

@@ -6,6 +6,8 @@ use Rattle.xml_tokens.specs.declared.lexeme.Ending.TheVariants as ending
 use Rattle.xml_events.specs.declared.event.Pull.{Pull}
 use Rattle.xml_events.specs.declared.event.Pull.TheVariants as pull
 use Rattle.xml_events.specs.declared.reader.Core.{Core}
+use Rattle.xml_events.specs.declared.reader.Turn.{Turn}
+use Rattle.xml_events.specs.declared.reader.Turn.TheVariants as turn
 use Rattle.xml_events.specs.declared.reader.EventReader.TheInside.{Inside}
 use Rattle.xml_events.specs.declared.event.Event.TheVariants as event
 use Rattle.xml_events.specs.declared.place.Word.{Word}
@@ -95,10 +97,13 @@ pub record Answers (old : Core) (answer : Pull) (new : Core) : Type 0 where
   pub wants : answer ≡ pull.Need → fed old.lexer ≤ old.lexer.limits.input
   pub keeps : answer ≡ pull.Need → Keeps (source_of new)
 
--- either of both
-abbrev pub Steps : (old new : Core) → Option Pull → Type 0
-Steps old new None = Reads old new
-Steps old new (Some answer) = Answers old answer new
+-- A lexeme was taken, or an answer is given. Want of memory is free.
+abbrev pub Turns : (old : Core) → Turn → (new : Core) → Type 0
+Turns old turn.Taken new = Reads old new
+Turns old turn.Need new = Answers old pull.Need new
+Turns old (turn.End offset) new = Answers old (pull.Event (event.DocumentEnd offset)) new
+Turns old (turn.Bad fault) new = Answers old (pull.Bad fault) new
+Turns old turn.Memory new = Unit {0}
 
 -- a lexeme without a fault was taken
 pub record Takes (old : Core) (l : Lexeme) (new : Core) : Type 0 where
@@ -118,23 +123,24 @@ pub record Fails (fault : XmlFault) (old new : Core) : Type 0 where
   pub over : new.over ≡ Some (ending.Bad fault)
 
 -- a lexeme has a fault
-pub record Refuses (old : Core) (l : Lexeme) (answer : Pull) (new : Core) : Type 0 where
+pub record Refuses (old : Core) (l : Lexeme) (fault : XmlFault) (new : Core) : Type 0 where
   pub kind : XmlKind
   pub faulty : fault_of old.place.limits (before_of old.place) l.body ≡ Some kind
-  pub answer_is : answer ≡ pull.Bad (record { kind = kind; offset = l.offset })
+  pub fault_is : fault ≡ record { kind = kind; offset = l.offset }
   pub fails : Fails (record { kind = kind; offset = l.offset }) old new
 
--- either of both
-abbrev pub Receives : Core → Lexeme → Core → Option Pull → Type 0
-Receives old l new None = Takes old l new
-Receives old l new (Some answer) = Refuses old l answer new
+-- either of both; want of memory is free
+abbrev pub Receives : (old : Core) → Lexeme → Turn → (new : Core) → Type 0
+Receives old l turn.Taken new = Takes old l new
+Receives old l (turn.Bad fault) new = Refuses old l fault new
+Receives old l turn.Memory new = Unit {0}
+Receives old l other new = ⊥
 
--- what a document's end is called by, where it has so many bytes
-abbrev pub Ends : (length : ℕ) → (complete : Bool) → (old : Core) → Pull → (new : Core) → Type 0
-Ends length true old answer new =
-    (answer ≡ pull.Event (event.DocumentEnd length)) × (new ≡ record old { over = Some ending.End })
-Ends length false old answer new =
-    (answer ≡ pull.Bad (record { kind = Truncated; offset = length })) × Fails (record { kind = Truncated; offset = length }) old new
+-- what a document's end comes to, where it has so many bytes
+abbrev pub Ends : (length : ℕ) → (complete : Bool) → (old : Core) → Turn → (new : Core) → Type 0
+Ends length true old t new = (t ≡ turn.End length) × (new ≡ record old { over = Some ending.End })
+Ends length false old t new =
+    (t ≡ turn.Bad (record { kind = Truncated; offset = length })) × Fails (record { kind = Truncated; offset = length }) old new
 
 -- the answer that is repeated
 abbrev pub answer_of : Ending → Pull

@@ -6,6 +6,7 @@ ghost use Rattle.xml_events.specs.Answering.{Counts, EndsWhole, Goes};
 ghost use Rattle.xml_events.specs.Document.{doc};
 ghost use Rattle.xml_events.specs.Source.{ended_there, fed_with, future, source, IsAnswer, Keeps, Leaves, Shrinks};
 ghost use Rattle.xml_events.specs.declared.event.Pull.TheVariants as pull;
+ghost use Rattle.xml_events.specs.declared.reader.Turn.TheVariants as turn;
 
 use crate::event::{Event, Pull};
 use crate::front::Front;
@@ -96,97 +97,100 @@ impl EventReader {
         if let Some(over) = self.core.over {
             return pull_of(over);
         }
-        match self.core.pull() {
-            Ok(pull) => pull,
-            Err(Memory) => {
-                self.core.over = Some(Ending::Memory);
-                Pull::Memory
-            }
-        }
+        self.core.pull()
     }
 }
 
+/// What the next lexeme comes to.
+enum Turn {
+    /// It was taken.
+    Taken,
+    /// There is none yet.
+    Need,
+    /// There is none, and the document has so many bytes.
+    End(u64),
+    Bad(XmlFault),
+    Memory,
+}
+
 impl Core {
-    ghost use Rattle.xml_events.specs.Cores.{Answers, Ends, Fails, IsReading, IsSame, Receives, Steps};
+    ghost use Rattle.xml_events.specs.Cores.{Answers, Ends, Fails, IsReading, IsSame, Receives, Turns};
     ghost use Rattle.xml_events.specs.Before as spec;
     ghost use Rattle.xml_events.specs.Taking.{before_of, IsFit};
 
-    // No answer is repeated yet.
-    fn pull(&mut self) -> Result<Pull, Memory>
+    // No answer is repeated yet. What is read stays in the front until it is given, since events are large to move.
+    #[inline(always)]
+    fn pull(&mut self) -> Pull
         requires reads { IsReading self.old }
         requires going { self.old.over ≡ None }
-        ensures ok { IfOk result (λ answer. Answers self.old answer self.new) }
-        ensures same { IsSame self.old.lexer self.new.lexer }
-        ensures limits { self.new.place.limits ≡ self.old.place.limits }
+        ensures answers { Answers self.old result self.new }
     {
         loop {
-            if let Some(pull) = self.step()? {
-                return Ok(pull);
+            if let Some(event) = self.front.give() {
+                return Pull::Event(event);
+            }
+            match self.read() {
+                Turn::Taken => {}
+                Turn::Need => return Pull::Need,
+                Turn::End(offset) => return Pull::Event(Event::DocumentEnd { offset }),
+                Turn::Bad(fault) => return Pull::Bad(fault),
+                Turn::Memory => {
+                    self.over = Some(Ending::Memory);
+                    return Pull::Memory;
+                }
             }
         }
     }
 
-    // The next answer, unless a lexeme was taken.
-    fn step(&mut self) -> Result<Option<Pull>, Memory>
-        requires reads { IsReading self.old }
-        requires going { self.old.over ≡ None }
-        ensures ok { IfOk result (Steps self.old self.new) }
-        ensures same { IsSame self.old.lexer self.new.lexer }
-        ensures limits { self.new.place.limits ≡ self.old.place.limits }
-    {
-        if let Some(event) = self.front.give() {
-            return Ok(Some(Pull::Event(event)));
-        }
-        self.read()
-    }
-
-    // Reads a lexeme.
-    fn read(&mut self) -> Result<Option<Pull>, Memory>
+    // Reads a lexeme. It stays a function by itself, so that an event that is known is given without its frame.
+    #[inline(never)]
+    fn read(&mut self) -> Turn
         requires reads { IsReading self.old }
         requires going { self.old.over ≡ None }
         requires none { self.old.front.known.items ≡ [] }
-        ensures ok { IfOk result (Steps self.old self.new) }
+        ensures turns { Turns self.old result self.new }
         ensures same { IsSame self.old.lexer self.new.lexer }
         ensures limits { self.new.place.limits ≡ self.old.place.limits }
     {
         match self.lexer.next() {
             Step::Lexeme(lexeme) => self.take(lexeme),
-            Step::Need => Ok(Some(Pull::Need)),
-            Step::End => Ok(Some(self.end())),
-            Step::Bad(fault) => Ok(Some(self.fail(fault))),
-            Step::Memory => Err(Memory),
+            Step::Need => Turn::Need,
+            Step::End => self.end(),
+            Step::Bad(fault) => self.fail(fault),
+            Step::Memory => Turn::Memory,
         }
     }
 
-    fn take(&mut self, lexeme: Lexeme) -> Result<Option<Pull>, Memory>
+    fn take(&mut self, lexeme: Lexeme) -> Turn
         requires fit { IsFit self.old.place }
         requires none { self.old.front.known.items ≡ [] }
-        ensures ok { IfOk result (Receives self.old lexeme self.new) }
+        ensures receives { Receives self.old lexeme result self.new }
         ensures lexer { self.new.lexer ≡ self.old.lexer }
         ensures limits { self.new.place.limits ≡ self.old.place.limits }
     {
         let Lexeme { offset, body } = lexeme;
         match self.place.take(body) {
-            Ok(word) => {
-                self.front.take(offset, word)?;
-                Ok(None)
-            }
-            Err(Refusal::Xml(kind)) => Ok(Some(self.fail(XmlFault { kind, offset }))),
-            Err(Refusal::Memory) => Err(Memory),
+            Ok(word) => match self.front.take(offset, word) {
+                Ok(()) => Turn::Taken,
+                Err(Memory) => Turn::Memory,
+            },
+            Err(Refusal::Xml(kind)) => self.fail(XmlFault { kind, offset }),
+            Err(Refusal::Memory) => Turn::Memory,
         }
     }
 
-    fn fail(&mut self, fault: XmlFault) -> Pull
-        ensures answer { result ≡ pull.Bad fault }
+    fn fail(&mut self, fault: XmlFault) -> Turn
+        ensures turn { result ≡ turn.Bad fault }
         ensures fails { Fails fault self.old self.new }
     {
         self.over = Some(Ending::Bad(fault));
-        Pull::Bad(fault)
+        Turn::Bad(fault)
     }
 
     // No bytes are left.
-    fn end(&mut self) -> Pull
-        ensures { fed self.old.lexer < 2 ^ 64 → Ends (fed self.old.lexer) (spec.is_complete (before_of self.old.place)) self.old result self.new }
+    fn end(&mut self) -> Turn
+        ensures lexer { self.new.lexer ≡ self.old.lexer }
+        ensures ends { fed self.old.lexer < 2 ^ 64 → Ends (fed self.old.lexer) (spec.is_complete (before_of self.old.place)) self.old result self.new }
     {
         let offset = self.lexer.fed();
         if !self.place.is_complete() {
@@ -196,7 +200,7 @@ impl Core {
             });
         }
         self.over = Some(Ending::End);
-        Pull::Event(Event::DocumentEnd { offset })
+        Turn::End(offset)
     }
 }
 
