@@ -54,7 +54,10 @@ impl Front {
         }
     }
 
+    // Tags and events are large: where what follows is inlined, they are moved less often.
+
     /// The next event that is known.
+    #[inline(always)]
     pub fn give(&mut self) -> Option<Event>
         ensures { MatchOption result (IsDry self.old self.new) (Gives self.old self.new) }
     {
@@ -62,6 +65,7 @@ impl Front {
     }
 
     /// Takes what a lexeme at a place is in the tree.
+    #[inline(always)]
     pub fn take(&mut self, offset: u64, word: Word) -> Result<(), Memory>
         requires { self.old.known.items ≡ [] }
         ensures { OnOk result (TakesItems (items_at offset word) self.old self.new) }
@@ -84,6 +88,7 @@ impl Front {
         }
     }
 
+    #[inline(always)]
     fn say(&mut self, offset: u64, text: Text) -> Result<(), Memory>
         requires { self.old.known.items ≡ [] }
         ensures { OnOk result (TakesItems (Says offset text ∷ []) self.old self.new) }
@@ -97,6 +102,7 @@ impl Front {
         }
     }
 
+    #[inline(always)]
     fn open(&mut self, tag: Tag) -> Result<(), Memory>
         requires { self.old.known.items ≡ [] }
         ensures { OnOk result (TakesItems (Opens (element_at tag.offset tag.resolved) ∷ []) self.old self.new) }
@@ -106,6 +112,7 @@ impl Front {
         Ok(())
     }
 
+    #[inline(always)]
     fn open_and_close(&mut self, tag: Tag) -> Result<(), Memory>
         requires { self.old.known.items ≡ [] }
         ensures { OnOk result (TakesItems (Opens (element_at tag.offset tag.resolved) ∷ Closes tag.offset ∷ []) self.old self.new) }
@@ -117,6 +124,7 @@ impl Front {
     }
 
     // An event follows that `first` tells, where it is the first child.
+    #[inline(always)]
     fn follow(&mut self, first: First, event: Event) -> Result<(), Memory>
         requires known { self.old.known.items ≡ [] }
         requires plain { IsPlain event first }
@@ -141,6 +149,7 @@ impl Front {
     }
 
     // The text, where it is a node.
+    #[inline(always)]
     fn take_text(&mut self) -> Option<Run>
         ensures { TakesText self.old self.new result }
     {
@@ -152,6 +161,7 @@ impl Front {
         }
     }
 
+    #[inline(always)]
     fn begin(&mut self, first: First) -> Result<(), Memory>
         ensures { OnOk result (Begins first self.old self.new) }
     {
@@ -161,6 +171,7 @@ impl Front {
         }
     }
 
+    #[inline(always)]
     fn begin_with(&mut self, text: &Text) -> Result<(), Memory>
         ensures { OnOk result (Begins (child.Chars text.now) self.old self.new) }
     {
@@ -173,6 +184,7 @@ impl Front {
         }
     }
 
+    #[inline(always)]
     fn start(&mut self, tag: Tag, first: First) -> Result<(), Memory>
         ensures { OnOk result (Pushes (started tag first) self.old self.new) }
     {
@@ -187,10 +199,13 @@ impl Front {
         })
     }
 
+    #[inline(always)]
     fn push(&mut self, event: Event) -> Result<(), Memory>
         ensures { OnOk result (Pushes (event ∷ []) self.old self.new) }
     {
-        self.known.push_back(event)?;
+        // Without room first, a refusal would carry the event back.
+        self.known.reserve(1)?;
+        self.known.push_back_reserved(event);
         Ok(())
     }
 }
