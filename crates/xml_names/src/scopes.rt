@@ -1,12 +1,12 @@
-ghost use Rattle.std.specs.Prelude.{◌≡◌, ◌<◌, ◌-◌, ◌++◌, ◌∷◌, [], None, IfOk, IfErr, OnOk, OnErr, length, take, unwrap_or};
+ghost use Rattle.std.specs.Prelude.{◌≡◌, ◌<◌, ◌-◌, ◌++◌, ◌∷◌, [], None, true, not, ◌&&◌, codes, IfOk, IfErr, MatchOption, OnOk, OnErr, length, take, unwrap_or};
 ghost use Rattle.std.specs.List.{list_all};
 ghost use Rattle.std.specs.Option.{option_map};
 ghost use Rattle.std.specs.Str.{chars};
 ghost use Rattle.xml_names.specs.QName.{is_qname};
 ghost use Rattle.xml_names.specs.Scope as scope;
-ghost use Rattle.xml_names.specs.Scope.{bound};
+ghost use Rattle.xml_names.specs.Scope.{bound, same};
 ghost use Rattle.xml_names.specs.Tag as spec;
-ghost use Rattle.xml_names.specs.Tag.{declarations, name_fault, resolved, scope_fault, IsCause};
+ghost use Rattle.xml_names.specs.Tag.{declarations, name_fault, resolved, scope_fault, IsBound, IsCause};
 
 use crate::declaration::{XML_URI, declarations, declared_prefix, has_bad_binding};
 use crate::in_force::InForce;
@@ -146,9 +146,9 @@ impl Scopes {
         ensures fault { IfErr result (IsCause (scope_fault self.now name.now attrs)) }
         ensures value { IfOk result (λ tag. tag ≡ spec.said self.now name.now attrs decls) }
     {
-        if self.has_undeclared_prefix(name.as_str(), attrs.as_slice()) {
+        let Some(parts) = self.bound_parts(name.as_str(), attrs.as_slice()) else {
             return Err(NameFault::Xml(XmlKind::UndeclaredPrefix));
-        }
+        };
         if has_written_twins(self.alloc, attrs.as_slice())? {
             return Err(NameFault::Xml(XmlKind::DuplicateAttribute));
         }
@@ -156,7 +156,7 @@ impl Scopes {
         if has_expanded_twins(self.alloc, attrs.as_slice())? {
             return Err(NameFault::Xml(XmlKind::DuplicateAttribute));
         }
-        let name = self.element_name(name.as_str())?;
+        let name = self.element_name(parts)?;
         Ok(Resolved { name, attrs, decls })
     }
 
@@ -166,10 +166,9 @@ impl Scopes {
         is_empty(prefix) || self.uri(prefix).is_some()
     }
 
-    fn is_element_bound(&self, name: &str) -> bool
-        ensures { result ≡ spec.is_element_bound self.now (chars name.now) }
+    fn is_element_bound(&self, prefix: &str) -> bool
+        ensures { result ≡ (not (same (chars prefix.now) (codes "xmlns")) && spec.is_prefix_bound self.now (chars prefix.now)) }
     {
-        let prefix = parts_of(name).prefix;
         !is_word(prefix, "xmlns") && self.is_prefix_bound(prefix)
     }
 
@@ -187,10 +186,16 @@ impl Scopes {
             .all(|attr| self.is_attribute_bound(attr.name.as_str()))
     }
 
-    fn has_undeclared_prefix(&self, name: &str, attrs: &[RawAttr]) -> bool
-        ensures { result ≡ spec.has_undeclared_prefix self.now (chars name.now) attrs.now }
+    /// The parts of an element's name, unless a prefix in its tag isn't bound.
+    fn bound_parts<'n>(&self, name: &'n str, attrs: &[RawAttr]) -> Option<Parts<'n>>
+        ensures { MatchOption result (spec.has_undeclared_prefix self.now (chars name.now) attrs.now ≡ true) (λ parts. IsBound self.now (chars name.now) attrs.now (chars parts.prefix.now) (chars parts.local.now)) }
     {
-        !(self.is_element_bound(name) && self.are_attributes_bound(attrs))
+        let parts = parts_of(name);
+        if self.is_element_bound(parts.prefix) && self.are_attributes_bound(attrs) {
+            Some(parts)
+        } else {
+            None
+        }
     }
 
     /// The URI that a prefix is bound to, and the empty text where it isn't.
@@ -203,10 +208,9 @@ impl Scopes {
         }
     }
 
-    fn element_name(&self, name: &str) -> Result<Name, Memory>
-        ensures { IfOk result (λ made. made ≡ scope.element_name self.now (chars name.now)) }
+    fn element_name(&self, parts: Parts<'_>) -> Result<Name, Memory>
+        ensures { IfOk result (λ made. made ≡ record { uri = unwrap_or (bound self.now (chars parts.entry.prefix.now)) []; local = chars parts.entry.local.now; prefix = chars parts.entry.prefix.now }) }
     {
-        let parts = parts_of(name);
         self.name(self.bound_uri(parts.prefix), parts)
     }
 
