@@ -61,6 +61,7 @@ impl Scopes {
     }
 
     /// Enters an element by its start tag. After a refusal the scopes are unchanged, and the attributes are dropped.
+    #[inline(always)]
     pub fn enter(&mut self, name: &Text, attrs: List<RawAttr>) -> Result<Resolved, NameFault>
         // It is taken only where it has no fault.
         ensures taken { OnOk result (name_fault self.old name.now attrs ≡ None) }
@@ -208,6 +209,7 @@ impl Scopes {
         }
     }
 
+    #[inline(always)]
     fn element_name(&self, parts: Parts<'_>) -> Result<Name, Memory>
         ensures { IfOk result (λ made. made ≡ record { uri = unwrap_or (bound self.now (chars parts.entry.prefix.now)) []; local = chars parts.entry.local.now; prefix = chars parts.entry.prefix.now }) }
     {
@@ -239,6 +241,7 @@ impl Scopes {
         self.name(self.attribute_uri(parts.prefix), parts)
     }
 
+    #[inline(always)]
     fn name(&self, uri: &str, parts: Parts<'_>) -> Result<Name, Memory>
         ensures { IfOk result (λ made. made ≡ record { uri = chars uri.now; local = chars parts.entry.local.now; prefix = chars parts.entry.prefix.now }) }
     {
@@ -249,6 +252,7 @@ impl Scopes {
     }
 
     /// The same characters. Most names have neither URI nor prefix, and the empty text is made without a copy.
+    #[inline(always)]
     fn text(&self, text: &str) -> Result<Text, Memory>
         ensures { IfOk result (λ made. made ≡ chars text.now) }
     {
@@ -259,10 +263,11 @@ impl Scopes {
         }
     }
 
+    #[inline(always)]
     fn attributes(&self, attrs: List<RawAttr>) -> Result<List<Attr>, Memory>
         ensures { IfOk result (λ made. made ≡ spec.attributes self.now attrs) }
     {
-        let mut made = List::new(self.alloc);
+        let mut made = List::from_vec(Vec::with_capacity(self.alloc, attrs.len())?);
         for attr in attrs.into_vec() {
             let RawAttr { name, value } = attr;
             if declared_prefix(name.as_str()).is_none() {
