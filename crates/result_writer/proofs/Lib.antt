@@ -2,6 +2,7 @@ mod Apart
 mod Attributed
 mod Bound
 mod Judging
+mod Naming
 mod Nesting
 mod Opening
 mod Prefixing

@@ -1,4 +1,4 @@
-ghost use Rattle.std.specs.Prelude.{◌≡◌, ◌++◌, ◌≤◌, length, take, OnOk};
+ghost use Rattle.std.specs.Prelude.{◌≡◌, ◌++◌, ◌∷◌, ◌≤◌, [], length, take, true, OnOk};
 ghost use Rattle.std.specs.Option.{option_copied};
 ghost use Rattle.result_writer.specs.Escape.{reference_of, written, escaped};
 
@@ -29,13 +29,24 @@ fn reference(context: Context, byte: u8) -> Option<&'static [u8]>
     }
 }
 
+// Whether a byte stands for itself.
+#[inline(always)]
+fn is_plain(context: Context, byte: u8) -> bool
+    ensures { result ≡ true → written context byte ≡ byte ∷ [] }
+{
+    match context {
+        Context::Content => !matches!(byte, b'&' | b'<' | b'>' | b'\r'),
+        Context::Value => !matches!(byte, b'&' | b'<' | b'"' | b'\t' | b'\n' | b'\r'),
+    }
+}
+
 // How many bytes at the front stand for themselves.
 fn plain_len(context: Context, bytes: &[u8]) -> usize
     ensures within { result ≤ length bytes.now }
     ensures plain { escaped context (take result bytes.now) ≡ take result bytes.now }
 {
     for (at, byte) in bytes.iter().enumerate() {
-        if reference(context, *byte).is_some() {
+        if !is_plain(context, *byte) {
             return at;
         }
     }
