@@ -1,7 +1,7 @@
 -- What the fields of a target mean.
 use Rattle.std.specs.Prelude.{◌≡◌, ℕ, ◌+◌, ◌-◌, true, List, [], ◌∷◌, ◌++◌, Option, Some, None, length, take, drop, reverse}
 use Rattle.stx_base.specs.declared.name.Binding.{Binding}
-use Rattle.result_writer.specs.Steady.{keep_bindings}
+use Rattle.result_writer.specs.Steady.{given, keep_bindings}
 use Rattle.result_writer.specs.Target.{Element, Target}
 use Rattle.result_writer.specs.declared.opened.Around.{Around}
 use Rattle.result_writer.specs.declared.opened.OpenElement.{OpenElement}
@@ -36,6 +36,11 @@ last_scope (Some tag) scope = tag.scope
 pub record IsSound (t : Inside) : Type 0 where
   pub counted : declared_by (reverse t.around.elements.items) ≡ length t.around.bindings.items
   pub kept : t.around.keeps ≡ true → keep_bindings t.around.bindings.items (last_scope t.held t.around.scope) ≡ true
+
+-- what is written with the tag that is held back, if there is one
+abbrev pub dressing : Option HeldTag → Option Dressed → Option Dressed
+dressing None d = None
+dressing (Some tag) d = Some (given tag d)
 
 -- The element of a tag is open once it is settled.
 

@@ -1,5 +1,5 @@
 -- Tags whose prefixes are all in force already, so that they declare nothing (Namespaces in XML 1.0, 6).
-use Rattle.std.specs.Prelude.{ℕ, Bool, not, ◌&&◌, ◌||◌, List, [], codes, map}
+use Rattle.std.specs.Prelude.{ℕ, Bool, not, ◌&&◌, ◌||◌, List, [], Option, Some, None, codes, map}
 use Rattle.std.specs.List.{list_all}
 use Rattle.stx_base.specs.declared.name.Attr.{Attr}
 use Rattle.stx_base.specs.declared.name.Binding.{Binding}
@@ -36,3 +36,8 @@ own_prefixes = map (λ a. a.name.prefix)
 -- nothing is declared, and each attribute has its own prefix
 abbrev pub undressed : List Attr → Dressed
 undressed attrs = record { declared = []; prefixes = own_prefixes attrs }
+
+-- what a tag is written with: what is said, or else nothing beside its names and values
+abbrev pub given : HeldTag → Option Dressed → Dressed
+given tag None = undressed tag.attrs
+given tag (Some d) = d

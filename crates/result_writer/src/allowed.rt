@@ -29,7 +29,11 @@ fn begins_name(byte: u8) -> bool
 fn is_in_name(byte: u8) -> bool
     ensures { result ≡ (nat_lt byte 128 && is_ncname_char byte) }
 {
-    matches!(byte, b'a'..=b'z' | b'A'..=b'Z' | b'0'..=b'9' | b'-' | b'.' | b'_')
+    if byte >= b'a' {
+        byte <= b'z'
+    } else {
+        matches!(byte, b'A'..=b'Z' | b'0'..=b'9' | b'-' | b'.' | b'_')
+    }
 }
 
 /// Whether bytes are an NCName of ASCII characters.

@@ -3,16 +3,15 @@ ghost use Rattle.std.specs.Option.{option_copied};
 ghost use Rattle.stx_base.specs.declared.name.Attr.{Attr};
 ghost use Rattle.stx_base.specs.declared.name.Name.{Name};
 ghost use Rattle.stx_base.specs.declared.part.Part.TheVariants.{Start, Attribute, End, Chars};
-ghost use Rattle.result_writer.specs.Opened.{last_scope, SameAround, Settles};
+ghost use Rattle.result_writer.specs.Opened.{dressing, last_scope, SameAround, Settles};
 ghost use Rattle.result_writer.specs.Steady.{keep_bindings};
 ghost use Rattle.result_writer.specs.Target as spec;
-ghost use Rattle.result_writer.specs.Target.{behind, comment_text, depth, dressed_in, end_text, fresh, innermost, instruction_text, is_closed, settles, tag_text, with_attribute, IsCause};
+ghost use Rattle.result_writer.specs.Target.{behind, comment_text, depth, dressed_in, end_text, fresh, innermost, instruction_text, is_closed, tag_text, with_attribute, IsCause};
 
 use crate::allowed::{
     are_chars, is_good_attribute, is_good_comment, is_good_data, is_good_name, is_good_target,
 };
 use crate::attributes::Attributes;
-use crate::escape::{Context, append_escaped};
 use crate::fault::{ResultFault, WriteStop};
 use crate::steady::{copy_unless_same, keep_bindings};
 use crate::tag::{Dressed, HeldTag, append_end_tag, append_open_tag, dress};
@@ -93,7 +92,7 @@ impl Opened {
         if let Some(fault) = self.fault(part) {
             return Err(WriteStop::Fault(fault));
         }
-        let dressed = self.dressed_for(part)?;
+        let dressed = self.dressed()?;
         let part = part.copy(self.alloc)?;
         self.take(part, dressed)?;
         Ok(())
@@ -132,7 +131,7 @@ impl Opened {
         }
     }
 
-    fn attribute_fault(&self, name: &Name, value: &Text) -> Option<ResultFault>
+    pub(crate) fn attribute_fault(&self, name: &Name, value: &Text) -> Option<ResultFault>
         ensures { result ≡ spec.attribute_fault self.now.left name.now value.now }
     {
         if !is_good_attribute(name) {
@@ -146,7 +145,7 @@ impl Opened {
         }
     }
 
-    fn end_fault(&self, name: &Name) -> Option<ResultFault>
+    pub(crate) fn end_fault(&self, name: &Name) -> Option<ResultFault>
         ensures { result ≡ spec.end_fault self.now.left name.now }
     {
         if !is_good_name(name) {
@@ -181,58 +180,17 @@ impl Opened {
         }
     }
 
-    /// What is written with the tag that a part settles, if it settles one.
-    pub(crate) fn dressed_for(&self, part: &Part) -> Result<Option<Dressed>, Memory>
-        ensures { IfOk result (λ d. d ≡ spec.dressed_for self.now.left part.now) }
-    {
-        match part {
-            Part::Attribute { .. } => Ok(None),
-            Part::Start { .. }
-            | Part::End { .. }
-            | Part::Chars { .. }
-            | Part::Comment { .. }
-            | Part::Pi { .. } => self.dressed(),
-        }
-    }
-
+    /// What is written with the tag that is held back, where that is more than its names and values.
+    #[inline]
     pub(crate) fn dressed(&self) -> Result<Option<Dressed>, Memory>
-        ensures { IfOk result (λ d. d ≡ dressed_in self.now.left.elements self.now.left.held) }
+        ensures { IfOk result (λ d. dressing self.now.left.held d ≡ dressed_in self.now.left.elements self.now.left.held) }
     {
         match &self.held {
             None => Ok(None),
             Some(tag) => {
                 let around = &self.around;
                 let dressed = dress(self.alloc, &around.bindings, tag, around.keeps)?;
-                Ok(Some(dressed))
-            }
-        }
-    }
-
-    /// Appends the bytes that a part settles.
-    pub(crate) fn append(
-        &self,
-        part: &Part,
-        dressed: &Option<Dressed>,
-        out: &mut Vec<u8>,
-    ) -> Result<(), Memory>
-        requires { dressed.now ≡ spec.dressed_for self.now.left part.now }
-        ensures { OnOk result (out.new.items ≡ out.old.items ++ settles self.now.left part.now) }
-    {
-        match part {
-            Part::Start { .. } => self.append_tag(dressed, b">", out),
-            Part::Attribute { .. } => Ok(()),
-            Part::End { .. } => self.append_end(dressed, out),
-            Part::Chars { text } => {
-                self.append_tag(dressed, b">", out)?;
-                append_escaped(Context::Content, text.as_str().as_bytes(), out)
-            }
-            Part::Comment { text } => {
-                self.append_tag(dressed, b">", out)?;
-                append_comment(text, out)
-            }
-            Part::Pi { target, text } => {
-                self.append_tag(dressed, b">", out)?;
-                append_instruction(target, text, out)
+                Ok(dressed)
             }
         }
     }
@@ -244,13 +202,10 @@ impl Opened {
         end: &[u8],
         out: &mut Vec<u8>,
     ) -> Result<(), Memory>
-        requires { dressed.now ≡ dressed_in self.now.left.elements self.now.left.held }
+        requires { dressing self.now.left.held dressed.now ≡ dressed_in self.now.left.elements self.now.left.held }
         ensures { OnOk result (out.new.items ≡ out.old.items ++ tag_text self.now.left.elements self.now.left.held end.now) }
     {
         let Some(tag) = &self.held else {
-            return Ok(());
-        };
-        let Some(dressed) = dressed else {
             return Ok(());
         };
         append_open_tag(tag, dressed, out)?;
@@ -259,8 +214,12 @@ impl Opened {
     }
 
     /// Appends the end of the innermost element.
-    fn append_end(&self, dressed: &Option<Dressed>, out: &mut Vec<u8>) -> Result<(), Memory>
-        requires { dressed.now ≡ dressed_in self.now.left.elements self.now.left.held }
+    pub(crate) fn append_end(
+        &self,
+        dressed: &Option<Dressed>,
+        out: &mut Vec<u8>,
+    ) -> Result<(), Memory>
+        requires { dressing self.now.left.held dressed.now ≡ dressed_in self.now.left.elements self.now.left.held }
         ensures { OnOk result (out.new.items ≡ out.old.items ++ end_text self.now.left.elements self.now.left.held) }
     {
         if self.held.is_some() {
@@ -273,8 +232,8 @@ impl Opened {
     }
 
     /// Takes a part that is accepted. After a refusal all is unchanged.
-    pub(crate) fn take(&mut self, part: Part, dressed: Option<Dressed>) -> Result<(), Memory>
-        requires { dressed ≡ spec.dressed_for self.old.left part }
+    fn take(&mut self, part: Part, dressed: Option<Dressed>) -> Result<(), Memory>
+        requires { dressing self.old.left.held dressed ≡ dressed_in self.old.left.elements self.old.left.held }
         ensures ok { OnOk result (self.new ≡ behind self.old part) }
         ensures err { OnErr result (self.new ≡ self.old) }
     {
@@ -300,7 +259,7 @@ impl Opened {
         scope: &List<Binding>,
         dressed: Option<Dressed>,
     ) -> Result<(), Memory>
-        requires { dressed ≡ dressed_in self.old.left.elements self.old.left.held }
+        requires { dressing self.old.left.held dressed ≡ dressed_in self.old.left.elements self.old.left.held }
         ensures ok { OnOk result (self.new ≡ behind self.old (Start name scope.now)) }
         ensures err { OnErr result (self.new ≡ self.old) }
     {
@@ -316,7 +275,7 @@ impl Opened {
         Ok(())
     }
 
-    fn add_attribute(&mut self, name: Name, value: Text) -> Result<(), Memory>
+    pub(crate) fn add_attribute(&mut self, name: Name, value: Text) -> Result<(), Memory>
         ensures ok { OnOk result (self.new ≡ behind self.old (Attribute name value)) }
         ensures err { OnErr result (self.new ≡ self.old) }
     {
@@ -326,7 +285,7 @@ impl Opened {
         }
     }
 
-    fn end(&mut self)
+    pub(crate) fn end(&mut self)
         ensures { (name : Name) → self.new ≡ behind self.old (End name) }
     {
         match self.held.take() {
@@ -342,8 +301,8 @@ impl Opened {
     }
 
     /// The tag that is held back is settled: its element is open. After a refusal all is unchanged.
-    fn settle(&mut self, dressed: Option<Dressed>) -> Result<(), Memory>
-        requires { dressed ≡ dressed_in self.old.left.elements self.old.left.held }
+    pub(crate) fn settle(&mut self, dressed: Option<Dressed>) -> Result<(), Memory>
+        requires { dressing self.old.left.held dressed ≡ dressed_in self.old.left.elements self.old.left.held }
         ensures ok { OnOk result (self.new ≡ behind self.old (Chars [])) }
         ensures err { OnErr result (self.new ≡ self.old) }
     {
@@ -371,6 +330,22 @@ impl Around {
         let _ = self.bindings.append(&mut declared.into_vec());
     }
 
+    /// Opens an element that declares nothing. What its tag came with is kept.
+    fn open_undressed(&mut self, tag: HeldTag)
+        requires { vec_len self.old.elements < vec_capacity self.old.elements }
+        ensures elements { self.new.elements.items ≡ self.old.elements.items ++ record { name = tag.name; declared = 0 } ∷ [] }
+        ensures bindings { self.new.bindings ≡ self.old.bindings }
+        ensures scope { self.new.scope ≡ tag.scope }
+        ensures keeps { self.new.keeps ≡ self.old.keeps }
+    {
+        let element = OpenElement {
+            name: tag.name,
+            declared: 0,
+        };
+        self.scope = tag.scope;
+        let _ = self.elements.push(element);
+    }
+
     /// The scope of the next tag: the last one, unless it is another.
     fn take_scope(&mut self, alloc: Global, other: Option<List<Binding>>) -> List<Binding>
         ensures scope { result ≡ unwrap_or other self.old.scope }
@@ -394,13 +369,40 @@ fn settle_tag(
     held: &mut Option<HeldTag>,
     dressed: Option<Dressed>,
 ) -> Result<(), Memory>
-    requires { is_some dressed ≡ is_some held.old }
-    ensures ok { OnOk result (Settles around.old held.old dressed around.new held.new) }
+    ensures ok { OnOk result (Settles around.old held.old (dressing held.old dressed) around.new held.new) }
     ensures err { OnErr result (SameAround around.old around.new × (held.new ≡ held.old)) }
 {
-    let Some(Dressed { declared, .. }) = dressed else {
-        return Ok(());
-    };
+    match dressed {
+        None => settle_undressed(around, held),
+        Some(dressed) => settle_dressed(around, held, dressed),
+    }
+}
+
+/// The same of a tag that is written with its names and values alone.
+fn settle_undressed(around: &mut Around, held: &mut Option<HeldTag>) -> Result<(), Memory>
+    ensures ok { OnOk result (Settles around.old held.old (dressing held.old None) around.new held.new) }
+    ensures err { OnErr result (SameAround around.old around.new × (held.new ≡ held.old)) }
+{
+    around.elements.reserve(1)?;
+    if let Some(tag) = held.take() {
+        around.open_undressed(tag);
+    }
+    Ok(())
+}
+
+/// The same of a tag that is written with more.
+fn settle_dressed(
+    around: &mut Around,
+    held: &mut Option<HeldTag>,
+    dressed: Dressed,
+) -> Result<(), Memory>
+    ensures ok { OnOk result (Settles around.old held.old (dressing held.old (Some dressed)) around.new held.new) }
+    ensures err { OnErr result (SameAround around.old around.new × (held.new ≡ held.old)) }
+{
+    let Dressed {
+        declared,
+        prefixes: _prefixes,
+    } = dressed;
     around.elements.reserve(1)?;
     around.bindings.reserve(declared.len())?;
     if let Some(tag) = held.take() {
@@ -419,7 +421,7 @@ fn last_scope<'a>(held: &'a Option<HeldTag>, scope: &'a List<Binding>) -> &'a Li
     }
 }
 
-fn chars_fault(text: &Text) -> Option<ResultFault>
+pub fn chars_fault(text: &Text) -> Option<ResultFault>
     ensures { result ≡ spec.chars_fault text.now }
 {
     if are_chars(text) {
@@ -429,7 +431,7 @@ fn chars_fault(text: &Text) -> Option<ResultFault>
     }
 }
 
-fn comment_fault(text: &Text) -> Option<ResultFault>
+pub fn comment_fault(text: &Text) -> Option<ResultFault>
     ensures { result ≡ spec.comment_fault text.now }
 {
     if !are_chars(text) {
@@ -441,7 +443,7 @@ fn comment_fault(text: &Text) -> Option<ResultFault>
     }
 }
 
-fn instruction_fault(target: &Text, text: &Text) -> Option<ResultFault>
+pub fn instruction_fault(target: &Text, text: &Text) -> Option<ResultFault>
     ensures { result ≡ spec.instruction_fault target.now text.now }
 {
     if !are_chars(text) {
@@ -453,7 +455,7 @@ fn instruction_fault(target: &Text, text: &Text) -> Option<ResultFault>
     }
 }
 
-fn append_comment(text: &Text, out: &mut Vec<u8>) -> Result<(), Memory>
+pub fn append_comment(text: &Text, out: &mut Vec<u8>) -> Result<(), Memory>
     ensures { OnOk result (out.new.items ≡ out.old.items ++ comment_text text.now) }
 {
     out.extend_from_slice(b"<!--")?;
@@ -462,7 +464,7 @@ fn append_comment(text: &Text, out: &mut Vec<u8>) -> Result<(), Memory>
     Ok(())
 }
 
-fn append_instruction(target: &Text, text: &Text, out: &mut Vec<u8>) -> Result<(), Memory>
+pub fn append_instruction(target: &Text, text: &Text, out: &mut Vec<u8>) -> Result<(), Memory>
     ensures { OnOk result (out.new.items ≡ out.old.items ++ instruction_text target.now text.now) }
 {
     out.extend_from_slice(b"<?")?;

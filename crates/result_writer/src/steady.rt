@@ -1,10 +1,10 @@
 //! Tags whose prefixes are all in force already: they declare nothing, and need no table.
 
 ghost use Rattle.std.specs.Prelude.{◌≡◌, ◌↔◌, true, IfOk, IsTrue, unwrap_or};
-ghost use Rattle.result_writer.specs.Steady.{is_in_force, keep_bindings, keep_prefixes, keeps_binding, keeps_names, keeps_prefix, own_prefixes, undressed};
+ghost use Rattle.result_writer.specs.Steady.{is_in_force, keep_bindings, keep_prefixes, keeps_binding, keeps_names, keeps_prefix};
 
 use crate::table::is_bound;
-use crate::tag::{Dressed, HeldTag};
+use crate::tag::HeldTag;
 use crate::words::{is_empty, is_word};
 use std::alloc::Global;
 use stx_base::{Attr, Binding, Copied, List, Memory, Name, Text};
@@ -83,24 +83,4 @@ fn is_same(binding: &Binding, other: &Binding) -> bool
     ensures { IsTrue result ↔ (binding.now ≡ other.now) }
 {
     binding.prefix.same(&other.prefix) && binding.uri.same(&other.uri)
-}
-
-fn own_prefixes(alloc: Global, attrs: &[Attr]) -> Result<List<Text>, Memory>
-    ensures { IfOk result (λ made. made ≡ own_prefixes attrs.now) }
-{
-    let mut prefixes = List::new(alloc);
-    for attr in attrs {
-        let prefix = attr.name.prefix.copy(alloc)?;
-        prefixes.push(prefix)?;
-    }
-    Ok(prefixes)
-}
-
-/// What such a tag is written with beside its names and values.
-pub fn undressed(alloc: Global, tag: &HeldTag) -> Result<Dressed, Memory>
-    ensures { IfOk result (λ made. made ≡ undressed tag.now.attrs) }
-{
-    let declared = List::new(alloc);
-    let prefixes = own_prefixes(alloc, tag.attrs.as_slice())?;
-    Ok(Dressed { declared, prefixes })
 }

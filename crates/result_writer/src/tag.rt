@@ -1,13 +1,13 @@
 //! Tags as they are written.
 
 ghost use Rattle.std.specs.Prelude.{◌≡◌, ◌++◌, codes, true, IfOk, OnOk};
-ghost use Rattle.result_writer.specs.Steady.{keep_bindings};
+ghost use Rattle.result_writer.specs.Steady.{given, keep_bindings, own_prefixes, undressed};
 ghost use Rattle.result_writer.specs.Tag.{attribute, attributes, declaration, dressed, end_tag, open_tag, qname, quoted};
 
 use crate::attributes::Attributes;
 use crate::escape::{Context, append_escaped};
 use crate::order::declarations;
-use crate::steady::{keeps_names, undressed};
+use crate::steady::keeps_names;
 use crate::table::{enter, enter_attributes, enter_scope};
 use crate::words::is_empty;
 use std::alloc::Global;
@@ -30,21 +30,22 @@ pub struct Dressed {
     pub prefixes: List<Text>,
 }
 
-/// What a tag declares, where these bindings are in force, and the prefixes of its attributes. `keeps` says that its scope
-/// is in force.
+/// What a tag declares, where these bindings are in force, and the prefixes of its attributes; none where it declares
+/// nothing and each attribute has its own prefix. `keeps` says that its scope is in force.
 pub fn dress(
     alloc: Global,
     in_force: &[Binding],
     tag: &HeldTag,
     keeps: bool,
-) -> Result<Dressed, Memory>
+) -> Result<Option<Dressed>, Memory>
     requires { keeps ≡ true → keep_bindings in_force.now tag.now.scope ≡ true }
-    ensures { IfOk result (λ made. made ≡ dressed in_force.now tag.now) }
+    ensures { IfOk result (λ made. given tag.now made ≡ dressed in_force.now tag.now) }
 {
     if keeps && keeps_names(in_force, tag) {
-        undressed(alloc, tag)
+        Ok(None)
     } else {
-        dress_by_table(alloc, in_force, tag)
+        let made = dress_by_table(alloc, in_force, tag)?;
+        Ok(Some(made))
     }
 }
 
@@ -112,8 +113,38 @@ fn append_attributes(prefixes: &[Text], attrs: &[Attr], out: &mut Vec<u8>) -> Re
     Ok(())
 }
 
+fn append_own_attributes(attrs: &[Attr], out: &mut Vec<u8>) -> Result<(), Memory>
+    ensures { OnOk result (out.new.items ≡ out.old.items ++ attributes (own_prefixes attrs.now) attrs.now) }
+{
+    for attr in attrs {
+        append_attribute(&attr.name.prefix, attr, out)?;
+    }
+    Ok(())
+}
+
 /// Appends a start tag without its end, which is `>` or `/>`.
-pub fn append_open_tag(tag: &HeldTag, dressed: &Dressed, out: &mut Vec<u8>) -> Result<(), Memory>
+pub fn append_open_tag(
+    tag: &HeldTag,
+    dressed: &Option<Dressed>,
+    out: &mut Vec<u8>,
+) -> Result<(), Memory>
+    ensures { OnOk result (out.new.items ≡ out.old.items ++ open_tag tag.now (given tag.now dressed.now)) }
+{
+    match dressed {
+        None => append_undressed_tag(tag, out),
+        Some(dressed) => append_dressed_tag(tag, dressed, out),
+    }
+}
+
+fn append_undressed_tag(tag: &HeldTag, out: &mut Vec<u8>) -> Result<(), Memory>
+    ensures { OnOk result (out.new.items ≡ out.old.items ++ open_tag tag.now (undressed tag.now.attrs)) }
+{
+    out.push(b'<')?;
+    append_qname(&tag.name.prefix, &tag.name.local, out)?;
+    append_own_attributes(tag.attrs.as_slice(), out)
+}
+
+fn append_dressed_tag(tag: &HeldTag, dressed: &Dressed, out: &mut Vec<u8>) -> Result<(), Memory>
     ensures { OnOk result (out.new.items ≡ out.old.items ++ open_tag tag.now dressed.now) }
 {
     out.push(b'<')?;

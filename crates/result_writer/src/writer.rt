@@ -1,13 +1,18 @@
-ghost use Rattle.std.specs.Prelude.{◌≡◌, ◌++◌, true, false, IfOk, IfErr, MatchResult, OnOk, OnErr};
-ghost use Rattle.stx_base.specs.declared.part.Part.TheVariants.{Start};
+ghost use Rattle.std.specs.Prelude.{◌≡◌, ◌++◌, [], true, false, IfOk, IfErr, MatchResult, OnOk, OnErr};
+ghost use Rattle.stx_base.specs.declared.part.Part.TheVariants.{Start, Attribute, End, Chars, Comment, Pi};
+ghost use Rattle.result_writer.specs.Opened.{dressing};
 ghost use Rattle.result_writer.specs.Target as spec;
-ghost use Rattle.result_writer.specs.Target.{behind, fresh, is_closed, settles, text, whole_fault, IsCause};
+ghost use Rattle.result_writer.specs.Target.{attribute_fault, behind, dressed_in, fresh, is_closed, settles, text, whole_fault, IsCause};
 
+use crate::escape::{Context, append_escaped};
 use crate::fault::{ResultFault, WriteStop};
-use crate::opened::Opened;
+use crate::opened::{
+    Opened, append_comment, append_instruction, chars_fault, comment_fault, instruction_fault,
+};
+use crate::tag::Dressed;
 use std::alloc::Global;
 use std::marker::Model;
-use stx_base::{Binding, Copied, List, Name, Part};
+use stx_base::{Binding, Copied, List, Memory, Name, Part, Text};
 
 /// Writes the parts of a result.
 #[derive(Debug, Drop)]
@@ -48,8 +53,21 @@ impl Writer {
         ensures written { OnOk result (out.new.items ≡ out.old.items ++ settles self.old.left part.now) }
         ensures unwritten { OnErr result (out.new.items ≡ out.old.items) }
     {
-        let part = part.copy(self.alloc)?;
-        self.put_owned(part, out)
+        match part {
+            Part::Start { name, scope } => {
+                let name = name.copy(self.alloc)?;
+                self.put_start(name, scope, out)
+            }
+            Part::Attribute { name, value } => {
+                let name = name.copy(self.alloc)?;
+                let value = value.copy(self.alloc)?;
+                self.put_attribute(name, value)
+            }
+            Part::End { name } => self.put_end(name, out),
+            Part::Chars { text } => self.put_chars(text, out),
+            Part::Comment { text } => self.put_comment(text, out),
+            Part::Pi { target, text } => self.put_instruction(target, text, out),
+        }
     }
 
     /// The same of a part that is handed over, whose name and attributes needn't be copied. After a refusal the part is
@@ -62,19 +80,14 @@ impl Writer {
         ensures written { OnOk result (out.new.items ≡ out.old.items ++ settles self.old.left part) }
         ensures unwritten { OnErr result (out.new.items ≡ out.old.items) }
     {
-        if let Some(fault) = self.opened.fault(&part) {
-            return Err(WriteStop::Fault(fault));
+        match part {
+            Part::Start { name, scope } => self.put_start(name, &scope, out),
+            Part::Attribute { name, value } => self.put_attribute(name, value),
+            Part::End { name } => self.put_end(&name, out),
+            Part::Chars { text } => self.put_chars(&text, out),
+            Part::Comment { text } => self.put_comment(&text, out),
+            Part::Pi { target, text } => self.put_instruction(&target, &text, out),
         }
-        let dressed = self.opened.dressed_for(&part)?;
-        self.bytes.clear();
-        self.opened.append(&part, &dressed, &mut self.bytes)?;
-        let len = out.len();
-        out.extend_from_slice(&self.bytes)?;
-        if self.opened.take(part, dressed).is_err() {
-            out.truncate(len);
-            return Err(WriteStop::Memory);
-        }
-        Ok(())
     }
 
     /// The same of an element's start, whose scope is copied only where it isn't that of the start before. After a refusal
@@ -107,6 +120,100 @@ impl Writer {
         Ok(())
     }
 
+    fn put_attribute(&mut self, name: Name, value: Text) -> Result<(), WriteStop>
+        ensures taken { OnOk result (attribute_fault self.old.left name value ≡ None) }
+        ensures fault { IfErr result (IsCause (attribute_fault self.old.left name value)) }
+        ensures ok { OnOk result (self.new ≡ behind self.old (Attribute name value)) }
+        ensures err { OnErr result (self.new ≡ self.old) }
+    {
+        if let Some(fault) = self.opened.attribute_fault(&name, &value) {
+            return Err(WriteStop::Fault(fault));
+        }
+        self.opened.add_attribute(name, value)?;
+        Ok(())
+    }
+
+    fn put_end(&mut self, name: &Name, out: &mut Vec<u8>) -> Result<(), WriteStop>
+        ensures taken { OnOk result (spec.fault self.old.limit self.old.left (End name.now) ≡ None) }
+        ensures fault { IfErr result (IsCause (spec.fault self.old.limit self.old.left (End name.now))) }
+        ensures ok { OnOk result (self.new ≡ behind self.old (End name.now)) }
+        ensures err { OnErr result (self.new ≡ self.old) }
+        ensures written { OnOk result (out.new.items ≡ out.old.items ++ settles self.old.left (End name.now)) }
+        ensures unwritten { OnErr result (out.new.items ≡ out.old.items) }
+    {
+        if let Some(fault) = self.opened.end_fault(name) {
+            return Err(WriteStop::Fault(fault));
+        }
+        let dressed = self.opened.dressed()?;
+        self.bytes.clear();
+        self.opened.append_end(&dressed, &mut self.bytes)?;
+        out.extend_from_slice(&self.bytes)?;
+        self.opened.end();
+        Ok(())
+    }
+
+    fn put_chars(&mut self, text: &Text, out: &mut Vec<u8>) -> Result<(), WriteStop>
+        ensures taken { OnOk result (spec.fault self.old.limit self.old.left (Chars text.now) ≡ None) }
+        ensures fault { IfErr result (IsCause (spec.fault self.old.limit self.old.left (Chars text.now))) }
+        ensures ok { OnOk result (self.new ≡ behind self.old (Chars text.now)) }
+        ensures err { OnErr result (self.new ≡ self.old) }
+        ensures written { OnOk result (out.new.items ≡ out.old.items ++ settles self.old.left (Chars text.now)) }
+        ensures unwritten { OnErr result (out.new.items ≡ out.old.items) }
+    {
+        if let Some(fault) = chars_fault(text) {
+            return Err(WriteStop::Fault(fault));
+        }
+        let dressed = self.opened.dressed()?;
+        self.bytes.clear();
+        self.opened.append_tag(&dressed, b">", &mut self.bytes)?;
+        append_escaped(Context::Content, text.as_str().as_bytes(), &mut self.bytes)?;
+        settle(&mut self.opened, dressed, &self.bytes, out)?;
+        Ok(())
+    }
+
+    fn put_comment(&mut self, text: &Text, out: &mut Vec<u8>) -> Result<(), WriteStop>
+        ensures taken { OnOk result (spec.fault self.old.limit self.old.left (Comment text.now) ≡ None) }
+        ensures fault { IfErr result (IsCause (spec.fault self.old.limit self.old.left (Comment text.now))) }
+        ensures ok { OnOk result (self.new ≡ behind self.old (Comment text.now)) }
+        ensures err { OnErr result (self.new ≡ self.old) }
+        ensures written { OnOk result (out.new.items ≡ out.old.items ++ settles self.old.left (Comment text.now)) }
+        ensures unwritten { OnErr result (out.new.items ≡ out.old.items) }
+    {
+        if let Some(fault) = comment_fault(text) {
+            return Err(WriteStop::Fault(fault));
+        }
+        let dressed = self.opened.dressed()?;
+        self.bytes.clear();
+        self.opened.append_tag(&dressed, b">", &mut self.bytes)?;
+        append_comment(text, &mut self.bytes)?;
+        settle(&mut self.opened, dressed, &self.bytes, out)?;
+        Ok(())
+    }
+
+    fn put_instruction(
+        &mut self,
+        target: &Text,
+        text: &Text,
+        out: &mut Vec<u8>,
+    ) -> Result<(), WriteStop>
+        ensures taken { OnOk result (spec.fault self.old.limit self.old.left (Pi target.now text.now) ≡ None) }
+        ensures fault { IfErr result (IsCause (spec.fault self.old.limit self.old.left (Pi target.now text.now))) }
+        ensures ok { OnOk result (self.new ≡ behind self.old (Pi target.now text.now)) }
+        ensures err { OnErr result (self.new ≡ self.old) }
+        ensures written { OnOk result (out.new.items ≡ out.old.items ++ settles self.old.left (Pi target.now text.now)) }
+        ensures unwritten { OnErr result (out.new.items ≡ out.old.items) }
+    {
+        if let Some(fault) = instruction_fault(target, text) {
+            return Err(WriteStop::Fault(fault));
+        }
+        let dressed = self.opened.dressed()?;
+        self.bytes.clear();
+        self.opened.append_tag(&dressed, b">", &mut self.bytes)?;
+        append_instruction(target, text, &mut self.bytes)?;
+        settle(&mut self.opened, dressed, &self.bytes, out)?;
+        Ok(())
+    }
+
     /// Ends the result. The writer is unchanged. Allocates nothing.
     pub fn finish(&mut self) -> Result<(), ResultFault>
         ensures closed { MatchResult result
@@ -120,6 +227,28 @@ impl Writer {
             Err(ResultFault::UnclosedResult)
         }
     }
+}
+
+/// The tag that is held back is settled, and the bytes are appended. After a refusal all is unchanged.
+fn settle(
+    opened: &mut Opened,
+    dressed: Option<Dressed>,
+    bytes: &[u8],
+    out: &mut Vec<u8>,
+) -> Result<(), Memory>
+    requires { dressing opened.old.left.held dressed ≡ dressed_in opened.old.left.elements opened.old.left.held }
+    ensures ok { OnOk result (opened.new ≡ behind opened.old (Chars [])) }
+    ensures err { OnErr result (opened.new ≡ opened.old) }
+    ensures written { OnOk result (out.new.items ≡ out.old.items ++ bytes.now) }
+    ensures unwritten { OnErr result (out.new.items ≡ out.old.items) }
+{
+    let len = out.len();
+    out.extend_from_slice(bytes)?;
+    if opened.settle(dressed).is_err() {
+        out.truncate(len);
+        return Err(Memory);
+    }
+    Ok(())
 }
 
 /// The bytes of a whole result.

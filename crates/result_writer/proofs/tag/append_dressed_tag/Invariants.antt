@@ -1,7 +1,7 @@
 use Rattle.std.proofs.Common.{◌≡◌, ◌++◌, drop}
 use Rattle.std.specs.List.{flat_map}
 use Rattle.result_writer.specs.Tag.{attributes, declaration, open_tag}
-use Rattle.result_writer.proofs.tag.append_open_tag.Given as goal
+use Rattle.result_writer.proofs.tag.append_dressed_tag.Given as goal
 
 -- what was appended so far, and then the declarations that are left and the attributes, is the whole tag
 abbrev pub invariant-loop-binding : goal.invariant-loop-binding
