@@ -181,7 +181,6 @@ impl Opened {
     }
 
     /// What is written with the tag that is held back, where that is more than its names and values.
-    #[inline]
     pub(crate) fn dressed(&self) -> Result<Option<Dressed>, Memory>
         ensures { IfOk result (λ d. dressing self.now.left.held d ≡ dressed_in self.now.left.elements self.now.left.held) }
     {
@@ -383,6 +382,9 @@ fn settle_undressed(around: &mut Around, held: &mut Option<HeldTag>) -> Result<(
     ensures ok { OnOk result (Settles around.old held.old (dressing held.old None) around.new held.new) }
     ensures err { OnErr result (SameAround around.old around.new × (held.new ≡ held.old)) }
 {
+    if held.is_none() {
+        return Ok(());
+    }
     around.elements.reserve(1)?;
     if let Some(tag) = held.take() {
         around.open_undressed(tag);
