@@ -18,8 +18,9 @@ use Rattle.stx_host.specs.declared.act.Lane.{Lane}
 use Rattle.stx_host.specs.declared.act.Lane.TheVariants.{Out}
 use Rattle.stx_host.proofs.CopiedSoFar.{and_nothing_more, fits_of, given_of, main_left, nothing_left, one_act}
 use Rattle.stx_host.proofs.Stretches.{between_joins, between_read, between_writes, between_fault, nothing_between, main_read-append, main_read-writes, main_reads_one, main_reads_writes}
+use Rattle.result_writer.specs.declared.fault.ResultFault.{ResultFault}
 use Rattle.stx_engine.specs.Answer.{code_of, outcome_of, result_of, run_on}
-use Rattle.stx_engine.specs.Driving.{CountsBy, Drives, EndOnce, EndsAs, FailedAt, FailsBy, IsSettledAt, SameCounts, counted, main_gots}
+use Rattle.stx_engine.specs.Driving.{CountsBy, Drives, EndOnce, EndsAs, FailedAt, FailsBy, IsSettledAt, RefusesSome, SameCounts, counted, main_gots}
 use Rattle.stx_engine.specs.Engine.{Appends, IsWaiting, Means, Pumps, StoppedBy, more, more_of}
 use Rattle.stx_engine.specs.Loading.{is_doc_read, opens}
 use Rattle.stx_engine.specs.More.{Given, ahead}
@@ -181,25 +182,30 @@ module _ (limits : Limits) (pass : Pass) (start : Engine) where
     pub all : ended ≡ true → main_read acts ≡ length main
     pub done : p ≡ pumped.Done → ended ≡ true
 
-  -- how an engine ended, by what it wants
+  -- how an engine ended, by what it wants: a part is refused only where the run on some document ends so; and where more is
+  -- wanted, some bytes were handed in
   abbrev IsStop : Option Outcome → Type 0
   IsStop (Some (Xml file fault)) = Unit {0}
-  IsStop (Some (Run file code offset)) = Unit {0}
+  IsStop (Some (Run file code offset)) = (bytes : List ℕ) × (ended : Bool) × (fault : ResultFault) × ((more_of start Start bytes ended).ending ≡ Refused fault)
   IsStop (Some Memory) = Unit {0}
   IsStop outcome = ⊥
 
-  abbrev StopsBy : Pumped → Option Outcome → Type 0
-  StopsBy pumped.Main outcome = Unit {0}
-  StopsBy pumped.Done outcome = outcome ≡ Some Done
-  StopsBy pumped.Stopped outcome = IsStop outcome
+  abbrev StopsBy : Pumped → Engine → Type 0
+  StopsBy pumped.Main e = (front : List ℕ) × ((bytes : List ℕ) (ended : Bool) → (more_of start Start (front ++ bytes) ended).ending ≡ (more e bytes ended).ending)
+  StopsBy pumped.Done e = e.outcome ≡ Some Done
+  StopsBy pumped.Stopped e = IsStop e.outcome
 
-  stops-by : (given : List ℕ → Bool → Given) (new : Engine) (appended : List ℕ) (p : Pumped) → Appends given start.sheet new appended p → StopsBy p new.outcome
-  stops-by given new appended pumped.Main a = tt
-  stops-by given new appended pumped.Done a = a.0
-  stops-by given new appended pumped.Stopped a = by_outcome new.outcome a where
+  -- after a piece: `front` was handed in, and what was to come of the piece ends as some document does
+  stops-by : (given : List ℕ → Bool → Given) (new : Engine) (appended : List ℕ) (p : Pumped) (front : List ℕ)
+      → (p ≡ pumped.Main → (bytes : List ℕ) (ended : Bool) → (more_of start Start (front ++ bytes) ended).ending ≡ (given bytes ended).ending)
+      → (document : List ℕ) (ended : Bool) (rest : List ℕ) (at_end : Bool) → (more_of start Start document ended).ending ≡ (given rest at_end).ending
+      → Appends given start.sheet new appended p → StopsBy p new
+  stops-by given new appended pumped.Main front step document ended rest at_end all a = (front, λ bytes ended. step refl bytes ended ∙ ap (λ g. g.ending) (a.1 bytes ended))
+  stops-by given new appended pumped.Done front step document ended rest at_end all a = a.0
+  stops-by given new appended pumped.Stopped front step document ended rest at_end all a = by_outcome new.outcome a where
     by_outcome : (o : Option Outcome) → StoppedBy start.sheet o appended given → IsStop o
     by_outcome (Some (Xml file fault)) s = tt
-    by_outcome (Some (Run file code offset)) s = tt
+    by_outcome (Some (Run file code offset)) s = (document, ended, s.0, all ∙ ap (λ g. g.ending) (s.4 rest at_end))
     by_outcome (Some Memory) s = tt
     by_outcome (Some Done) s = absurd s
     by_outcome (Some Usage) s = absurd s
@@ -221,7 +227,7 @@ module _ (limits : Limits) (pass : Pass) (start : Engine) where
     pub counts : SameCounts old now
     pub read_is : read ≡ main_read acts
     pub written_is : written ≡ counted (length out)
-    pub stop : StopsBy p e.outcome
+    pub stop : StopsBy p e
     pub told : (main : List ℕ) → old.to_come 0 ≡ Some main → Going main acts ended out next e p
 
   module _ (means : Means limits pass start) where
@@ -255,7 +261,7 @@ module _ (limits : Limits) (pass : Pass) (start : Engine) where
       counts = record { doc = refl; main = refl; out = refl; note = refl };
       read_is = refl;
       written_is = refl;
-      stop = stops-by (more_of start Start) e pumps.0 p pumps.2;
+      stop = stops-by (more_of start Start) e pumps.0 p [] (λ is bytes ended. refl) [] true [] true refl pumps.2;
       told = λ main told. record {
         reads = λ k is_read. absurd (false≢true is_read);
         within = omega arith;
@@ -321,7 +327,9 @@ module _ (limits : Limits) (pass : Pass) (start : Engine) where
           counts = counts_join old now new d.counts (read-counts now new n change);
           read_is = ap (λ m. m + n) d.read_is ∙ sym count;
           written_is = d.written_is;
-          stop = stops-by given_on after pumps.0 p pumps.2;
+          stop = stops-by given_on after pumps.0 p (d.stop.0 ++ piece)
+              (λ is bytes ended. ap (λ l. (more_of start Start l ended).ending) (append_assoc d.stop.0 piece bytes) ∙ d.stop.1 (piece ++ bytes) ended)
+              (d.stop.0 ++ (piece ++ [])) true [] true (d.stop.1 (piece ++ []) true) pumps.2;
           told = λ main told.
               let so_far = d.told main told in
               let left : now.to_come 0 ≡ Some (drop at main) = main_left old now main d.acts d.out d.between told in
@@ -367,7 +375,7 @@ module _ (limits : Limits) (pass : Pass) (start : Engine) where
           counts = counts_join old now new d.counts (end-counts now new change);
           read_is = d.read_is ∙ sym count;
           written_is = d.written_is;
-          stop = stops-by (more_of e End) after pumps.0 p pumps.2;
+          stop = stops-by (more_of e End) after pumps.0 p d.stop.0 (λ is. absurd (last is)) (d.stop.0 ++ []) true [] true (d.stop.1 [] true) pumps.2;
           told = λ main told.
               let so_far = d.told main told in
               let left : now.to_come 0 ≡ Some (drop at main) = main_left old now main d.acts d.out d.between told in
@@ -395,10 +403,11 @@ module _ (limits : Limits) (pass : Pass) (start : Engine) where
       pub failed : FailedAt o acts out
       pub ends : (main : List ℕ) → EndsAs limits pass start.sheet main out o
       pub undone : o ≡ Done → ⊥
+      pub refused : RefusesSome limits pass o
 
     fails-by : (f : HostFault) (offset : ℕ) (old new : Outside) (acts : List Act) (out : List ℕ) → new.note_faults ≡ old.note_faults → Fails old new acts out (Host (codes "-") f offset)
         → (o : Outcome) → FailsBy f offset o → Fails old new acts out o
-    fails-by f offset old new acts out note facts Memory told = record { counts = note; failed = tt; ends = λ main. tt; undone = λ is. cc }
+    fails-by f offset old new acts out note facts Memory told = record { counts = note; failed = tt; ends = λ main. tt; undone = λ is. cc; refused = tt }
     fails-by f offset old new acts out note facts Done e = subst (Fails old new acts out) (sym e) facts
     fails-by f offset old new acts out note facts Usage e = subst (Fails old new acts out) (sym e) facts
     fails-by f offset old new acts out note facts (Sheet fault) e = subst (Fails old new acts out) (sym e) facts
@@ -434,6 +443,7 @@ module _ (limits : Limits) (pass : Pass) (start : Engine) where
           failed = (refl, place);
           ends = λ main. tt;
           undone = λ is. cc;
+          refused = tt;
         }) o told_by in
         record {
           acts = acts;
@@ -446,6 +456,7 @@ module _ (limits : Limits) (pass : Pass) (start : Engine) where
           ids = ap (λ o. o.open_ids) failed.alone ∙ d.ids;
           counts = fails.counts;
           failed = fails.failed;
+          refused = fails.refused;
           told = λ main told.
               let so_far = d.told main told in
               record {
@@ -472,6 +483,7 @@ module _ (limits : Limits) (pass : Pass) (start : Engine) where
           failed = (refl, d.read_is);
           ends = λ main. tt;
           undone = λ is. cc;
+          refused = tt;
         }) o told_by in
         record {
           acts = d.acts;
@@ -484,6 +496,7 @@ module _ (limits : Limits) (pass : Pass) (start : Engine) where
           ids = ap (λ o. o.open_ids) failed.alone ∙ d.ids;
           counts = fails.counts;
           failed = fails.failed;
+          refused = fails.refused;
           told = λ main told.
               let so_far = d.told main told in
               record {
@@ -493,6 +506,10 @@ module _ (limits : Limits) (pass : Pass) (start : Engine) where
                 all = λ is. absurd (fails.undone is);
               };
         }
+
+    -- what is known of an outcome
+    abbrev Known : (old now : Outside) → List Act → (out : List ℕ) → Outcome → Type 0
+    Known old now acts out o = CountsBy o old now × FailedAt o acts out × RefusesSome limits pass o
 
     -- the engine is done, or was stopped
     pub ends : (old now : Outside) (e : Engine) (read written : ℕ) (p : Pumped) (o : Outcome) → Driving old now e [] read written p → (p ≡ pumped.Main → ⊥) → o ≡ unwrap_or e.outcome Memory
@@ -506,8 +523,9 @@ module _ (limits : Limits) (pass : Pass) (start : Engine) where
       ended = d.ended;
       once = d.once;
       ids = d.ids;
-      counts = subst (λ x. CountsBy x old now) (sym is) (by_stop p e.outcome d.stop last).0;
-      failed = subst (λ x. FailedAt x d.acts d.out) (sym is) (by_stop p e.outcome d.stop last).1;
+      counts = subst (λ x. CountsBy x old now) (sym is) (by_stop p d.stop last).0;
+      failed = subst (λ x. FailedAt x d.acts d.out) (sym is) (by_stop p d.stop last).1;
+      refused = subst (RefusesSome limits pass) (sym is) (by_stop p d.stop last).2;
       told = λ main told.
           let so_far = d.told main told in
           let goes : Goes start main e (main_read d.acts) d.out p = subst (λ l. Goes start main e (main_read d.acts) l p) (append-nil d.out) so_far.goes in
@@ -515,35 +533,38 @@ module _ (limits : Limits) (pass : Pass) (start : Engine) where
             reads = so_far.reads;
             prefix = begins-result main (main_read d.acts) d.out e p goes;
             ends = subst (EndsAs limits pass start.sheet main d.out) (sym is) (by_end main p goes last);
-            all = λ done. let at_end = so_far.done (is_done p e.outcome d.stop last (sym is ∙ done)) in (at_end, so_far.all at_end);
+            all = λ done. let at_end = so_far.done (is_done p d.stop last (sym is ∙ done)) in (at_end, so_far.all at_end);
           };
     } where
-      is_done : (p : Pumped) (x : Option Outcome) → StopsBy p x → (p ≡ pumped.Main → ⊥) → unwrap_or x Memory ≡ Done → p ≡ pumped.Done
-      is_done pumped.Main x s other done = absurd (other refl)
-      is_done pumped.Done x s other done = refl
-      is_done pumped.Stopped (Some (Xml file fault)) s other done = cc
-      is_done pumped.Stopped (Some (Run file code offset)) s other done = cc
-      is_done pumped.Stopped (Some Memory) s other done = cc
-      is_done pumped.Stopped (Some Done) s other done = absurd s
-      is_done pumped.Stopped (Some Usage) s other done = absurd s
-      is_done pumped.Stopped (Some (Sheet fault)) s other done = absurd s
-      is_done pumped.Stopped (Some (Host file fault offset)) s other done = absurd s
-      is_done pumped.Stopped None s other done = absurd s
+      undone : (x : Option Outcome) → IsStop x → unwrap_or x Memory ≡ Done → ⊥
+      undone (Some (Xml file fault)) s done = cc
+      undone (Some (Run file code offset)) s done = cc
+      undone (Some Memory) s done = cc
+      undone (Some Done) s done = absurd s
+      undone (Some Usage) s done = absurd s
+      undone (Some (Sheet fault)) s done = absurd s
+      undone (Some (Host file fault offset)) s done = absurd s
+      undone None s done = absurd s
 
-      by_outcome : (o : Option Outcome) → IsStop o → CountsBy (unwrap_or o Memory) old now × FailedAt (unwrap_or o Memory) d.acts d.out
-      by_outcome (Some (Xml file fault)) s = (d.counts, tt)
-      by_outcome (Some (Run file code offset)) s = (d.counts, tt)
-      by_outcome (Some Memory) s = (d.counts.note, tt)
+      is_done : (p : Pumped) → StopsBy p e → (p ≡ pumped.Main → ⊥) → unwrap_or e.outcome Memory ≡ Done → p ≡ pumped.Done
+      is_done pumped.Main s other done = absurd (other refl)
+      is_done pumped.Done s other done = refl
+      is_done pumped.Stopped s other done = absurd (undone e.outcome s done)
+
+      by_outcome : (o : Option Outcome) → IsStop o → Known old now d.acts d.out (unwrap_or o Memory)
+      by_outcome (Some (Xml file fault)) s = (d.counts, tt, tt)
+      by_outcome (Some (Run file code offset)) s = (d.counts, tt, (s.0, s.1, s.2, sym (means s.0 s.1).1 ∙ s.3))
+      by_outcome (Some Memory) s = (d.counts.note, tt, tt)
       by_outcome (Some Done) s = absurd s
       by_outcome (Some Usage) s = absurd s
       by_outcome (Some (Sheet fault)) s = absurd s
       by_outcome (Some (Host file fault offset)) s = absurd s
       by_outcome None s = absurd s
 
-      by_stop : (p : Pumped) (o : Option Outcome) → StopsBy p o → (p ≡ pumped.Main → ⊥) → CountsBy (unwrap_or o Memory) old now × FailedAt (unwrap_or o Memory) d.acts d.out
-      by_stop pumped.Main o s other = absurd (other refl)
-      by_stop pumped.Done o s other = subst (λ x. CountsBy (unwrap_or x Memory) old now × FailedAt (unwrap_or x Memory) d.acts d.out) (sym s) (d.counts, tt)
-      by_stop pumped.Stopped o s other = by_outcome o s
+      by_stop : (p : Pumped) → StopsBy p e → (p ≡ pumped.Main → ⊥) → Known old now d.acts d.out (unwrap_or e.outcome Memory)
+      by_stop pumped.Main s other = absurd (other refl)
+      by_stop pumped.Done s other = subst (λ x. Known old now d.acts d.out (unwrap_or x Memory)) (sym s) (d.counts, tt, tt)
+      by_stop pumped.Stopped s other = by_outcome e.outcome s
 
       -- all that the document gives was written
       wrote_all : (main : List ℕ) (ending : Ending) → more_of start Start main true ≡ record { bytes = d.out; ending = ending } → (o : Outcome) → o ≡ outcome_of start.sheet ending

@@ -19,7 +19,7 @@ use Rattle.stx_engine.specs.Driving.{CountsBy, EndOnce, SameCounts, UnlessFailed
 use Rattle.stx_engine.specs.Headline.{AsksSettled, DecidesSheet, GivesAnswer, IsFailure, IsStatus, NotesAfterFailure, NotesFailure, OpensFirst, ReadsToEnd, RefusesUnnamed, RoseFor, SomeGreater, SomeRose, Tells}
 use Rattle.stx_engine.specs.Line.{line_of, status_of}
 use Rattle.stx_engine.specs.Loading.{ReadsUndecided, opens, read_of, read_of_opened}
-use Rattle.stx_engine.specs.Running.{Asks, FailedIn, IsAnswered, RefusesWords, Reports, Runs, RunsTold, unwritten_status}
+use Rattle.stx_engine.specs.Running.{Asks, FailedIn, IsAnswered, RefusesWords, Reports, Runs, RunsTold, TakesParts, unwritten_status}
 use Rattle.stx_engine.specs.declared.outcome.HostFault.{HostFault}
 use Rattle.stx_engine.specs.declared.outcome.HostFault.TheVariants as fault
 use Rattle.stx_engine.specs.declared.outcome.Outcome.{Outcome}
@@ -52,6 +52,7 @@ ran-wanting-line words old new o r = record {
   counts = note_same o old new r.counts;
   failed = tt;
   refuses = tt;
+  takes = tt;
   told = λ docs main documents told.
       let t = r.told docs main documents told in
       record { reads = t.reads; prefix = t.prefix; ends = tt; sheet = t.sheet; opened = (t.opened.0, t.opened.1, t.opened.2, tt); all = λ is. cc };
@@ -346,14 +347,14 @@ module _ (words : List (List ℕ)) (old mid new : Outside) (o : Outcome) (r : Ru
 
   -- The status
 
-  is_among_statuses : (x : Outcome) → (status : ℕ) → (status ≡ status_of x) ⊎ (status ≡ unwritten_status (status_of x)) → IsTrue (list_any (λ s. s == status) (0 ∷ 1 ∷ 2 ∷ 3 ∷ 4 ∷ 5 ∷ 7 ∷ []))
-  is_among_statuses (Host file f offset) status is = elim is [ inl e ↦ rw e refl | inr e ↦ rw e refl ]
-  is_among_statuses Memory status is = elim is [ inl e ↦ rw e refl | inr e ↦ rw e refl ]
-  is_among_statuses Done status is = elim is [ inl e ↦ rw e refl | inr e ↦ rw e refl ]
-  is_among_statuses Usage status is = elim is [ inl e ↦ rw e refl | inr e ↦ rw e refl ]
-  is_among_statuses (Sheet reason) status is = elim is [ inl e ↦ rw e refl | inr e ↦ rw e refl ]
-  is_among_statuses (Run file code offset) status is = elim is [ inl e ↦ rw e refl | inr e ↦ rw e refl ]
-  is_among_statuses (Xml file fault) status is = elim is [ inl e ↦ rw e refl | inr e ↦ rw e refl ]
+  is_among_statuses : (x : Outcome) → TakesParts x → (status : ℕ) → (status ≡ status_of x) ⊎ (status ≡ unwritten_status (status_of x)) → IsTrue (list_any (λ s. s == status) (0 ∷ 2 ∷ 3 ∷ 4 ∷ 5 ∷ 7 ∷ []))
+  is_among_statuses (Host file f offset) takes status is = elim is [ inl e ↦ rw e refl | inr e ↦ rw e refl ]
+  is_among_statuses Memory takes status is = elim is [ inl e ↦ rw e refl | inr e ↦ rw e refl ]
+  is_among_statuses Done takes status is = elim is [ inl e ↦ rw e refl | inr e ↦ rw e refl ]
+  is_among_statuses Usage takes status is = elim is [ inl e ↦ rw e refl | inr e ↦ rw e refl ]
+  is_among_statuses (Sheet reason) takes status is = elim is [ inl e ↦ rw e refl | inr e ↦ rw e refl ]
+  is_among_statuses (Run file code offset) takes status is = absurd takes
+  is_among_statuses (Xml file fault) takes status is = elim is [ inl e ↦ rw e refl | inr e ↦ rw e refl ]
 
   -- 5 comes only where a count rose
   five_rose : (x : Outcome) → IsEither (IsFailure words old new acts r.out x) x → result ≡ status_of x → result ≡ 5 → SomeRose old new
@@ -391,7 +392,7 @@ module _ (words : List (List ℕ)) (old mid new : Outside) (o : Outcome) (r : Ru
 
   pub is_status : IsStatus old new result
   is_status = record {
-    some = is_among_statuses o result status_is;
+    some = is_among_statuses o r.takes result status_is;
     five = λ five. elim line.end [ inl whole ↦ five_rose o is_either whole.1 five | inr cut ↦ inr (inr (inr (note_rose cut.2))) ];
     greater = greater_five o r.counts (elim line.end [ inl whole ↦ inl (whole.1, whole.2) | inr cut ↦ inr cut.1 ]);
   }

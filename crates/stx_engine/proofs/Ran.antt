@@ -13,11 +13,12 @@ use Rattle.stx_host.specs.declared.act.Act.{Act}
 use Rattle.stx_host.specs.declared.act.Doc.{Doc}
 use Rattle.stx_host.proofs.Stretches.{between_joins, main_reads_join, main_read-append, nothing_between}
 use Rattle.stx_engine.specs.Passed as gives
+use Rattle.stx_engine.specs.Accepted.{DocumentsAreTaken}
 use Rattle.stx_engine.specs.Answer.{Answer, answer, answered, asked, outcome_of, result_of, run_answer, run_on, sheet_answer, sheet_named, words_answer}
-use Rattle.stx_engine.specs.Driving.{CountsBy, Drives, EndOnce, FailedAt, IsSettledAt, SameCounts, UnlessFailed, main_gots}
+use Rattle.stx_engine.specs.Driving.{CountsBy, Drives, EndOnce, FailedAt, IsSettledAt, RefusesSome, SameCounts, UnlessFailed, main_gots}
 use Rattle.stx_engine.specs.Line.{line_of, status_of}
 use Rattle.stx_engine.specs.Loading.{LoadActs, LoadAnswers, LoadCounts, ReadsUndecided, opens}
-use Rattle.stx_engine.specs.Running.{Asks, FailedIn, IsAnswered, OpensNames, RefusesWords, Runs}
+use Rattle.stx_engine.specs.Running.{Asks, FailedIn, IsAnswered, OpensNames, RefusesWords, Runs, TakesParts}
 use Rattle.stx_engine.specs.Sheets.{pass_of}
 use Rattle.stx_engine.specs.declared.outcome.HostFault.TheVariants as fault
 use Rattle.stx_engine.specs.declared.outcome.Outcome.{Outcome}
@@ -48,6 +49,7 @@ module _ (words : List (List ℕ)) (o : Outside) where
     counts = no_counts o;
     failed = tt;
     refuses = none;
+    takes = tt;
     told = λ docs main documents told.
         let a : answer words docs main ≡ answered Usage [] [] = ap (λ name. words_answer name docs main) none in
         record {
@@ -72,6 +74,7 @@ module _ (words : List (List ℕ)) (o : Outside) where
     counts = refl;
     failed = tt;
     refuses = tt;
+    takes = tt;
     told = λ docs main documents told. record {
       reads = λ k is_read. absurd (false≢true is_read);
       prefix = begins_nothing (answer words docs main).out;
@@ -132,6 +135,7 @@ module _ (words : List (List ℕ)) (name : List ℕ) (named : sheet_named words 
     counts = record { doc = counts.doc; main = counts.main; out = counts.out; note = counts.note };
     failed = tt;
     refuses = subst IsSome (sym named) refl;
+    takes = tt;
     told = λ docs main documents told.
         let a = answer-is docs main ∙ refused_answer old.documents docs name main fault documents answers in
         record {
@@ -160,6 +164,7 @@ module _ (words : List (List ℕ)) (name : List ℕ) (named : sheet_named words 
     counts = (counts.doc, record { doc = refl; main = counts.main; out = counts.out; note = counts.note });
     failed = (named ∙ ap Some (sym is), did.fails);
     refuses = subst IsSome (sym named) refl;
+    takes = tt;
     told = λ docs main documents told. record {
       reads = no_main_reads acts [] [] (Asks words docs main) did.no_main_read;
       prefix = begins_nothing (answer words docs main).out;
@@ -185,6 +190,7 @@ module _ (words : List (List ℕ)) (name : List ℕ) (named : sheet_named words 
     counts = counts.note;
     failed = tt;
     refuses = tt;
+    takes = tt;
     told = λ docs main documents told. record {
       reads = no_main_reads acts [] [] (Asks words docs main) did.no_main_read;
       prefix = begins_nothing (answer words docs main).out;
@@ -250,8 +256,8 @@ module _ (words : List (List ℕ)) (name : List ℕ) (named : sheet_named words 
 
   -- the document was read through the engine
   pub ran-driven : (mid : Outside) (pass : Pass) (o : Outcome) (acts : List Act) → LoadAnswers (option_map (λ docs. document docs name) old.documents) name (Ok pass)
-      → LoadActs old mid doc sheet (Ok pass) acts → LoadCounts old mid (Ok pass) → Drives standard_limits pass name mid new o → Runs words old new o
-  ran-driven mid pass o acts answers did counts d = record {
+      → LoadActs old mid doc sheet (Ok pass) acts → LoadCounts old mid (Ok pass) → Drives standard_limits pass name mid new o → DocumentsAreTaken → Runs words old new o
+  ran-driven mid pass o acts answers did counts d taken = record {
     acts = acts ++ d.acts;
     out = d.out;
     between = between_joins old mid new acts d.acts [] d.out [] [] did.between d.between;
@@ -261,6 +267,7 @@ module _ (words : List (List ℕ)) (name : List ℕ) (named : sheet_named words 
     counts = counts_after mid o (record { doc = counts.doc; main = counts.main; out = counts.out; note = counts.note }) d.counts;
     failed = failed_after o acts d.acts d.out did.main_read d.failed;
     refuses = not_refused o d.acts d.out d.failed;
+    takes = takes_parts o d.refused;
     told = λ docs main documents told.
         let run = run_on standard_limits pass main true in
         let a : answer words docs main ≡ answered (outcome_of name run.ending) (result_of run) (name ∷ []) = answer-is docs main ∙ accepted_answer old.documents docs name main pass documents answers in
@@ -297,6 +304,15 @@ module _ (words : List (List ℕ)) (name : List ℕ) (named : sheet_named words 
     unless (Sheet reason) P p = p
     unless (Run file code offset) P p = p
     unless (Xml file fault) P p = p
+
+    takes_parts : (o : Outcome) → RefusesSome standard_limits pass o → TakesParts o
+    takes_parts (Run file code offset) r = taken standard_limits pass r.0 r.1 r.2 (omega arith) r.3
+    takes_parts (Host file fault offset) r = tt
+    takes_parts Memory r = tt
+    takes_parts Done r = tt
+    takes_parts Usage r = tt
+    takes_parts (Sheet reason) r = tt
+    takes_parts (Xml file fault) r = tt
 
     answered-is : (o : Outcome) (a : Answer) (run : gives.Run) (out : List ℕ) → a ≡ answered (outcome_of name run.ending) (result_of run) (name ∷ []) → (out ≡ result_of run) × (o ≡ outcome_of name run.ending) → IsAnswered out o a
     answered-is o a run out is ends = record {

@@ -11,13 +11,14 @@ use Rattle.stx_host.specs.declared.act.Act.TheVariants.{Read}
 use Rattle.stx_host.specs.declared.act.Lane.{Lane}
 use Rattle.stx_engine.specs.Answer.{outcome_of, result_of, run_on, settled}
 use Rattle.stx_engine.specs.Loading.{is_doc_read, opens}
-use Rattle.stx_engine.specs.Meaning.{Unready}
+use Rattle.result_writer.specs.declared.fault.ResultFault.{ResultFault}
+use Rattle.stx_engine.specs.Meaning.{Refused as Refuses, Unready}
 use Rattle.xml_events.specs.Tree.{Need}
 use Rattle.stx_engine.specs.declared.driver.Refused.{Refused}
 use Rattle.stx_engine.specs.declared.outcome.HostFault.{HostFault}
 use Rattle.stx_engine.specs.declared.outcome.HostFault.TheVariants as fault
 use Rattle.stx_engine.specs.declared.outcome.Outcome.{Outcome}
-use Rattle.stx_engine.specs.declared.outcome.Outcome.TheVariants.{Done, Usage, Sheet, Host, Memory}
+use Rattle.stx_engine.specs.declared.outcome.Outcome.TheVariants.{Done, Run, Usage, Sheet, Host, Memory}
 use Rattle.stx_engine.specs.declared.pass.Pass.{Pass}
 
 -- a number of bytes, as it is counted: up to the last value of u64
@@ -78,6 +79,12 @@ UnlessFailed (Host file fault offset) P = Unit {0}
 UnlessFailed Memory P = Unit {0}
 UnlessFailed outcome P = P
 
+-- a part is refused only where the run on some document ends so
+abbrev pub RefusesSome : Limits → Pass → Outcome → Type 0
+RefusesSome limits pass (Run file code offset) =
+    (bytes : List ℕ) × (ended : Bool) × (fault : ResultFault) × ((run_on limits pass bytes ended).ending ≡ Refuses fault)
+RefusesSome limits pass outcome = Unit {0}
+
 -- how a run ends that the host and memory let end: all of its result was written
 abbrev pub EndsAs : Limits → Pass → (sheet main out : List ℕ) → Outcome → Type 0
 EndsAs limits pass sheet main out outcome =
@@ -118,4 +125,5 @@ pub record Drives (limits : Limits) (pass : Pass) (sheet : List ℕ) (old new : 
   pub ids : new.open_ids ≡ old.open_ids
   pub counts : CountsBy outcome old new
   pub failed : FailedAt outcome acts out
+  pub refused : RefusesSome limits pass outcome
   pub told : (main : List ℕ) → old.to_come 0 ≡ Some main → WritesResult limits pass sheet main acts ended out outcome

@@ -59,9 +59,9 @@ abbrev pub OpensFirst : List Doc → (names : List (List ℕ)) → (status : ℕ
 OpensFirst docs names status acts =
     (front : List (List ℕ)) × Begins front names × (opens acts ≡ map (place docs) front) × (status ≢ 5 → status ≢ 7 → front ≡ names)
 
--- the statuses there are; 5 comes only where a count rose, and where one became greater the status is 5 or 7
+-- the statuses there are: none is that the result refuses a part; 5 comes only where a count rose, and where one became greater the status is 5 or 7
 pub record IsStatus (old new : Outside) (status : ℕ) : Type 0 where
-  pub some : IsTrue (list_any (λ s. s == status) (0 ∷ 1 ∷ 2 ∷ 3 ∷ 4 ∷ 5 ∷ 7 ∷ []))
+  pub some : IsTrue (list_any (λ s. s == status) (0 ∷ 2 ∷ 3 ∷ 4 ∷ 5 ∷ 7 ∷ []))
   pub five : status ≡ 5 → SomeRose old new
   pub greater : SomeGreater old new → (status ≡ 5) ⊎ (status ≡ 7)
 

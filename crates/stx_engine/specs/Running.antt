@@ -14,7 +14,7 @@ use Rattle.stx_engine.specs.Line.{line_of, status_of}
 use Rattle.stx_engine.specs.Loading.{ReadsUndecided, opens, read_of_opened}
 use Rattle.stx_engine.specs.declared.outcome.HostFault.TheVariants as fault
 use Rattle.stx_engine.specs.declared.outcome.Outcome.{Outcome}
-use Rattle.stx_engine.specs.declared.outcome.Outcome.TheVariants.{Usage, Sheet, Host, Memory}
+use Rattle.stx_engine.specs.declared.outcome.Outcome.TheVariants.{Run, Usage, Sheet, Host, Memory}
 use Rattle.stx_engine.specs.declared.pass.Pass.{Pass}
 
 -- Before a read of the main document: the words and the sheet were accepted, all that the bytes read so far settle of the
@@ -35,6 +35,11 @@ abbrev pub RefusesWords : (words : List (List ℕ)) → Outcome → Type 0
 RefusesWords words Usage = sheet_named words ≡ None
 RefusesWords words Memory = Unit {0}
 RefusesWords words outcome = IsSome (sheet_named words)
+
+-- no part was refused
+abbrev pub TakesParts : Outcome → Type 0
+TakesParts (Run file code offset) = ⊥
+TakesParts outcome = Unit {0}
 
 -- the outcome is the answer's, and all of the answer's output was written
 pub record IsAnswered (out : List ℕ) (outcome : Outcome) (a : Answer) : Type 0 where
@@ -71,6 +76,7 @@ pub record Runs (words : List (List ℕ)) (old new : Outside) (outcome : Outcome
   pub counts : CountsBy outcome old new
   pub failed : FailedIn words outcome acts out
   pub refuses : RefusesWords words outcome
+  pub takes : TakesParts outcome
   pub told : (docs : List Doc) (main : List ℕ) → old.documents ≡ Some docs → old.to_come 0 ≡ Some main → RunsTold words docs main acts ended out outcome
 
 -- the status where the line couldn't be written: want of memory stays

@@ -29,7 +29,7 @@ const HOST_FAILED: u8 = 5;
 const MEMORY_WANTING: u8 = 7;
 
 /// Does all that the program does with the words after its name, and answers the status that it ends with: 0 where the
-/// document was read to its end and all was written, 1 where the result refuses a part, 2 where the words are refused, 3 where the sheet is, 4 where the
+/// document was read to its end and all was written, 2 where the words are refused, 3 where the sheet is, 4 where the
 /// document has a fault, 5 where the host failed, 7 where memory was wanting. What stopped the run stands in one line
 /// on the lane `Note`.
 pub fn transform<H: Host>(alloc: Global, words: &[String], host: &mut H) -> u8
@@ -75,6 +75,7 @@ fn report<H: Host>(line: &str, status: u8, host: &mut H) -> u8
 fn run<H: Host>(alloc: Global, words: &[String], host: &mut H) -> Outcome
     ensures { Runs (characters words.now) (H.outside host.old) (H.outside host.new) result }
 {
+    law::documents();
     let name = match read_words(alloc, words) {
         Ok(name) => name,
         Err(WordsFault::Usage) => return Outcome::Usage,

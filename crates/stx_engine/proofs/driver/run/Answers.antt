@@ -20,7 +20,7 @@ returns-in-Ok-load_sheet g c =
     let drives = subst (λ sheet. Drives standard_limits pass sheet (g.H.Host.outside c.load_sheet.new.host) (g.H.Host.outside c.drive.new.host) c.drive.result) c.new.ensures.sheet
     (c.drive.ensures standard_limits pass (subst (λ limits. Means limits pass c.new.result) c.standard.ensures c.new.ensures.meaning)) in
     ran-driven (characters c.args.words.now) c.in-Ok.name c.in-Ok.ensures (g.H.Host.outside c.args.host.now) (g.H.Host.outside c.drive.new.host) (drives.ids ∙ load.ids) (g.H.Host.outside c.load_sheet.new.host)
-    pass c.drive.result load.acts.0 load.answer load.acts.1 load.counts drives
+    pass c.drive.result load.acts.0 load.answer load.acts.1 load.counts drives c.documents.ensures.taken
 
 pub returns-in-Err : goal.returns-in-Err
 returns-in-Err g c =
