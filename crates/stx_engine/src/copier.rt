@@ -114,7 +114,7 @@ impl Copier {
         ensures takes { Takes (begin_ahead self.old element attrs) self.new out.old.items out.new.items result }
         ensures opens { result ≡ Ok turn.More → length self.new.elements ≡ suc (length self.old.elements) }
     {
-        match self.put_start(&element.name, attrs, out) {
+        match self.copy_start(&element.name, attrs, out) {
             Ok(()) => {
                 self.elements.push(element)?;
                 Ok(Turn::More)
@@ -136,7 +136,8 @@ impl Copier {
         Ok(Some(mem::replace(&mut self.scope, within)))
     }
 
-    fn put_start(
+    // Puts an element's start, where elements are copied.
+    fn copy_start(
         &mut self,
         name: &Name,
         attrs: List<Attr>,
@@ -148,7 +149,7 @@ impl Copier {
         match self.pass {
             Pass::All => {
                 let name = name.copy(self.alloc)?;
-                put_tag(&mut self.writer, name, &self.scope, attrs, out)
+                put_start_tag(&mut self.writer, name, &self.scope, attrs, out)
             }
             Pass::Chars | Pass::None => Ok(()),
         }
@@ -234,7 +235,8 @@ impl Copier {
     }
 }
 
-fn put_tag(
+// The start of an element, and its attributes.
+fn put_start_tag(
     writer: &mut Writer,
     name: Name,
     scope: &List<Binding>,
@@ -243,11 +245,11 @@ fn put_tag(
 ) -> Result<(), WriteStop>
     ensures { Puts writer.old writer.new (part.Start name scope.now ∷ map attribute_part attrs) out.old.items out.new.items result }
 {
-    put_start(writer, name, scope, out)?;
+    put_start_part(writer, name, scope, out)?;
     put_attributes(writer, attrs, out)
 }
 
-fn put_start(
+fn put_start_part(
     writer: &mut Writer,
     name: Name,
     scope: &List<Binding>,

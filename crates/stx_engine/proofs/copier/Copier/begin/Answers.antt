@@ -7,6 +7,6 @@ use Rattle.stx_engine.proofs.copier.Copier.begin.Goals as goal
 pub returns-in_err-push-in-Ok-clause-takes : goal.returns-in_err-push-in-Ok-clause-takes
 returns-in_err-push-in-Ok-clause-takes c =
     let e : c.from_residual.result ≡ Err Memory = lacks-memory c.from_residual.result c.from_residual.ensures.1 in
-    let new = record c.put_start.new.self { elements = c.push.new.self } in
-    subst (λ r. Takes (begin_ahead c.args.self.now c.args.element c.args.attrs) new c.args.out.now.items c.put_start.new.out.items r) (sym e)
-    (takes-unkept c.args.self.now c.put_start.new.self.writer c.args.element c.args.attrs c.args.out.now.items c.put_start.new.out.items new c.in-Ok.ensures.puts)
+    let new = record c.copy_start.new.self { elements = c.push.new.self } in
+    subst (λ r. Takes (begin_ahead c.args.self.now c.args.element c.args.attrs) new c.args.out.now.items c.copy_start.new.out.items r) (sym e)
+    (takes-unkept c.args.self.now c.copy_start.new.self.writer c.args.element c.args.attrs c.args.out.now.items c.copy_start.new.out.items new c.in-Ok.ensures.puts)

@@ -1,6 +1,6 @@
 use Rattle.stx_base.specs.declared.part.Part.TheVariants as part
 use Rattle.stx_engine.proofs.Copying.{puts-one}
-use Rattle.stx_engine.proofs.copier.put_start.Goals as goal
+use Rattle.stx_engine.proofs.copier.put_start_part.Goals as goal
 
 pub returns : goal.returns
 returns c =

@@ -1,0 +1,10 @@
+use Rattle.std.proofs.Common.{[], ◌∷◌, map}
+use Rattle.stx_base.specs.declared.part.Part.TheVariants as part
+use Rattle.stx_engine.specs.Meaning.{attribute_part}
+use Rattle.stx_engine.proofs.Copying.{both-put}
+use Rattle.stx_engine.proofs.copier.put_start_tag.Goals as goal
+
+pub returns : goal.returns
+returns c =
+    both-put c.args.writer.now c.put_start_part.new.writer c.put_attributes.new.writer (part.Start c.args.name c.args.scope.now ∷ []) (map attribute_part c.args.attrs)
+    c.args.out.now.items c.put_start_part.new.out.items c.put_attributes.new.out.items c.put_attributes.result c.in_ok-put_start_part.ensures c.put_attributes.ensures
