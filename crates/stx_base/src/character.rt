@@ -1,4 +1,4 @@
-ghost use Rattle.std.specs.Prelude.{◌≡◌, ◌≤◌, ◌&&◌, nat_lt, false, slice_get};
+ghost use Rattle.std.specs.Prelude.{◌≡◌, ◌≤◌, ◌&&◌, nat_lt, false, true, slice_get};
 ghost use Rattle.std.specs.List.{list_all};
 ghost use Rattle.std.specs.Option.{option_map_or};
 ghost use Rattle.std.specs.Str.{chars};
@@ -77,6 +77,27 @@ fn is_wide_name_char(c: char) -> bool
     is_wide_name_start(c) || matches!(c, '\u{B7}' | '\u{300}'..='\u{36F}' | '\u{203F}'..='\u{2040}')
 }
 
+/// Whether a byte is an ASCII character and a NameChar (XML 1.0, 2.3).
+#[inline]
+pub fn is_ascii_name_byte(byte: u8) -> bool
+    ensures { result ≡ (nat_lt byte 128 && class.is_name_char byte) }
+{
+    byte == b':' || is_ascii_ncname_byte(byte)
+}
+
+/// Whether a byte is an ASCII character and a NameChar other than a colon.
+#[inline]
+pub fn is_ascii_ncname_byte(byte: u8) -> bool
+    ensures { result ≡ (nat_lt byte 128 && class.is_ncname_char byte) }
+{
+    // Most bytes of names are small letters, so these come first.
+    if byte >= b'a' {
+        byte <= b'z'
+    } else {
+        matches!(byte, b'A'..=b'Z' | b'0'..=b'9' | b'-' | b'.' | b'_')
+    }
+}
+
 /// Whether `text` is a Name (XML 1.0, 2.3).
 pub fn is_name(text: &str) -> bool
     ensures { result ≡ class.is_name (chars text.now) }
@@ -86,6 +107,31 @@ pub fn is_name(text: &str) -> bool
 
 /// Whether `text` is an NCName: a Name without colon (Namespaces in XML 1.0, 3).
 pub fn is_ncname(text: &str) -> bool
+    ensures { result ≡ class.is_ncname (chars text.now) }
+{
+    // Most names are of ASCII characters alone.
+    is_ascii_ncname(text.as_bytes()) || is_wide_ncname(text)
+}
+
+/// Whether bytes are an NCName of ASCII characters.
+fn is_ascii_ncname(bytes: &[u8]) -> bool
+    ensures first { result ≡ true → option_map_or class.is_name_start (slice_get bytes.now 0) false ≡ true }
+    ensures all { result ≡ true → list_all (λ b. nat_lt b 128 && class.is_ncname_char b) bytes.now ≡ true }
+{
+    begins_as_ascii_ncname(bytes) && are_ascii_ncname_chars(bytes)
+}
+
+fn begins_as_ascii_ncname(bytes: &[u8]) -> bool
+    ensures { result ≡ true → option_map_or class.is_name_start (slice_get bytes.now 0) false ≡ true }
+{
+    match bytes.first() {
+        Some(first) => matches!(*first, b'a'..=b'z' | b'A'..=b'Z' | b'_'),
+        _ => false,
+    }
+}
+
+/// The same of text that characters beyond ASCII may be in.
+fn is_wide_ncname(text: &str) -> bool
     ensures { result ≡ class.is_ncname (chars text.now) }
 {
     begins_as_name(text) && holds_ncname_chars(text)
@@ -109,19 +155,17 @@ fn holds_name_chars(text: &str) -> bool
 fn holds_ncname_chars(text: &str) -> bool
     ensures { result ≡ list_all class.is_ncname_char (chars text.now) }
 {
-    are_ascii_ncname_chars(text.as_bytes()) || text.chars().all(|c| is_name_char(c) && c != ':')
+    text.chars().all(|c| is_name_char(c) && c != ':')
 }
 
 fn are_ascii_name_chars(bytes: &[u8]) -> bool
     ensures { result ≡ list_all (λ b. nat_lt b 128 && class.is_name_char b) bytes.now }
 {
-    bytes
-        .iter()
-        .all(|b| b.is_ascii() && is_name_char(char::from(*b)))
+    bytes.iter().all(|b| is_ascii_name_byte(*b))
 }
 
 fn are_ascii_ncname_chars(bytes: &[u8]) -> bool
     ensures { result ≡ list_all (λ b. nat_lt b 128 && class.is_ncname_char b) bytes.now }
 {
-    bytes.iter().all(|b| b.is_ascii() && is_name_char(char::from(*b)) && *b != b':')
+    bytes.iter().all(|b| is_ascii_ncname_byte(*b))
 }

@@ -18,7 +18,10 @@ mod tests;
 mod text;
 
 pub use boxed::Boxed;
-pub use character::{is_char, is_name, is_name_char, is_name_start, is_ncname, is_space};
+pub use character::{
+    is_ascii_name_byte, is_ascii_ncname_byte, is_char, is_name, is_name_char, is_name_start,
+    is_ncname, is_space,
+};
 pub use copied::Copied;
 pub use expression::{Cmp, Fun, Op};
 pub use fault::{Place, RunCode, RunFault, SheetCode, SheetFault, XmlFault, XmlKind};

@@ -115,6 +115,16 @@ fn classes_at_their_edges(rt: HostRuntime) {
 }
 
 #[test]
+fn ascii_bytes_of_names(rt: HostRuntime) {
+    for byte in 0..=255u8 {
+        let c = char::from(byte);
+        let wanted = c.is_ascii() && is_name_char(c);
+        assert_eq!(rt; is_ascii_name_byte(byte), wanted, "{byte}");
+        assert_eq!(rt; is_ascii_ncname_byte(byte), wanted && c != ':', "{byte}");
+    }
+}
+
+#[test]
 fn names_without_colon(rt: HostRuntime) {
     for (text, wanted) in [
         ("", false),
@@ -124,7 +134,12 @@ fn names_without_colon(rt: HostRuntime) {
         (":a", false),
         ("-a", false),
         ("1a", false),
+        ("Zz09", true),
+        ("[a", false),
+        ("a[", false),
+        ("a{", false),
         ("é", true),
+        ("aé:", false),
         ("a·", true),
         ("·a", false),
         ("a b", false),
