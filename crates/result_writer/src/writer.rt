@@ -2,7 +2,7 @@ ghost use Rattle.std.specs.Prelude.{◌≡◌, ◌++◌, [], true, false, IfOk, 
 ghost use Rattle.stx_base.specs.declared.part.Part.TheVariants.{Start, Attribute, End, Chars, Comment, Pi};
 ghost use Rattle.result_writer.specs.Opened.{dressing};
 ghost use Rattle.result_writer.specs.Target as spec;
-ghost use Rattle.result_writer.specs.Target.{attribute_fault, behind, dressed_in, fresh, is_closed, settles, text, whole_fault, IsCause};
+ghost use Rattle.result_writer.specs.Target.{behind, dressed_in, fresh, is_closed, settles, text, whole_fault, IsCause};
 
 use crate::escape::{Context, append_escaped};
 use crate::fault::{ResultFault, WriteStop};
@@ -91,7 +91,7 @@ impl Writer {
     }
 
     /// The same of an element's start, whose scope is copied only where it isn't that of the start before. After a refusal
-    /// all is unchanged.
+    /// the name is dropped, and all else is unchanged.
     pub fn put_start(
         &mut self,
         name: Name,
@@ -120,9 +120,10 @@ impl Writer {
         Ok(())
     }
 
-    fn put_attribute(&mut self, name: Name, value: Text) -> Result<(), WriteStop>
-        ensures taken { OnOk result (attribute_fault self.old.left name value ≡ None) }
-        ensures fault { IfErr result (IsCause (attribute_fault self.old.left name value)) }
+    /// The same of an attribute, which settles nothing. After a refusal it is dropped, and all else is unchanged.
+    pub fn put_attribute(&mut self, name: Name, value: Text) -> Result<(), WriteStop>
+        ensures taken { OnOk result (spec.fault self.old.limit self.old.left (Attribute name value) ≡ None) }
+        ensures fault { IfErr result (IsCause (spec.fault self.old.limit self.old.left (Attribute name value))) }
         ensures ok { OnOk result (self.new ≡ behind self.old (Attribute name value)) }
         ensures err { OnErr result (self.new ≡ self.old) }
     {
@@ -133,7 +134,8 @@ impl Writer {
         Ok(())
     }
 
-    fn put_end(&mut self, name: &Name, out: &mut Vec<u8>) -> Result<(), WriteStop>
+    /// The same of an element's end. After a refusal all is unchanged.
+    pub fn put_end(&mut self, name: &Name, out: &mut Vec<u8>) -> Result<(), WriteStop>
         ensures taken { OnOk result (spec.fault self.old.limit self.old.left (End name.now) ≡ None) }
         ensures fault { IfErr result (IsCause (spec.fault self.old.limit self.old.left (End name.now))) }
         ensures ok { OnOk result (self.new ≡ behind self.old (End name.now)) }
@@ -152,7 +154,8 @@ impl Writer {
         Ok(())
     }
 
-    fn put_chars(&mut self, text: &Text, out: &mut Vec<u8>) -> Result<(), WriteStop>
+    /// The same of characters. After a refusal all is unchanged.
+    pub fn put_chars(&mut self, text: &Text, out: &mut Vec<u8>) -> Result<(), WriteStop>
         ensures taken { OnOk result (spec.fault self.old.limit self.old.left (Chars text.now) ≡ None) }
         ensures fault { IfErr result (IsCause (spec.fault self.old.limit self.old.left (Chars text.now))) }
         ensures ok { OnOk result (self.new ≡ behind self.old (Chars text.now)) }
@@ -171,7 +174,8 @@ impl Writer {
         Ok(())
     }
 
-    fn put_comment(&mut self, text: &Text, out: &mut Vec<u8>) -> Result<(), WriteStop>
+    /// The same of a comment. After a refusal all is unchanged.
+    pub fn put_comment(&mut self, text: &Text, out: &mut Vec<u8>) -> Result<(), WriteStop>
         ensures taken { OnOk result (spec.fault self.old.limit self.old.left (Comment text.now) ≡ None) }
         ensures fault { IfErr result (IsCause (spec.fault self.old.limit self.old.left (Comment text.now))) }
         ensures ok { OnOk result (self.new ≡ behind self.old (Comment text.now)) }
@@ -190,7 +194,8 @@ impl Writer {
         Ok(())
     }
 
-    fn put_instruction(
+    /// The same of a processing instruction. After a refusal all is unchanged.
+    pub fn put_instruction(
         &mut self,
         target: &Text,
         text: &Text,

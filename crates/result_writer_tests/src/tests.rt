@@ -117,8 +117,8 @@ fn told_end(faults: &mut String, answer: Result<(), ResultFault>) -> Result<(), 
 enum Handed {
     Lent,
     Over,
-    /// A start by its name and scope, and each other part over.
-    InParts,
+    /// By the call of its kind.
+    ByKind,
 }
 
 impl Handed {
@@ -126,7 +126,7 @@ impl Handed {
         match self {
             Handed::Lent => put_lent(writer, part, out),
             Handed::Over => writer.put_owned(part, out),
-            Handed::InParts => put_in_parts(writer, part, out),
+            Handed::ByKind => put_by_kind(writer, part, out),
         }
     }
 }
@@ -135,14 +135,14 @@ fn put_lent(writer: &mut Writer, part: Part, out: &mut Vec<u8>) -> Result<(), Wr
     writer.put(&part, out)
 }
 
-fn put_in_parts(writer: &mut Writer, part: Part, out: &mut Vec<u8>) -> Result<(), WriteStop> {
+fn put_by_kind(writer: &mut Writer, part: Part, out: &mut Vec<u8>) -> Result<(), WriteStop> {
     match part {
         Part::Start { name, scope } => writer.put_start(name, &scope, out),
-        Part::Attribute { name, value } => writer.put_owned(Part::Attribute { name, value }, out),
-        Part::End { name } => writer.put_owned(Part::End { name }, out),
-        Part::Chars { text } => writer.put_owned(Part::Chars { text }, out),
-        Part::Comment { text } => writer.put_owned(Part::Comment { text }, out),
-        Part::Pi { target, text } => writer.put_owned(Part::Pi { target, text }, out),
+        Part::Attribute { name, value } => writer.put_attribute(name, value),
+        Part::End { name } => writer.put_end(&name, out),
+        Part::Chars { text } => writer.put_chars(&text, out),
+        Part::Comment { text } => writer.put_comment(&text, out),
+        Part::Pi { target, text } => writer.put_instruction(&target, &text, out),
     }
 }
 
@@ -187,7 +187,7 @@ fn check(
     wanted: (&str, &str),
 ) -> Result<(), Fail> {
     let (bytes, refusals) = wanted;
-    for handed in [Handed::Lent, Handed::Over, Handed::InParts] {
+    for handed in [Handed::Lent, Handed::Over, Handed::ByKind] {
         let mut faults = String::new(alloc);
         let out = written(alloc, limit, handed, parts, &mut faults)?;
         check_text(rt, "bytes", out.as_slice(), bytes, parts);
