@@ -1,6 +1,7 @@
 mod Apart
 mod Attributed
 mod Bound
+mod Escaping
 mod Judging
 mod Naming
 mod Nesting

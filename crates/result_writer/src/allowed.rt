@@ -12,6 +12,9 @@ ghost use Rattle.result_writer.specs.Allowed.{has_pair, ends_in, is_good_attribu
 use crate::words::{agree, is_empty, is_word};
 use stx_base::{Name, Text, is_char, is_ncname as is_any_ncname};
 
+/// From so many bytes on it pays to compare them many at a time.
+const MANY: usize = 32;
+
 const XML_URI: &'static str = "http://www.w3.org/XML/1998/namespace";
 
 const XMLNS_URI: &'static str = "http://www.w3.org/2000/xmlns/";
@@ -116,9 +119,30 @@ fn holds_chars(text: &str) -> bool
 fn are_ascii_chars(bytes: &[u8]) -> bool
     ensures { result ≡ list_all (λ b. nat_lt b 128 && is_char b) bytes.now }
 {
-    bytes
-        .iter()
-        .all(|b| b.is_ascii() && is_char(char::from(*b)))
+    if bytes.len() < MANY {
+        bytes.iter().all(|b| is_ascii_char(*b))
+    } else {
+        are_many_ascii_chars(bytes)
+    }
+}
+
+fn are_many_ascii_chars(bytes: &[u8]) -> bool
+    ensures { result ≡ list_all (λ b. nat_lt b 128 && is_char b) bytes.now }
+{
+    // No byte ends the loop, so that many bytes are compared at once.
+    let mut chars = true;
+    for b in bytes {
+        chars = chars & is_ascii_char(*b);
+    }
+    chars
+}
+
+fn is_ascii_char(byte: u8) -> bool
+    ensures { result ≡ (nat_lt byte 128 && is_char byte) }
+{
+    // One value without branches, as bytes that are compared together need it.
+    let is_space = (byte == b'\t') | (byte == b'\n') | (byte == b'\r');
+    ((byte >= b' ') & (byte < 0x80)) | is_space
 }
 
 fn has_pair(bytes: &[u8], first: u8, second: u8) -> bool

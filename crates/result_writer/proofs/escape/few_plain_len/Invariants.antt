@@ -1,6 +1,6 @@
 use Rattle.std.proofs.Common.{◌≡◌, take}
 use Rattle.result_writer.specs.Escape.{escaped}
-use Rattle.result_writer.proofs.escape.plain_len.Given as goal
+use Rattle.result_writer.proofs.escape.few_plain_len.Given as goal
 
 -- the bytes so far stand for themselves
 abbrev pub invariant-loop-at : goal.invariant-loop-at
