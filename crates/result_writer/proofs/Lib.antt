@@ -2,6 +2,7 @@ mod Apart
 mod Attributed
 mod Bound
 mod Escaping
+mod Growing
 mod Judging
 mod Naming
 mod Nesting

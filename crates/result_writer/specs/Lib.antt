@@ -1,5 +1,6 @@
 pub mod Allowed
 pub mod Attributes
+pub mod Bytes
 pub mod Escape
 pub mod Laws
 pub mod Nodes

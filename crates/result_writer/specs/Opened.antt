@@ -1,6 +1,8 @@
 -- What the fields of a target mean.
-use Rattle.std.specs.Prelude.{◌≡◌, ℕ, ◌+◌, ◌-◌, true, List, [], ◌∷◌, ◌++◌, Option, Some, None, length, take, drop, reverse}
+use Rattle.std.specs.Prelude.{◌≡◌, ℕ, ◌+◌, ◌-◌, Bool, false, true, List, [], ◌∷◌, ◌++◌, Option, Some, None, length, take, drop, reverse}
+use Rattle.std.specs.List.{list_all}
 use Rattle.stx_base.specs.declared.name.Binding.{Binding}
+use Rattle.result_writer.specs.Allowed.{is_good_name}
 use Rattle.result_writer.specs.Steady.{given, keep_bindings}
 use Rattle.result_writer.specs.Target.{Element, Target}
 use Rattle.result_writer.specs.declared.opened.Around.{Around}
@@ -16,10 +18,18 @@ elements (e ∷ outer) bindings =
     let before = length bindings - e.declared in
     record { name = e.name; declared = drop before bindings } ∷ elements outer (take before bindings)
 
+-- the last tag, where it is held back
+abbrev pub held_if : Bool → HeldTag → Option HeldTag
+held_if false tag = None
+held_if true tag = Some tag
+
+abbrev pub held : Around → Option HeldTag
+held around = held_if around.holds around.tag
+
 abbrev pub target_of : Inside → Target
 target_of t = record {
   limit = t.limit;
-  left = record { elements = elements (reverse t.around.elements.items) t.around.bindings.items; held = t.held };
+  left = record { elements = elements (reverse t.around.elements.items) t.around.bindings.items; held = held t.around };
 }
 
 -- how many bindings elements declared
@@ -27,15 +37,12 @@ abbrev pub declared_by : List OpenElement → ℕ
 declared_by [] = 0
 declared_by (e ∷ outer) = declared_by outer + e.declared
 
--- the scope of the tag that is held back, or else of the last one
-abbrev pub last_scope : Option HeldTag → List Binding → List Binding
-last_scope None scope = scope
-last_scope (Some tag) scope = tag.scope
-
--- there are no other bindings, and a scope that is said to be in force is
+-- there are no other bindings, a scope that is said to be in force is, and names were judged when their elements started
 pub record IsSound (t : Inside) : Type 0 where
   pub counted : declared_by (reverse t.around.elements.items) ≡ length t.around.bindings.items
-  pub kept : t.around.keeps ≡ true → keep_bindings t.around.bindings.items (last_scope t.held t.around.scope) ≡ true
+  pub kept : t.around.keeps ≡ true → keep_bindings t.around.bindings.items t.around.tag.scope ≡ true
+  pub opened : list_all (λ e. is_good_name e.name) t.around.elements.items ≡ true
+  pub held_back : t.around.holds ≡ true → is_good_name t.around.tag.name ≡ true
 
 -- what is written with the tag that is held back, if there is one
 abbrev pub dressing : Option HeldTag → Option Dressed → Option Dressed
@@ -54,15 +61,16 @@ declared_in None = []
 declared_in (Some d) = d.declared
 
 -- what settling leaves
-pub record Settles (old : Around) (held : Option HeldTag) (d : Option Dressed) (new : Around) (left : Option HeldTag) : Type 0 where
-  pub elements : new.elements.items ≡ old.elements.items ++ elements_of held d
+pub record Settles (old : Around) (d : Option Dressed) (new : Around) : Type 0 where
+  pub elements : new.elements.items ≡ old.elements.items ++ elements_of (held old) d
   pub bindings : new.bindings.items ≡ old.bindings.items ++ declared_in d
-  pub scope : new.scope ≡ last_scope held old.scope
+  pub scope : new.tag.scope ≡ old.tag.scope
   pub keeps : new.keeps ≡ true → (old.keeps ≡ true) × (declared_in d ≡ [])
-  pub settled : left ≡ None
+  pub settled : new.holds ≡ false
 
 pub record SameAround (old new : Around) : Type 0 where
   pub elements : new.elements.items ≡ old.elements.items
   pub bindings : new.bindings.items ≡ old.bindings.items
-  pub scope : new.scope ≡ old.scope
+  pub tag : new.tag ≡ old.tag
+  pub holds : new.holds ≡ old.holds
   pub keeps : new.keeps ≡ old.keeps

@@ -67,6 +67,16 @@ impl Attributes {
         }
     }
 
+    /// Drops all attributes. Allocates nothing.
+    pub fn clear(&mut self)
+        ensures { self.new ≡ [] }
+    {
+        if self.list.len() > FEW {
+            self.places.clear();
+        }
+        self.list.truncate(0);
+    }
+
     /// Where the first attribute of the name stands.
     fn place(&self, name: &Name) -> Result<Option<usize>, Memory>
         ensures { IfOk result (λ place. MatchOption place (list_any (λ a. same_name a.name name.now) self.now ≡ false) (IsFirst self.now name.now)) }

@@ -1,8 +1,10 @@
 ghost use Rattle.std.specs.Prelude.{◌≡◌, ◌++◌, ◌∷◌, ◌≤◌, [], length, take, true, OnOk};
 ghost use Rattle.std.specs.Option.{option_copied};
+ghost use Rattle.result_writer.specs.Bytes.{Begins};
 ghost use Rattle.result_writer.specs.Escape.{reference_of, written, escaped};
 ghost use Rattle.result_writer.specs.declared.escape.Context.TheVariants.{Content, Value};
 
+use crate::bytes::{append, append_byte};
 use stx_base::Memory;
 
 /// So many bytes of a long text are looked at together.
@@ -125,24 +127,28 @@ fn few_plain_len(context: Context, bytes: &[u8]) -> usize
     bytes.len()
 }
 
+#[tactic(auto, using(crate::proofs::Growing::begins_trans, crate::proofs::Growing::begins_self))]
 fn append_written(context: Context, byte: u8, out: &mut Vec<u8>) -> Result<(), Memory>
-    ensures { OnOk result (out.new.items ≡ out.old.items ++ written context byte) }
+    ensures ok { OnOk result (out.new.items ≡ out.old.items ++ written context byte) }
+    ensures kept { Begins out.old.items out.new.items }
 {
     match reference(context, byte) {
-        Some(reference) => out.extend_from_slice(reference)?,
-        None => out.push(byte)?,
+        Some(reference) => append(reference, out)?,
+        None => append_byte(byte, out)?,
     }
     Ok(())
 }
 
 /// Appends `bytes`, with references for the bytes that can't stand for themselves.
+#[tactic(auto, using(crate::proofs::Growing::begins_trans, crate::proofs::Growing::begins_self))]
 pub fn append_escaped(context: Context, bytes: &[u8], out: &mut Vec<u8>) -> Result<(), Memory>
-    ensures { OnOk result (out.new.items ≡ out.old.items ++ escaped context bytes.now) }
+    ensures ok { OnOk result (out.new.items ≡ out.old.items ++ escaped context bytes.now) }
+    ensures kept { Begins out.old.items out.new.items }
 {
     let mut rest = bytes;
     loop {
         let (plain, others) = rest.split_at(plain_len(context, rest));
-        out.extend_from_slice(plain)?;
+        append(plain, out)?;
         let Some((byte, others)) = others.split_first() else {
             return Ok(());
         };

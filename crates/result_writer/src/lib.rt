@@ -3,6 +3,7 @@
 
 mod allowed;
 mod attributes;
+mod bytes;
 mod escape;
 mod fault;
 pub mod law;

@@ -1,9 +1,11 @@
-ghost use Rattle.std.specs.Prelude.{◌≡◌, ◌<◌, ◌+◌, ◌++◌, ◌∷◌, [], ℕ, None, true, List as Items, IfOk, IfErr, IfSome, MatchOption, OnOk, OnErr, is_some, length, slice_get, slice_set, unwrap_or, vec_capacity, vec_len, ◌≤◌};
+ghost use Rattle.std.specs.Prelude.{◌≡◌, ◌<◌, ◌+◌, ◌++◌, ◌∷◌, [], ℕ, None, Some, false, true, List as Items, codes, IfOk, IfErr, IfSome, MatchOption, OnOk, OnErr, is_some, length, slice_get, slice_set, unwrap_or, vec_capacity, vec_len, ◌≤◌};
 ghost use Rattle.std.specs.Option.{option_copied};
 ghost use Rattle.stx_base.specs.declared.name.Attr.{Attr};
 ghost use Rattle.stx_base.specs.declared.name.Name.{Name};
 ghost use Rattle.stx_base.specs.declared.part.Part.TheVariants.{Start, Attribute, End, Chars};
-ghost use Rattle.result_writer.specs.Opened.{dressing, last_scope, SameAround, Settles};
+ghost use Rattle.result_writer.specs.Allowed.{is_good_name};
+ghost use Rattle.result_writer.specs.Bytes.{Begins};
+ghost use Rattle.result_writer.specs.Opened.{dressing, held, SameAround, Settles};
 ghost use Rattle.result_writer.specs.Steady.{keep_bindings};
 ghost use Rattle.result_writer.specs.Target as spec;
 ghost use Rattle.result_writer.specs.Target.{behind, comment_text, depth, dressed_in, end_text, fresh, innermost, instruction_text, is_closed, tag_text, with_attribute, IsCause};
@@ -12,6 +14,7 @@ use crate::allowed::{
     are_chars, is_good_attribute, is_good_comment, is_good_data, is_good_name, is_good_target,
 };
 use crate::attributes::Attributes;
+use crate::bytes::{append, append_byte, append_two};
 use crate::fault::{ResultFault, WriteStop};
 use crate::steady::{copy_unless_same, keep_bindings};
 use crate::tag::{Dressed, HeldTag, append_end_tag, append_open_tag, dress};
@@ -29,16 +32,18 @@ pub struct OpenElement {
     declared: usize,
 }
 
-/// What is open around the next part, but for a tag that is held back.
+/// What is open around the next part.
 #[derive(Debug, Drop)]
 pub struct Around {
     /// The innermost last.
     elements: Vec<OpenElement>,
     /// What they declared, the innermost last. So a prefix is looked up among the changes alone.
     bindings: Vec<Binding>,
-    /// The scope of the last tag that was settled: the next one often comes with the same.
-    scope: List<Binding>,
-    /// Whether the scope of the tag that is held back, or else `scope`, is known to be in force.
+    /// The last tag. Once it is settled it stays for its scope, with which the next one often comes, and for its room.
+    tag: HeldTag,
+    /// Whether it is held back.
+    holds: bool,
+    /// Whether its scope is known to be in force.
     keeps: bool,
 }
 
@@ -48,7 +53,6 @@ pub struct Opened {
     alloc: Global,
     limit: u32,
     around: Around,
-    held: Option<HeldTag>,
 }
 
 impl Model for Opened {
@@ -74,10 +78,10 @@ impl Opened {
             around: Around {
                 elements: Vec::new(alloc),
                 bindings: Vec::new(alloc),
-                scope: List::new(alloc),
+                tag: no_tag(alloc),
+                holds: false,
                 keeps: true,
             },
-            held: None,
         }
     }
 
@@ -102,7 +106,7 @@ impl Opened {
     pub fn closed(&self) -> bool
         ensures { result ≡ is_closed self.now.left.elements self.now.left.held }
     {
-        self.held.is_none() && self.around.elements.is_empty()
+        !self.around.holds && self.around.elements.is_empty()
     }
 
     /// The first fault of a part.
@@ -138,7 +142,7 @@ impl Opened {
             Some(ResultFault::BadName)
         } else if !are_chars(value) {
             Some(ResultFault::BadChar)
-        } else if self.held.is_some() {
+        } else if self.around.holds {
             None
         } else {
             Some(ResultFault::LateAttribute)
@@ -148,10 +152,15 @@ impl Opened {
     pub(crate) fn end_fault(&self, name: &Name) -> Option<ResultFault>
         ensures { result ≡ spec.end_fault self.now.left name.now }
     {
+        let innermost = self.innermost();
+        // Most ends have the very name of their start, which was judged there.
+        if is_name(innermost, name) {
+            return None;
+        }
         if !is_good_name(name) {
             return Some(ResultFault::BadName);
         }
-        match self.innermost() {
+        match innermost {
             None => Some(ResultFault::UnmatchedEnd),
             Some(innermost) if same_name(innermost, name) => None,
             Some(_) => Some(ResultFault::WrongEnd),
@@ -162,21 +171,24 @@ impl Opened {
     fn depth(&self) -> usize
         ensures { result ≡ depth self.now.left.elements self.now.left.held }
     {
-        match &self.held {
-            None => self.around.elements.len(),
-            Some(_) => self.around.elements.len() + 1,
+        if self.around.holds {
+            self.around.elements.len() + 1
+        } else {
+            self.around.elements.len()
         }
     }
 
+    /// The name of the innermost element, which is a good one.
     fn innermost(&self) -> Option<&Name>
-        ensures { option_copied result ≡ innermost self.now.left.elements self.now.left.held }
+        ensures name { option_copied result ≡ innermost self.now.left.elements self.now.left.held }
+        ensures good { IfSome result (λ name. is_good_name name.now ≡ true) }
     {
-        match &self.held {
-            Some(tag) => Some(&tag.name),
-            None => match self.around.elements.last() {
-                Some(element) => Some(&element.name),
-                None => None,
-            },
+        if self.around.holds {
+            return Some(&self.around.tag.name);
+        }
+        match self.around.elements.last() {
+            Some(element) => Some(&element.name),
+            None => None,
         }
     }
 
@@ -184,45 +196,59 @@ impl Opened {
     pub(crate) fn dressed(&self) -> Result<Option<Dressed>, Memory>
         ensures { IfOk result (λ d. dressing self.now.left.held d ≡ dressed_in self.now.left.elements self.now.left.held) }
     {
-        match &self.held {
-            None => Ok(None),
-            Some(tag) => {
-                let around = &self.around;
-                let dressed = dress(self.alloc, &around.bindings, tag, around.keeps)?;
-                Ok(dressed)
-            }
+        let around = &self.around;
+        if !around.holds {
+            return Ok(None);
         }
+        let dressed = dress(self.alloc, &around.bindings, &around.tag, around.keeps)?;
+        Ok(dressed)
     }
 
-    /// Appends the tag that is held back, if there is one, and its end.
+    /// Appends the tag that is held back, if there is one.
+    #[tactic(auto, using(crate::proofs::Growing::begins_trans, crate::proofs::Growing::begins_self))]
     pub(crate) fn append_tag(
         &self,
         dressed: &Option<Dressed>,
-        end: &[u8],
         out: &mut Vec<u8>,
     ) -> Result<(), Memory>
         requires { dressing self.now.left.held dressed.now ≡ dressed_in self.now.left.elements self.now.left.held }
-        ensures { OnOk result (out.new.items ≡ out.old.items ++ tag_text self.now.left.elements self.now.left.held end.now) }
+        ensures ok { OnOk result (out.new.items ≡ out.old.items ++ tag_text self.now.left.elements self.now.left.held (codes ">")) }
+        ensures kept { Begins out.old.items out.new.items }
     {
-        let Some(tag) = &self.held else {
+        if !self.around.holds {
             return Ok(());
-        };
-        append_open_tag(tag, dressed, out)?;
-        out.extend_from_slice(end)?;
-        Ok(())
+        }
+        append_open_tag(&self.around.tag, dressed, out)?;
+        append_byte(b'>', out)
+    }
+
+    /// The same of one that has nothing in it.
+    #[tactic(auto, using(crate::proofs::Growing::begins_trans, crate::proofs::Growing::begins_self))]
+    fn append_empty_tag(&self, dressed: &Option<Dressed>, out: &mut Vec<u8>) -> Result<(), Memory>
+        requires { dressing self.now.left.held dressed.now ≡ dressed_in self.now.left.elements self.now.left.held }
+        ensures ok { OnOk result (out.new.items ≡ out.old.items ++ tag_text self.now.left.elements self.now.left.held (codes "/>")) }
+        ensures kept { Begins out.old.items out.new.items }
+    {
+        if !self.around.holds {
+            return Ok(());
+        }
+        append_open_tag(&self.around.tag, dressed, out)?;
+        append_two(b'/', b'>', out)
     }
 
     /// Appends the end of the innermost element.
+    #[tactic(auto, using(crate::proofs::Growing::begins_trans, crate::proofs::Growing::begins_self))]
     pub(crate) fn append_end(
         &self,
         dressed: &Option<Dressed>,
         out: &mut Vec<u8>,
     ) -> Result<(), Memory>
         requires { dressing self.now.left.held dressed.now ≡ dressed_in self.now.left.elements self.now.left.held }
-        ensures { OnOk result (out.new.items ≡ out.old.items ++ end_text self.now.left.elements self.now.left.held) }
+        ensures ok { OnOk result (out.new.items ≡ out.old.items ++ end_text self.now.left.elements self.now.left.held) }
+        ensures kept { Begins out.old.items out.new.items }
     {
-        if self.held.is_some() {
-            return self.append_tag(dressed, b"/>", out);
+        if self.around.holds {
+            return self.append_empty_tag(dressed, out);
         }
         match self.around.elements.last() {
             None => Ok(()),
@@ -232,7 +258,8 @@ impl Opened {
 
     /// Takes a part that is accepted. After a refusal all is unchanged.
     fn take(&mut self, part: Part, dressed: Option<Dressed>) -> Result<(), Memory>
-        requires { dressing self.old.left.held dressed ≡ dressed_in self.old.left.elements self.old.left.held }
+        requires dressed { dressing self.old.left.held dressed ≡ dressed_in self.old.left.elements self.old.left.held }
+        requires accepted { spec.fault self.old.limit self.old.left part ≡ None }
         ensures ok { OnOk result (self.new ≡ behind self.old part) }
         ensures err { OnErr result (self.new ≡ self.old) }
     {
@@ -258,19 +285,14 @@ impl Opened {
         scope: &List<Binding>,
         dressed: Option<Dressed>,
     ) -> Result<(), Memory>
-        requires { dressing self.old.left.held dressed ≡ dressed_in self.old.left.elements self.old.left.held }
+        requires dressed { dressing self.old.left.held dressed ≡ dressed_in self.old.left.elements self.old.left.held }
+        requires good { is_good_name name ≡ true }
         ensures ok { OnOk result (self.new ≡ behind self.old (Start name scope.now)) }
         ensures err { OnErr result (self.new ≡ self.old) }
     {
-        let other = copy_unless_same(
-            self.alloc,
-            scope,
-            last_scope(&self.held, &self.around.scope),
-        )?;
-        settle_tag(&mut self.around, &mut self.held, dressed)?;
-        let scope = self.around.take_scope(self.alloc, other);
-        let attrs = Attributes::new(self.alloc);
-        self.held = Some(HeldTag { name, scope, attrs });
+        let other = copy_unless_same(self.alloc, scope, &self.around.tag.scope)?;
+        self.around.settle(self.alloc, dressed)?;
+        self.around.hold(name, other);
         Ok(())
     }
 
@@ -278,24 +300,22 @@ impl Opened {
         ensures ok { OnOk result (self.new ≡ behind self.old (Attribute name value)) }
         ensures err { OnErr result (self.new ≡ self.old) }
     {
-        match &mut self.held {
-            None => Ok(()),
-            Some(tag) => tag.attrs.set(name, value),
+        if self.around.holds {
+            self.around.tag.attrs.set(name, value)
+        } else {
+            Ok(())
         }
     }
 
     pub(crate) fn end(&mut self)
         ensures { (name : Name) → self.new ≡ behind self.old (End name) }
     {
-        match self.held.take() {
-            Some(tag) => self.around.scope = tag.scope,
-            None => {
-                if let Some(element) = self.around.elements.pop() {
-                    let outer = self.around.bindings.len() - element.declared;
-                    self.around.bindings.truncate(outer);
-                    self.around.keeps = self.around.keeps && element.declared == 0;
-                }
-            }
+        if self.around.holds {
+            self.around.holds = false;
+        } else if let Some(element) = self.around.elements.pop() {
+            let outer = self.around.bindings.len() - element.declared;
+            self.around.bindings.truncate(outer);
+            self.around.keeps = self.around.keeps && element.declared == 0;
         }
     }
 
@@ -305,121 +325,111 @@ impl Opened {
         ensures ok { OnOk result (self.new ≡ behind self.old (Chars [])) }
         ensures err { OnErr result (self.new ≡ self.old) }
     {
-        settle_tag(&mut self.around, &mut self.held, dressed)
+        self.around.settle(self.alloc, dressed)
     }
 }
 
 impl Around {
-    /// Opens an element that declares these. What its tag came with is kept.
-    fn open(&mut self, tag: HeldTag, declared: List<Binding>)
-        requires room { vec_len self.old.elements < vec_capacity self.old.elements }
-        requires room_for_bindings { vec_len self.old.bindings + length declared ≤ vec_capacity self.old.bindings }
-        ensures elements { self.new.elements.items ≡ self.old.elements.items ++ record { name = tag.name; declared = length declared } ∷ [] }
-        ensures bindings { self.new.bindings.items ≡ self.old.bindings.items ++ declared }
-        ensures scope { self.new.scope ≡ tag.scope }
-        ensures keeps { self.new.keeps ≡ true → (self.old.keeps ≡ true) × (declared ≡ []) }
+    /// The tag that is held back is settled: its element is open. After a refusal all is unchanged.
+    fn settle(&mut self, alloc: Global, dressed: Option<Dressed>) -> Result<(), Memory>
+        ensures ok { OnOk result (Settles self.old (dressing (held self.old) dressed) self.new) }
+        ensures err { OnErr result (SameAround self.old self.new) }
     {
-        let element = OpenElement {
-            name: tag.name,
-            declared: declared.len(),
-        };
-        self.keeps = self.keeps && declared.is_empty();
-        self.scope = tag.scope;
-        let _ = self.elements.push(element);
-        let _ = self.bindings.append(&mut declared.into_vec());
+        if !self.holds {
+            return Ok(());
+        }
+        match dressed {
+            None => self.settle_undressed(alloc),
+            Some(dressed) => self.settle_dressed(alloc, dressed),
+        }
     }
 
-    /// Opens an element that declares nothing. What its tag came with is kept.
-    fn open_undressed(&mut self, tag: HeldTag)
-        requires { vec_len self.old.elements < vec_capacity self.old.elements }
-        ensures elements { self.new.elements.items ≡ self.old.elements.items ++ record { name = tag.name; declared = 0 } ∷ [] }
+    /// The same of a tag that is written with its names and values alone.
+    fn settle_undressed(&mut self, alloc: Global) -> Result<(), Memory>
+        requires { self.old.holds ≡ true }
+        ensures ok { OnOk result (Settles self.old (dressing (held self.old) None) self.new) }
+        ensures err { OnErr result (SameAround self.old self.new) }
+    {
+        self.elements.reserve(1)?;
+        self.open(alloc, 0);
+        Ok(())
+    }
+
+    /// The same of a tag that is written with more.
+    fn settle_dressed(&mut self, alloc: Global, dressed: Dressed) -> Result<(), Memory>
+        requires { self.old.holds ≡ true }
+        ensures ok { OnOk result (Settles self.old (dressing (held self.old) (Some dressed)) self.new) }
+        ensures err { OnErr result (SameAround self.old self.new) }
+    {
+        let Dressed {
+            declared,
+            prefixes: _prefixes,
+        } = dressed;
+        self.elements.reserve(1)?;
+        self.bindings.reserve(declared.len())?;
+        self.keeps = self.keeps && declared.is_empty();
+        self.open(alloc, declared.len());
+        let _ = self.bindings.append(&mut declared.into_vec());
+        Ok(())
+    }
+
+    /// Opens the element of the tag, which declares so many bindings.
+    fn open(&mut self, alloc: Global, declared: usize)
+        requires room { vec_len self.old.elements < vec_capacity self.old.elements }
+        ensures elements { self.new.elements.items ≡ self.old.elements.items ++ record { name = self.old.tag.name; declared = declared } ∷ [] }
         ensures bindings { self.new.bindings ≡ self.old.bindings }
-        ensures scope { self.new.scope ≡ tag.scope }
+        ensures scope { self.new.tag.scope ≡ self.old.tag.scope }
+        ensures holds { self.new.holds ≡ false }
         ensures keeps { self.new.keeps ≡ self.old.keeps }
     {
-        let element = OpenElement {
-            name: tag.name,
-            declared: 0,
-        };
-        self.scope = tag.scope;
-        let _ = self.elements.push(element);
+        let name = mem::replace(&mut self.tag.name, no_name(alloc));
+        self.elements.push_reserved(OpenElement { name, declared });
+        self.holds = false;
     }
 
-    /// The scope of the next tag: the last one, unless it is another.
-    fn take_scope(&mut self, alloc: Global, other: Option<List<Binding>>) -> List<Binding>
-        ensures scope { result ≡ unwrap_or other self.old.scope }
-        ensures keeps { self.new.keeps ≡ true → (other ≡ None → self.old.keeps ≡ true) × (is_some other ≡ true → keep_bindings self.old.bindings.items result ≡ true) }
+    /// Holds back a tag without attributes, of which the scope is the last one unless it is another.
+    fn hold(&mut self, name: Name, other: Option<List<Binding>>)
+        ensures tag { self.new.tag ≡ record { name = name; scope = unwrap_or other self.old.tag.scope; attrs = [] } }
+        ensures holds { self.new.holds ≡ true }
+        ensures keeps { self.new.keeps ≡ true → (other ≡ None → self.old.keeps ≡ true) × (is_some other ≡ true → keep_bindings self.old.bindings.items self.new.tag.scope ≡ true) }
         ensures elements { self.new.elements ≡ self.old.elements }
         ensures bindings { self.new.bindings ≡ self.old.bindings }
     {
-        match other {
-            None => mem::replace(&mut self.scope, List::new(alloc)),
-            Some(other) => {
-                self.keeps = keep_bindings(&self.bindings, other.as_slice());
-                other
-            }
+        if let Some(other) = other {
+            self.keeps = keep_bindings(&self.bindings, other.as_slice());
+            self.tag.scope = other;
         }
+        self.tag.name = name;
+        self.tag.attrs.clear();
+        self.holds = true;
     }
 }
 
-/// The tag that is held back is settled: its element is open. After a refusal all is unchanged.
-fn settle_tag(
-    around: &mut Around,
-    held: &mut Option<HeldTag>,
-    dressed: Option<Dressed>,
-) -> Result<(), Memory>
-    ensures ok { OnOk result (Settles around.old held.old (dressing held.old dressed) around.new held.new) }
-    ensures err { OnErr result (SameAround around.old around.new × (held.new ≡ held.old)) }
+fn no_tag(alloc: Global) -> HeldTag
+    ensures scope { result.scope ≡ [] }
 {
-    match dressed {
-        None => settle_undressed(around, held),
-        Some(dressed) => settle_dressed(around, held, dressed),
+    HeldTag {
+        name: no_name(alloc),
+        scope: List::new(alloc),
+        attrs: Attributes::new(alloc),
     }
 }
 
-/// The same of a tag that is written with its names and values alone.
-fn settle_undressed(around: &mut Around, held: &mut Option<HeldTag>) -> Result<(), Memory>
-    ensures ok { OnOk result (Settles around.old held.old (dressing held.old None) around.new held.new) }
-    ensures err { OnErr result (SameAround around.old around.new × (held.new ≡ held.old)) }
-{
-    if held.is_none() {
-        return Ok(());
+fn no_name(alloc: Global) -> Name {
+    Name {
+        uri: Text::new(alloc),
+        local: Text::new(alloc),
+        prefix: Text::new(alloc),
     }
-    around.elements.reserve(1)?;
-    if let Some(tag) = held.take() {
-        around.open_undressed(tag);
-    }
-    Ok(())
 }
 
-/// The same of a tag that is written with more.
-fn settle_dressed(
-    around: &mut Around,
-    held: &mut Option<HeldTag>,
-    dressed: Dressed,
-) -> Result<(), Memory>
-    ensures ok { OnOk result (Settles around.old held.old (dressing held.old (Some dressed)) around.new held.new) }
-    ensures err { OnErr result (SameAround around.old around.new × (held.new ≡ held.old)) }
+/// Whether the innermost element's name is this one, in its prefix too.
+fn is_name(innermost: Option<&Name>, name: &Name) -> bool
+    ensures { result ≡ true → option_copied innermost.entry ≡ Some name.now }
 {
-    let Dressed {
-        declared,
-        prefixes: _prefixes,
-    } = dressed;
-    around.elements.reserve(1)?;
-    around.bindings.reserve(declared.len())?;
-    if let Some(tag) = held.take() {
-        around.open(tag, declared);
-    }
-    Ok(())
-}
-
-/// The scope of the tag that is held back, or else that of the last one.
-fn last_scope<'a>(held: &'a Option<HeldTag>, scope: &'a List<Binding>) -> &'a List<Binding>
-    ensures { result.now ≡ last_scope held.now scope.now }
-{
-    match held {
-        None => scope,
-        Some(tag) => &tag.scope,
+    match innermost {
+        None => false,
+        Some(innermost) => innermost.same(name) && innermost.prefix.same(&name.prefix),
     }
 }
 
@@ -457,24 +467,28 @@ pub fn instruction_fault(target: &Text, text: &Text) -> Option<ResultFault>
     }
 }
 
+#[tactic(auto, using(crate::proofs::Growing::begins_trans, crate::proofs::Growing::begins_self))]
 pub fn append_comment(text: &Text, out: &mut Vec<u8>) -> Result<(), Memory>
-    ensures { OnOk result (out.new.items ≡ out.old.items ++ comment_text text.now) }
+    ensures ok { OnOk result (out.new.items ≡ out.old.items ++ comment_text text.now) }
+    ensures kept { Begins out.old.items out.new.items }
 {
-    out.extend_from_slice(b"<!--")?;
-    out.extend_from_slice(text.as_str().as_bytes())?;
-    out.extend_from_slice(b"-->")?;
+    append(b"<!--", out)?;
+    append(text.as_str().as_bytes(), out)?;
+    append(b"-->", out)?;
     Ok(())
 }
 
+#[tactic(auto, using(crate::proofs::Growing::begins_trans, crate::proofs::Growing::begins_self))]
 pub fn append_instruction(target: &Text, text: &Text, out: &mut Vec<u8>) -> Result<(), Memory>
-    ensures { OnOk result (out.new.items ≡ out.old.items ++ instruction_text target.now text.now) }
+    ensures ok { OnOk result (out.new.items ≡ out.old.items ++ instruction_text target.now text.now) }
+    ensures kept { Begins out.old.items out.new.items }
 {
-    out.extend_from_slice(b"<?")?;
-    out.extend_from_slice(target.as_str().as_bytes())?;
+    append(b"<?", out)?;
+    append(target.as_str().as_bytes(), out)?;
     if !is_empty(text) {
-        out.push(b' ')?;
-        out.extend_from_slice(text.as_str().as_bytes())?;
+        append_byte(b' ', out)?;
+        append(text.as_str().as_bytes(), out)?;
     }
-    out.extend_from_slice(b"?>")?;
+    append(b"?>", out)?;
     Ok(())
 }

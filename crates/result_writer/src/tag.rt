@@ -1,10 +1,12 @@
 //! Tags as they are written.
 
 ghost use Rattle.std.specs.Prelude.{◌≡◌, ◌++◌, codes, true, IfOk, OnOk};
+ghost use Rattle.result_writer.specs.Bytes.{Begins};
 ghost use Rattle.result_writer.specs.Steady.{given, keep_bindings, own_prefixes, undressed};
 ghost use Rattle.result_writer.specs.Tag.{attribute, attributes, declaration, dressed, end_tag, open_tag, qname, quoted};
 
 use crate::attributes::Attributes;
+use crate::bytes::{append, append_byte, append_two};
 use crate::escape::{Context, append_escaped};
 use crate::order::declarations;
 use crate::steady::keeps_names;
@@ -60,47 +62,57 @@ fn dress_by_table(alloc: Global, in_force: &[Binding], tag: &HeldTag) -> Result<
     Ok(Dressed { declared, prefixes })
 }
 
+#[tactic(auto, using(crate::proofs::Growing::begins_trans, crate::proofs::Growing::begins_self))]
 fn append_qname(prefix: &Text, local: &Text, out: &mut Vec<u8>) -> Result<(), Memory>
-    ensures { OnOk result (out.new.items ≡ out.old.items ++ qname prefix.now local.now) }
+    ensures ok { OnOk result (out.new.items ≡ out.old.items ++ qname prefix.now local.now) }
+    ensures kept { Begins out.old.items out.new.items }
 {
     if !is_empty(prefix) {
-        out.extend_from_slice(prefix.as_str().as_bytes())?;
-        out.push(b':')?;
+        append(prefix.as_str().as_bytes(), out)?;
+        append_byte(b':', out)?;
     }
-    out.extend_from_slice(local.as_str().as_bytes())?;
+    append(local.as_str().as_bytes(), out)?;
     Ok(())
 }
 
+#[tactic(auto, using(crate::proofs::Growing::begins_trans, crate::proofs::Growing::begins_self))]
 fn append_quoted(value: &Text, out: &mut Vec<u8>) -> Result<(), Memory>
-    ensures { OnOk result (out.new.items ≡ out.old.items ++ quoted value.now) }
+    ensures ok { OnOk result (out.new.items ≡ out.old.items ++ quoted value.now) }
+    ensures kept { Begins out.old.items out.new.items }
 {
-    out.extend_from_slice(b"=\"")?;
+    append_two(b'=', b'"', out)?;
     append_escaped(Context::Value, value.as_str().as_bytes(), out)?;
-    out.push(b'"')?;
+    append_byte(b'"', out)?;
     Ok(())
 }
 
+#[tactic(auto, using(crate::proofs::Growing::begins_trans, crate::proofs::Growing::begins_self))]
 fn append_declaration(binding: &Binding, out: &mut Vec<u8>) -> Result<(), Memory>
-    ensures { OnOk result (out.new.items ≡ out.old.items ++ declaration binding.now) }
+    ensures ok { OnOk result (out.new.items ≡ out.old.items ++ declaration binding.now) }
+    ensures kept { Begins out.old.items out.new.items }
 {
-    out.extend_from_slice(b" xmlns")?;
+    append(b" xmlns", out)?;
     if !is_empty(&binding.prefix) {
-        out.push(b':')?;
-        out.extend_from_slice(binding.prefix.as_str().as_bytes())?;
+        append_byte(b':', out)?;
+        append(binding.prefix.as_str().as_bytes(), out)?;
     }
     append_quoted(&binding.uri, out)
 }
 
+#[tactic(auto, using(crate::proofs::Growing::begins_trans, crate::proofs::Growing::begins_self))]
 fn append_attribute(prefix: &Text, attr: &Attr, out: &mut Vec<u8>) -> Result<(), Memory>
-    ensures { OnOk result (out.new.items ≡ out.old.items ++ attribute prefix.now attr.now) }
+    ensures ok { OnOk result (out.new.items ≡ out.old.items ++ attribute prefix.now attr.now) }
+    ensures kept { Begins out.old.items out.new.items }
 {
-    out.push(b' ')?;
+    append_byte(b' ', out)?;
     append_qname(prefix, &attr.name.local, out)?;
     append_quoted(&attr.value, out)
 }
 
+#[tactic(auto, using(crate::proofs::Growing::begins_trans, crate::proofs::Growing::begins_self))]
 fn append_attributes(prefixes: &[Text], attrs: &[Attr], out: &mut Vec<u8>) -> Result<(), Memory>
-    ensures { OnOk result (out.new.items ≡ out.old.items ++ attributes prefixes.now attrs.now) }
+    ensures ok { OnOk result (out.new.items ≡ out.old.items ++ attributes prefixes.now attrs.now) }
+    ensures kept { Begins out.old.items out.new.items }
 {
     let mut prefixes = prefixes;
     for attr in attrs {
@@ -113,8 +125,10 @@ fn append_attributes(prefixes: &[Text], attrs: &[Attr], out: &mut Vec<u8>) -> Re
     Ok(())
 }
 
+#[tactic(auto, using(crate::proofs::Growing::begins_trans, crate::proofs::Growing::begins_self))]
 fn append_own_attributes(attrs: &[Attr], out: &mut Vec<u8>) -> Result<(), Memory>
-    ensures { OnOk result (out.new.items ≡ out.old.items ++ attributes (own_prefixes attrs.now) attrs.now) }
+    ensures ok { OnOk result (out.new.items ≡ out.old.items ++ attributes (own_prefixes attrs.now) attrs.now) }
+    ensures kept { Begins out.old.items out.new.items }
 {
     for attr in attrs {
         append_attribute(&attr.name.prefix, attr, out)?;
@@ -123,12 +137,14 @@ fn append_own_attributes(attrs: &[Attr], out: &mut Vec<u8>) -> Result<(), Memory
 }
 
 /// Appends a start tag without its end, which is `>` or `/>`.
+#[tactic(auto, using(crate::proofs::Growing::begins_trans, crate::proofs::Growing::begins_self))]
 pub fn append_open_tag(
     tag: &HeldTag,
     dressed: &Option<Dressed>,
     out: &mut Vec<u8>,
 ) -> Result<(), Memory>
-    ensures { OnOk result (out.new.items ≡ out.old.items ++ open_tag tag.now (given tag.now dressed.now)) }
+    ensures ok { OnOk result (out.new.items ≡ out.old.items ++ open_tag tag.now (given tag.now dressed.now)) }
+    ensures kept { Begins out.old.items out.new.items }
 {
     match dressed {
         None => append_undressed_tag(tag, out),
@@ -136,18 +152,22 @@ pub fn append_open_tag(
     }
 }
 
+#[tactic(auto, using(crate::proofs::Growing::begins_trans, crate::proofs::Growing::begins_self))]
 fn append_undressed_tag(tag: &HeldTag, out: &mut Vec<u8>) -> Result<(), Memory>
-    ensures { OnOk result (out.new.items ≡ out.old.items ++ open_tag tag.now (undressed tag.now.attrs)) }
+    ensures ok { OnOk result (out.new.items ≡ out.old.items ++ open_tag tag.now (undressed tag.now.attrs)) }
+    ensures kept { Begins out.old.items out.new.items }
 {
-    out.push(b'<')?;
+    append_byte(b'<', out)?;
     append_qname(&tag.name.prefix, &tag.name.local, out)?;
     append_own_attributes(tag.attrs.as_slice(), out)
 }
 
+#[tactic(auto, using(crate::proofs::Growing::begins_trans, crate::proofs::Growing::begins_self))]
 fn append_dressed_tag(tag: &HeldTag, dressed: &Dressed, out: &mut Vec<u8>) -> Result<(), Memory>
-    ensures { OnOk result (out.new.items ≡ out.old.items ++ open_tag tag.now dressed.now) }
+    ensures ok { OnOk result (out.new.items ≡ out.old.items ++ open_tag tag.now dressed.now) }
+    ensures kept { Begins out.old.items out.new.items }
 {
-    out.push(b'<')?;
+    append_byte(b'<', out)?;
     append_qname(&tag.name.prefix, &tag.name.local, out)?;
     for binding in dressed.declared.as_slice() {
         append_declaration(binding, out)?;
@@ -155,11 +175,13 @@ fn append_dressed_tag(tag: &HeldTag, dressed: &Dressed, out: &mut Vec<u8>) -> Re
     append_attributes(dressed.prefixes.as_slice(), tag.attrs.as_slice(), out)
 }
 
+#[tactic(auto, using(crate::proofs::Growing::begins_trans, crate::proofs::Growing::begins_self))]
 pub fn append_end_tag(name: &Name, out: &mut Vec<u8>) -> Result<(), Memory>
-    ensures { OnOk result (out.new.items ≡ out.old.items ++ end_tag name.now.prefix name.now.local) }
+    ensures ok { OnOk result (out.new.items ≡ out.old.items ++ end_tag name.now.prefix name.now.local) }
+    ensures kept { Begins out.old.items out.new.items }
 {
-    out.extend_from_slice(b"</")?;
+    append_two(b'<', b'/', out)?;
     append_qname(&name.prefix, &name.local, out)?;
-    out.push(b'>')?;
+    append_byte(b'>', out)?;
     Ok(())
 }

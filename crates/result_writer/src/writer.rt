@@ -1,15 +1,16 @@
 ghost use Rattle.std.specs.Prelude.{◌≡◌, ◌++◌, [], true, false, IfOk, IfErr, MatchResult, OnOk, OnErr};
 ghost use Rattle.stx_base.specs.declared.part.Part.TheVariants.{Start, Attribute, End, Chars, Comment, Pi};
-ghost use Rattle.result_writer.specs.Opened.{dressing};
+ghost use Rattle.stx_base.specs.declared.name.Name.{Name as Spelled};
+ghost use Rattle.result_writer.specs.Allowed.{is_good_name};
+ghost use Rattle.result_writer.specs.Bytes.{Begins};
 ghost use Rattle.result_writer.specs.Target as spec;
-ghost use Rattle.result_writer.specs.Target.{behind, dressed_in, fresh, is_closed, settles, text, whole_fault, IsCause};
+ghost use Rattle.result_writer.specs.Target.{behind, end_text, fresh, is_closed, settles, text, whole_fault, IsCause};
 
 use crate::escape::{Context, append_escaped};
 use crate::fault::{ResultFault, WriteStop};
 use crate::opened::{
     Opened, append_comment, append_instruction, chars_fault, comment_fault, instruction_fault,
 };
-use crate::tag::Dressed;
 use std::alloc::Global;
 use std::marker::Model;
 use stx_base::{Binding, Copied, List, Memory, Name, Part, Text};
@@ -19,8 +20,6 @@ use stx_base::{Binding, Copied, List, Memory, Name, Part, Text};
 pub struct Writer {
     alloc: Global,
     opened: Opened,
-    /// What the part that is being put settles. It is kept for its room.
-    bytes: Vec<u8>,
 }
 
 impl Model for Writer {
@@ -39,7 +38,6 @@ impl Writer {
         Writer {
             alloc,
             opened: Opened::new(alloc, limit),
-            bytes: Vec::new(alloc),
         }
     }
 
@@ -108,12 +106,8 @@ impl Writer {
         if let Some(fault) = self.opened.start_fault(&name) {
             return Err(WriteStop::Fault(fault));
         }
-        let dressed = self.opened.dressed()?;
-        self.bytes.clear();
-        self.opened.append_tag(&dressed, b">", &mut self.bytes)?;
         let len = out.len();
-        out.extend_from_slice(&self.bytes)?;
-        if self.opened.start(name, scope, dressed).is_err() {
+        if start(&mut self.opened, name, scope, out).is_err() {
             out.truncate(len);
             return Err(WriteStop::Memory);
         }
@@ -146,11 +140,11 @@ impl Writer {
         if let Some(fault) = self.opened.end_fault(name) {
             return Err(WriteStop::Fault(fault));
         }
-        let dressed = self.opened.dressed()?;
-        self.bytes.clear();
-        self.opened.append_end(&dressed, &mut self.bytes)?;
-        out.extend_from_slice(&self.bytes)?;
-        self.opened.end();
+        let len = out.len();
+        if end(&mut self.opened, out).is_err() {
+            out.truncate(len);
+            return Err(WriteStop::Memory);
+        }
         Ok(())
     }
 
@@ -166,11 +160,11 @@ impl Writer {
         if let Some(fault) = chars_fault(text) {
             return Err(WriteStop::Fault(fault));
         }
-        let dressed = self.opened.dressed()?;
-        self.bytes.clear();
-        self.opened.append_tag(&dressed, b">", &mut self.bytes)?;
-        append_escaped(Context::Content, text.as_str().as_bytes(), &mut self.bytes)?;
-        settle(&mut self.opened, dressed, &self.bytes, out)?;
+        let len = out.len();
+        if chars(&mut self.opened, text, out).is_err() {
+            out.truncate(len);
+            return Err(WriteStop::Memory);
+        }
         Ok(())
     }
 
@@ -186,11 +180,11 @@ impl Writer {
         if let Some(fault) = comment_fault(text) {
             return Err(WriteStop::Fault(fault));
         }
-        let dressed = self.opened.dressed()?;
-        self.bytes.clear();
-        self.opened.append_tag(&dressed, b">", &mut self.bytes)?;
-        append_comment(text, &mut self.bytes)?;
-        settle(&mut self.opened, dressed, &self.bytes, out)?;
+        let len = out.len();
+        if comment(&mut self.opened, text, out).is_err() {
+            out.truncate(len);
+            return Err(WriteStop::Memory);
+        }
         Ok(())
     }
 
@@ -211,11 +205,11 @@ impl Writer {
         if let Some(fault) = instruction_fault(target, text) {
             return Err(WriteStop::Fault(fault));
         }
-        let dressed = self.opened.dressed()?;
-        self.bytes.clear();
-        self.opened.append_tag(&dressed, b">", &mut self.bytes)?;
-        append_instruction(target, text, &mut self.bytes)?;
-        settle(&mut self.opened, dressed, &self.bytes, out)?;
+        let len = out.len();
+        if instruction(&mut self.opened, target, text, out).is_err() {
+            out.truncate(len);
+            return Err(WriteStop::Memory);
+        }
         Ok(())
     }
 
@@ -234,26 +228,84 @@ impl Writer {
     }
 }
 
-/// The tag that is held back is settled, and the bytes are appended. After a refusal all is unchanged.
-fn settle(
+/// Settles what a start does, and takes it. After a refusal some bytes may be appended.
+#[tactic(auto, using(crate::proofs::Growing::begins_trans, crate::proofs::Growing::begins_self))]
+fn start(
     opened: &mut Opened,
-    dressed: Option<Dressed>,
-    bytes: &[u8],
+    name: Name,
+    scope: &List<Binding>,
     out: &mut Vec<u8>,
 ) -> Result<(), Memory>
-    requires { dressing opened.old.left.held dressed ≡ dressed_in opened.old.left.elements opened.old.left.held }
-    ensures ok { OnOk result (opened.new ≡ behind opened.old (Chars [])) }
+    requires { is_good_name name ≡ true }
+    ensures ok { OnOk result (opened.new ≡ behind opened.old (Start name scope.now)) }
     ensures err { OnErr result (opened.new ≡ opened.old) }
-    ensures written { OnOk result (out.new.items ≡ out.old.items ++ bytes.now) }
-    ensures unwritten { OnErr result (out.new.items ≡ out.old.items) }
+    ensures written { OnOk result (out.new.items ≡ out.old.items ++ settles opened.old.left (Start name scope.now)) }
+    ensures kept { Begins out.old.items out.new.items }
 {
-    let len = out.len();
-    out.extend_from_slice(bytes)?;
-    if opened.settle(dressed).is_err() {
-        out.truncate(len);
-        return Err(Memory);
-    }
+    let dressed = opened.dressed()?;
+    opened.append_tag(&dressed, out)?;
+    opened.start(name, scope, dressed)
+}
+
+/// The same of the end of the innermost element.
+#[tactic(auto, using(crate::proofs::Growing::begins_trans, crate::proofs::Growing::begins_self))]
+fn end(opened: &mut Opened, out: &mut Vec<u8>) -> Result<(), Memory>
+    ensures ok { (name : Spelled) → OnOk result (opened.new ≡ behind opened.old (End name)) }
+    ensures err { OnErr result (opened.new ≡ opened.old) }
+    ensures written { OnOk result (out.new.items ≡ out.old.items ++ end_text opened.old.left.elements opened.old.left.held) }
+    ensures kept { Begins out.old.items out.new.items }
+{
+    let dressed = opened.dressed()?;
+    opened.append_end(&dressed, out)?;
+    opened.end();
     Ok(())
+}
+
+/// The same of characters.
+#[tactic(auto, using(crate::proofs::Growing::begins_trans, crate::proofs::Growing::begins_self))]
+fn chars(opened: &mut Opened, text: &Text, out: &mut Vec<u8>) -> Result<(), Memory>
+    ensures ok { OnOk result (opened.new ≡ behind opened.old (Chars text.now)) }
+    ensures err { OnErr result (opened.new ≡ opened.old) }
+    ensures written { OnOk result (out.new.items ≡ out.old.items ++ settles opened.old.left (Chars text.now)) }
+    ensures kept { Begins out.old.items out.new.items }
+{
+    let dressed = opened.dressed()?;
+    opened.append_tag(&dressed, out)?;
+    append_escaped(Context::Content, text.as_str().as_bytes(), out)?;
+    opened.settle(dressed)
+}
+
+/// The same of a comment.
+#[tactic(auto, using(crate::proofs::Growing::begins_trans, crate::proofs::Growing::begins_self))]
+fn comment(opened: &mut Opened, text: &Text, out: &mut Vec<u8>) -> Result<(), Memory>
+    ensures ok { OnOk result (opened.new ≡ behind opened.old (Comment text.now)) }
+    ensures err { OnErr result (opened.new ≡ opened.old) }
+    ensures written { OnOk result (out.new.items ≡ out.old.items ++ settles opened.old.left (Comment text.now)) }
+    ensures kept { Begins out.old.items out.new.items }
+{
+    let dressed = opened.dressed()?;
+    opened.append_tag(&dressed, out)?;
+    append_comment(text, out)?;
+    opened.settle(dressed)
+}
+
+/// The same of a processing instruction.
+#[tactic(auto, using(crate::proofs::Growing::begins_trans, crate::proofs::Growing::begins_self))]
+fn instruction(
+    opened: &mut Opened,
+    target: &Text,
+    text: &Text,
+    out: &mut Vec<u8>,
+) -> Result<(), Memory>
+    ensures ok { OnOk result (opened.new ≡ behind opened.old (Pi target.now text.now)) }
+    ensures err { OnErr result (opened.new ≡ opened.old) }
+    ensures written { OnOk result (out.new.items ≡ out.old.items ++ settles opened.old.left (Pi target.now text.now)) }
+    ensures kept { Begins out.old.items out.new.items }
+{
+    let dressed = opened.dressed()?;
+    opened.append_tag(&dressed, out)?;
+    append_instruction(target, text, out)?;
+    opened.settle(dressed)
 }
 
 /// The bytes of a whole result.

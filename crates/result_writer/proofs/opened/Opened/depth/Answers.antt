@@ -1,21 +1,21 @@
 use Rattle.std.proofs.Common.{◌+◌, ap, sym, ◌∙◌, reverse}
-use Rattle.result_writer.specs.Opened.{elements}
+use Rattle.result_writer.specs.Opened.{elements, held_if}
 use Rattle.result_writer.specs.Target.{Target, depth}
 use Rattle.result_writer.proofs.Opening.{length_open}
 use Rattle.result_writer.proofs.opened.Opened.depth.Goals as goal
 
-pub returns-in-None : goal.returns-in-None
-returns-in-None c =
+pub returns-then-self : goal.returns-then-self
+returns-then-self c =
     let t = c.self.inside in
     let es = elements (reverse t.around.elements.items) t.around.bindings.items in
-    c.len.ensures ∙ t.around.elements.ok.0 ∙ sym (length_open t.around.elements.items t.around.bindings.items)
-    ∙ ap (depth es) (sym c.in-None.is)
+    ap (λ n. n + 1) (c.len.ensures ∙ t.around.elements.ok.0 ∙ sym (length_open t.around.elements.items t.around.bindings.items))
+    ∙ ap (λ h. depth es (held_if h t.around.tag)) (sym c.if-self.true)
     ∙ ap (λ (t : Target). depth t.left.elements t.left.held) c.self.view_is
 
-pub returns-in-Some : goal.returns-in-Some
-returns-in-Some c =
+pub returns-else-self : goal.returns-else-self
+returns-else-self c =
     let t = c.self.inside in
     let es = elements (reverse t.around.elements.items) t.around.bindings.items in
-    ap (λ n. n + 1) (c.len-in-Some.ensures ∙ t.around.elements.ok.0 ∙ sym (length_open t.around.elements.items t.around.bindings.items))
-    ∙ ap (depth es) (sym c.in-Some.is)
+    c.len-else-self.ensures ∙ t.around.elements.ok.0 ∙ sym (length_open t.around.elements.items t.around.bindings.items)
+    ∙ ap (λ h. depth es (held_if h t.around.tag)) (sym c.if-self.false)
     ∙ ap (λ (t : Target). depth t.left.elements t.left.held) c.self.view_is
