@@ -4,7 +4,6 @@ mod Bound
 mod Escaping
 mod Growing
 mod Judging
-mod Naming
 mod Nesting
 mod Opening
 mod Prefixing

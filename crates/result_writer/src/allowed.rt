@@ -1,16 +1,14 @@
 //! What may stand in a result.
 
-ghost use Rattle.std.specs.Prelude.{◌≡◌, ◌==◌, ◌&&◌, false, nat_lt, slice_get, true};
+ghost use Rattle.std.specs.Prelude.{◌≡◌, ◌==◌, ◌&&◌, nat_lt};
 ghost use Rattle.std.specs.List.{list_all, list_any};
-ghost use Rattle.std.specs.Option.{option_map_or};
 ghost use Rattle.std.specs.Str.{chars};
-ghost use Rattle.stx_base.specs.Character.{is_char, is_name_start, is_ncname_char};
-ghost use Rattle.stx_base.specs.Character as class;
+ghost use Rattle.stx_base.specs.Character.{is_char};
 ghost use Rattle.result_writer.specs.Allowed as spec;
 ghost use Rattle.result_writer.specs.Allowed.{has_pair, ends_in, is_good_attribute, is_good_comment, is_good_data, is_good_target, are_chars};
 
 use crate::words::{agree, is_empty, is_word};
-use stx_base::{Name, Text, is_char, is_ncname as is_any_ncname};
+use stx_base::{Name, Text, is_char, is_ncname};
 
 /// From so many bytes on it pays to compare them many at a time.
 const MANY: usize = 32;
@@ -18,56 +16,6 @@ const MANY: usize = 32;
 const XML_URI: &'static str = "http://www.w3.org/XML/1998/namespace";
 
 const XMLNS_URI: &'static str = "http://www.w3.org/2000/xmlns/";
-
-/// Whether a byte is an ASCII character that begins a name.
-#[inline(always)]
-fn begins_name(byte: u8) -> bool
-    ensures { result ≡ true → is_name_start byte ≡ true }
-{
-    matches!(byte, b'a'..=b'z' | b'A'..=b'Z' | b'_')
-}
-
-/// Whether a byte is an ASCII character of names without colon.
-#[inline(always)]
-fn is_in_name(byte: u8) -> bool
-    ensures { result ≡ (nat_lt byte 128 && is_ncname_char byte) }
-{
-    if byte >= b'a' {
-        byte <= b'z'
-    } else {
-        matches!(byte, b'A'..=b'Z' | b'0'..=b'9' | b'-' | b'.' | b'_')
-    }
-}
-
-/// Whether bytes are an NCName of ASCII characters.
-fn is_ascii_ncname(bytes: &[u8]) -> bool
-    ensures first { result ≡ true → option_map_or is_name_start (slice_get bytes.now 0) false ≡ true }
-    ensures all { result ≡ true → list_all (λ b. nat_lt b 128 && is_ncname_char b) bytes.now ≡ true }
-{
-    begins_as_name(bytes) && are_in_name(bytes)
-}
-
-fn begins_as_name(bytes: &[u8]) -> bool
-    ensures { result ≡ true → option_map_or is_name_start (slice_get bytes.now 0) false ≡ true }
-{
-    match bytes.first() {
-        None => false,
-        Some(first) => begins_name(*first),
-    }
-}
-
-fn are_in_name(bytes: &[u8]) -> bool
-    ensures { result ≡ list_all (λ b. nat_lt b 128 && is_ncname_char b) bytes.now }
-{
-    bytes.iter().all(|byte| is_in_name(*byte))
-}
-
-/// Whether a text is an NCName (Namespaces in XML 1.0, 3). Most are of ASCII characters alone.
-fn is_ncname(text: &str) -> bool
-    ensures { result ≡ class.is_ncname (chars text.now) }
-{
-    is_ascii_ncname(text.as_bytes()) || is_any_ncname(text)
-}
 
 /// Whether a name is an NCName, or two with a colon between them (Namespaces in XML 1.0, 4).
 fn is_qname(name: &Name) -> bool
