@@ -143,6 +143,16 @@ pub takes-refused : (c new : Copier) (t : Target) (o : Open) (attrs : List Attr)
 takes-refused c new t o attrs before now (Fault x) h = (h.0, h.1, λ f. let p = rest c.pass c.scope (o ∷ reverse c.elements) f in h.2 p.parts p.stop)
 takes-refused c new t o attrs before now Memory h = (h.0, h.1, λ f. let p = rest c.pass c.scope (o ∷ reverse c.elements) f in h.2 p.parts p.stop)
 
+-- a leaf was refused
+leaf-stopped : (c new : Copier) (p : Part) (before now : List ℕ) (e : WriteStop) → IsCause (fault c.writer.limit c.writer.left p) e → now ≡ before → Takes (leaf_ahead c (p ∷ [])) new before now (Err e)
+leaf-stopped c new p before now (Fault x) h u = ([], u ∙ sym (append-nil before), λ f. let s = still c f in put-refused c.writer p (Fault x) h s.parts s.stop)
+leaf-stopped c new p before now Memory h u = ([], u ∙ sym (append-nil before), λ f. let s = still c f in put-refused c.writer p Memory h s.parts s.stop)
+
+pub leaf-refused : (c new : Copier) (p : Part) (before now : List ℕ) (e : WriteStop) (r : Result Turn WriteStop) → IsErrAnd r (λ stop. stop ≡ e) → IsCause (fault c.writer.limit c.writer.left p) e → now ≡ before
+    → Takes (leaf_ahead c (p ∷ [])) new before now r
+leaf-refused c new p before now e (Ok turn) k h u = absurd k
+leaf-refused c new p before now e (Err stop) k h u = subst (λ s. Takes (leaf_ahead c (p ∷ [])) new before now (Err s)) (sym k) (leaf-stopped c new p before now e h u)
+
 -- what was before an element is again behind it
 pub rest-outer : (p : Pass) (scope around : List Binding) (name : Name) (outside : Option (List Binding)) (os : List Open) (f : Future) → unwrap_or outside scope ≡ around
     → rest p scope (record { name = name; outer = Some around } ∷ os) f ≡ rest p scope (record { name = name; outer = outside } ∷ os) f

@@ -61,6 +61,7 @@ impl Copier {
 
     /// Takes the document's next event, and appends the bytes that it settles. After a refusal what was appended is a beginning of
     /// what was to come.
+    #[inline(always)]
     pub fn take(&mut self, event: Event, out: &mut Vec<u8>) -> Result<Turn, WriteStop>
         ensures takes { Takes (given_by self.old event) self.new out.old.items out.new.items result }
         ensures opens { result ≡ Ok turn.More → Opened event (length self.old.elements) (length self.new.elements) }
@@ -77,16 +78,16 @@ impl Copier {
             Event::Chars {
                 offset: _offset,
                 text,
-            } => self.chars(text, out),
+            } => self.chars(&text, out),
             Event::Comment {
                 offset: _offset,
                 text,
-            } => self.comment(text, out),
+            } => self.comment(&text, out),
             Event::Pi {
                 offset: _offset,
                 target,
                 text,
-            } => self.instruction(target, text, out),
+            } => self.instruction(&target, &text, out),
             Event::DocumentEnd { .. } => self.end(out),
         }
     }
@@ -155,47 +156,68 @@ impl Copier {
         }
     }
 
-    fn chars(&mut self, text: Text, out: &mut Vec<u8>) -> Result<Turn, WriteStop>
-        ensures takes { Takes (leaf_ahead self.old (leaf_parts self.old.pass (Chars 0 text))) self.new out.old.items out.new.items result }
+    fn chars(&mut self, text: &Text, out: &mut Vec<u8>) -> Result<Turn, WriteStop>
+        ensures takes { Takes (leaf_ahead self.old (leaf_parts self.old.pass (Chars 0 text.now))) self.new out.old.items out.new.items result }
         ensures opens { self.new.elements ≡ self.old.elements }
     {
         match self.pass {
-            Pass::All => self.put(Part::Chars { text }, out),
-            Pass::Chars => self.put(Part::Chars { text }, out),
+            Pass::All => self.put_chars(text, out),
+            Pass::Chars => self.put_chars(text, out),
             Pass::None => Ok(Turn::More),
         }
     }
 
-    fn comment(&mut self, text: Text, out: &mut Vec<u8>) -> Result<Turn, WriteStop>
-        ensures takes { Takes (leaf_ahead self.old (leaf_parts self.old.pass (Comment 0 text))) self.new out.old.items out.new.items result }
+    fn put_chars(&mut self, text: &Text, out: &mut Vec<u8>) -> Result<Turn, WriteStop>
+        ensures takes { Takes (leaf_ahead self.old (part.Chars text.now ∷ [])) self.new out.old.items out.new.items result }
+        ensures opens { self.new.elements ≡ self.old.elements }
+    {
+        self.writer.put_chars(text, out)?;
+        Ok(Turn::More)
+    }
+
+    fn comment(&mut self, text: &Text, out: &mut Vec<u8>) -> Result<Turn, WriteStop>
+        ensures takes { Takes (leaf_ahead self.old (leaf_parts self.old.pass (Comment 0 text.now))) self.new out.old.items out.new.items result }
         ensures opens { self.new.elements ≡ self.old.elements }
     {
         match self.pass {
-            Pass::All => self.put(Part::Comment { text }, out),
+            Pass::All => self.put_comment(text, out),
             Pass::Chars | Pass::None => Ok(Turn::More),
         }
+    }
+
+    fn put_comment(&mut self, text: &Text, out: &mut Vec<u8>) -> Result<Turn, WriteStop>
+        ensures takes { Takes (leaf_ahead self.old (part.Comment text.now ∷ [])) self.new out.old.items out.new.items result }
+        ensures opens { self.new.elements ≡ self.old.elements }
+    {
+        self.writer.put_comment(text, out)?;
+        Ok(Turn::More)
     }
 
     fn instruction(
         &mut self,
-        target: Text,
-        text: Text,
+        target: &Text,
+        text: &Text,
         out: &mut Vec<u8>,
     ) -> Result<Turn, WriteStop>
-        ensures takes { Takes (leaf_ahead self.old (leaf_parts self.old.pass (Pi 0 target text))) self.new out.old.items out.new.items result }
+        ensures takes { Takes (leaf_ahead self.old (leaf_parts self.old.pass (Pi 0 target.now text.now))) self.new out.old.items out.new.items result }
         ensures opens { self.new.elements ≡ self.old.elements }
     {
         match self.pass {
-            Pass::All => self.put(Part::Pi { target, text }, out),
+            Pass::All => self.put_instruction(target, text, out),
             Pass::Chars | Pass::None => Ok(Turn::More),
         }
     }
 
-    fn put(&mut self, part: Part, out: &mut Vec<u8>) -> Result<Turn, WriteStop>
-        ensures takes { Takes (leaf_ahead self.old (part ∷ [])) self.new out.old.items out.new.items result }
+    fn put_instruction(
+        &mut self,
+        target: &Text,
+        text: &Text,
+        out: &mut Vec<u8>,
+    ) -> Result<Turn, WriteStop>
+        ensures takes { Takes (leaf_ahead self.old (part.Pi target.now text.now ∷ [])) self.new out.old.items out.new.items result }
         ensures opens { self.new.elements ≡ self.old.elements }
     {
-        self.writer.put_owned(part, out)?;
+        self.writer.put_instruction(target, text, out)?;
         Ok(Turn::More)
     }
 
@@ -220,9 +242,17 @@ impl Copier {
         let Open { name, outer } = element;
         self.leave(outer);
         match self.pass {
-            Pass::All => self.put(Part::End { name }, out),
+            Pass::All => self.put_end(&name, out),
             Pass::Chars | Pass::None => Ok(Turn::More),
         }
+    }
+
+    fn put_end(&mut self, name: &Name, out: &mut Vec<u8>) -> Result<Turn, WriteStop>
+        ensures takes { Takes (leaf_ahead self.old (part.End name.now ∷ [])) self.new out.old.items out.new.items result }
+        ensures opens { self.new.elements ≡ self.old.elements }
+    {
+        self.writer.put_end(name, out)?;
+        Ok(Turn::More)
     }
 
     // What was in force before an element is again.

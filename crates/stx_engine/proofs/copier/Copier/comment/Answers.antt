@@ -6,4 +6,4 @@ use Rattle.stx_engine.proofs.copier.Copier.comment.Goals as goal
 
 pub returns-in-All-clause-takes : goal.returns-in-All-clause-takes
 returns-in-All-clause-takes c =
-    subst (λ p. Takes (leaf_ahead c.args.self.now (leaf_parts p (Comment 0 c.args.text))) c.put.new.self c.args.out.now.items c.put.new.out.items c.put.result) (sym c.in-All.is) c.put.ensures.takes
+    subst (λ p. Takes (leaf_ahead c.args.self.now (leaf_parts p (Comment 0 c.args.text.now))) c.put_comment.new.self c.args.out.now.items c.put_comment.new.out.items c.put_comment.result) (sym c.in-All.is) c.put_comment.ensures.takes

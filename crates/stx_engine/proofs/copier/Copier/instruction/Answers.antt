@@ -6,4 +6,4 @@ use Rattle.stx_engine.proofs.copier.Copier.instruction.Goals as goal
 
 pub returns-in-All-clause-takes : goal.returns-in-All-clause-takes
 returns-in-All-clause-takes c =
-    subst (λ p. Takes (leaf_ahead c.args.self.now (leaf_parts p (Pi 0 c.args.target c.args.text))) c.put.new.self c.args.out.now.items c.put.new.out.items c.put.result) (sym c.in-All.is) c.put.ensures.takes
+    subst (λ p. Takes (leaf_ahead c.args.self.now (leaf_parts p (Pi 0 c.args.target.now c.args.text.now))) c.put_instruction.new.self c.args.out.now.items c.put_instruction.new.out.items c.put_instruction.result) (sym c.in-All.is) c.put_instruction.ensures.takes
