@@ -26,6 +26,7 @@ pub fn append_byte(byte: u8, out: &mut Vec<u8>) -> Result<(), Memory>
     Ok(())
 }
 
+/// Two bytes at once, as many marks have.
 #[inline(always)]
 #[tactic(auto, using(crate::proofs::Growing::begins_self, crate::proofs::Growing::begins_append))]
 pub fn append_two(first: u8, second: u8, out: &mut Vec<u8>) -> Result<(), Memory>

@@ -193,6 +193,7 @@ impl Opened {
     }
 
     /// What is written with the tag that is held back, where that is more than its names and values.
+    #[inline(always)]
     pub(crate) fn dressed(&self) -> Result<Option<Dressed>, Memory>
         ensures { IfOk result (λ d. dressing self.now.left.held d ≡ dressed_in self.now.left.elements self.now.left.held) }
     {
@@ -320,6 +321,7 @@ impl Opened {
     }
 
     /// The tag that is held back is settled: its element is open. After a refusal all is unchanged.
+    #[inline(always)]
     pub(crate) fn settle(&mut self, dressed: Option<Dressed>) -> Result<(), Memory>
         requires { dressing self.old.left.held dressed ≡ dressed_in self.old.left.elements self.old.left.held }
         ensures ok { OnOk result (self.new ≡ behind self.old (Chars [])) }
@@ -331,6 +333,7 @@ impl Opened {
 
 impl Around {
     /// The tag that is held back is settled: its element is open. After a refusal all is unchanged.
+    #[inline(always)]
     fn settle(&mut self, alloc: Global, dressed: Option<Dressed>) -> Result<(), Memory>
         ensures ok { OnOk result (Settles self.old (dressing (held self.old) dressed) self.new) }
         ensures err { OnErr result (SameAround self.old self.new) }
@@ -345,6 +348,7 @@ impl Around {
     }
 
     /// The same of a tag that is written with its names and values alone.
+    #[inline(always)]
     fn settle_undressed(&mut self, alloc: Global) -> Result<(), Memory>
         requires { self.old.holds ≡ true }
         ensures ok { OnOk result (Settles self.old (dressing (held self.old) None) self.new) }
@@ -356,6 +360,7 @@ impl Around {
     }
 
     /// The same of a tag that is written with more.
+    #[inline(never)]
     fn settle_dressed(&mut self, alloc: Global, dressed: Dressed) -> Result<(), Memory>
         requires { self.old.holds ≡ true }
         ensures ok { OnOk result (Settles self.old (dressing (held self.old) (Some dressed)) self.new) }
@@ -374,6 +379,7 @@ impl Around {
     }
 
     /// Opens the element of the tag, which declares so many bindings.
+    #[inline(always)]
     fn open(&mut self, alloc: Global, declared: usize)
         requires room { vec_len self.old.elements < vec_capacity self.old.elements }
         ensures elements { self.new.elements.items ≡ self.old.elements.items ++ record { name = self.old.tag.name; declared = declared } ∷ [] }
@@ -388,6 +394,7 @@ impl Around {
     }
 
     /// Holds back a tag without attributes, of which the scope is the last one unless it is another.
+    #[inline(always)]
     fn hold(&mut self, name: Name, other: Option<List<Binding>>)
         ensures tag { self.new.tag ≡ record { name = name; scope = unwrap_or other self.old.tag.scope; attrs = [] } }
         ensures holds { self.new.holds ≡ true }

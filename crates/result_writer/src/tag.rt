@@ -34,6 +34,7 @@ pub struct Dressed {
 
 /// What a tag declares, where these bindings are in force, and the prefixes of its attributes; none where it declares
 /// nothing and each attribute has its own prefix. `keeps` says that its scope is in force.
+#[inline(always)]
 pub fn dress(
     alloc: Global,
     in_force: &[Binding],
@@ -51,6 +52,7 @@ pub fn dress(
     }
 }
 
+#[inline(never)]
 fn dress_by_table(alloc: Global, in_force: &[Binding], tag: &HeldTag) -> Result<Dressed, Memory>
     ensures { IfOk result (λ made. made ≡ dressed in_force.now tag.now) }
 {
@@ -62,6 +64,7 @@ fn dress_by_table(alloc: Global, in_force: &[Binding], tag: &HeldTag) -> Result<
     Ok(Dressed { declared, prefixes })
 }
 
+#[inline(always)]
 #[tactic(auto, using(crate::proofs::Growing::begins_trans, crate::proofs::Growing::begins_self))]
 fn append_qname(prefix: &Text, local: &Text, out: &mut Vec<u8>) -> Result<(), Memory>
     ensures ok { OnOk result (out.new.items ≡ out.old.items ++ qname prefix.now local.now) }

@@ -1,4 +1,4 @@
-use Rattle.std.proofs.Common.{◌≡◌, ◌-◌, sym, ap, ◌∙◌, length}
+use Rattle.std.proofs.Common.{◌-◌, sym, ap, ◌∙◌, length}
 use Rattle.std.specs.Prelude.{slice_get}
 use Rattle.result_writer.specs.Allowed.{is_good_name}
 use Rattle.result_writer.specs.declared.opened.OpenElement.{OpenElement}
