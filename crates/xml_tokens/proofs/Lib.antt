@@ -38,3 +38,4 @@ pub mod CloserLemmas
 pub mod ShapeSpelling
 pub mod AloneLemmas
 pub mod SayableLemmas
+pub mod SimpleLemmas

@@ -13,7 +13,7 @@ use Rattle.xml_tokens.proofs.PlainLemmas.{ascii-name}
 low : (b : ℕ) → nat_le 128 b ≡ false → nat_lt b 128 ≡ true
 low b h = grind (arith, nat_tests)
 
-one-more : (n : ℕ) → 1 + n ≡ suc n
+pub one-more : (n : ℕ) → 1 + n ≡ suc n
 one-more n = omega arith
 
 -- where no byte beyond ASCII follows, the bytes of ASCII are all that may stand in a name

@@ -18,7 +18,7 @@ use Rattle.xml_tokens.proofs.ListLemmas.{all-none, two}
 use Rattle.xml_tokens.proofs.LiteralLemmas.{literal-said}
 use Rattle.xml_tokens.proofs.JudgedLemmas.{judged-by_form}
 
-abbrev is_low_char : ℕ → Bool
+abbrev pub is_low_char : ℕ → Bool
 is_low_char b = nat_lt b 128 && is_char b
 
 less : {n m : ℕ} → nat_lt n m ≡ true → n < m
@@ -73,16 +73,16 @@ no-word word at (b ∷ bs) h =
 form-text : (b : ℕ) (bs : List ℕ) → (b == 60) ≡ false → form (b ∷ bs) ≡ form.Text
 form-text b bs h = rw h refl
 
-abbrev no_less : ℕ → Bool
+abbrev pub no_less : ℕ → Bool
 no_less b = not (b == 60)
 
-abbrev no_reference : ℕ → Bool
+abbrev pub no_reference : ℕ → Bool
 no_reference b = not (b == 38)
 
-abbrev no_bracket : ℕ → Bool
+abbrev pub no_bracket : ℕ → Bool
 no_bracket b = not (b == 93)
 
-abbrev no_return : ℕ → Bool
+abbrev pub no_return : ℕ → Bool
 no_return b = not (b == 13)
 
 module _ (bytes : List ℕ) (plain : is_plain bytes ≡ true) where
@@ -92,7 +92,7 @@ module _ (bytes : List ℕ) (plain : is_plain bytes ≡ true) where
   lows : (list_all is_low_char bytes ≡ true) × (list_all (λ b. no_less b && (no_reference b && (no_bracket b && no_return b))) bytes ≡ true)
   lows = all-both is_low_char (λ b. no_less b && (no_reference b && (no_bracket b && no_return b))) bytes all
 
-  others : (list_all no_less bytes ≡ true) × (list_all (λ b. no_reference b && (no_bracket b && no_return b)) bytes ≡ true)
+  pub others : (list_all no_less bytes ≡ true) × (list_all (λ b. no_reference b && (no_bracket b && no_return b)) bytes ≡ true)
   others = all-both no_less (λ b. no_reference b && (no_bracket b && no_return b)) bytes lows.1
 
   later : (list_all no_reference bytes ≡ true) × (list_all (λ b. no_bracket b && no_return b) bytes ≡ true)

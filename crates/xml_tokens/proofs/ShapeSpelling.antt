@@ -212,7 +212,7 @@ declaration-others bytes (a, more, d, is, s) = declared-others (codes "version")
 cut : {o p : Option ℕ} (n : ℕ) → o ≡ p → behind n o ≡ behind n p
 cut n e = ap (behind n) e
 
-text-shape : (ended blank : Bool) (text bytes more : List ℕ) → list_any is_less bytes ≡ false → IsFollowed ended (Chars text blank) more → form (bytes ++ more) ≡ form.Text → shape_len ended (bytes ++ more) ≡ Some (length bytes)
+pub text-shape : (ended blank : Bool) (text bytes more : List ℕ) → list_any is_less bytes ≡ false → IsFollowed ended (Chars text blank) more → form (bytes ++ more) ≡ form.Text → shape_len ended (bytes ++ more) ≡ Some (length bytes)
 text-shape ended blank text bytes more less follows f =
     ap (λ x. end_by x ended (bytes ++ more)) f ∙ (ap (text_end ended (bytes ++ more)) (passes 0 bytes more less) ∙ by_more more follows) where
       passes : (at : ℕ) (bytes more : List ℕ) → list_any is_less bytes ≡ false → first_byte is_less at (bytes ++ more) ≡ first_byte is_less (at + length bytes) more

@@ -25,7 +25,7 @@ use Rattle.xml_tokens.proofs.WrittenSpelling.{Written, IsWritten, AreWritten, Is
 char-scalar : (c : ℕ) → is_char c ≡ true → IsScalar c
 char-scalar c h = grind (arith, nat_tests)
 
-name_char-char : (c : ℕ) → is_name_char c ≡ true → is_char c ≡ true
+pub name_char-char : (c : ℕ) → is_name_char c ≡ true → is_char c ≡ true
 name_char-char c h = grind (arith, nat_tests)
 
 both_true : (s t : Bool) → s ≡ true → t ≡ true → (s && t) ≡ true

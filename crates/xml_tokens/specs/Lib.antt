@@ -11,5 +11,6 @@ pub mod Reader
 pub mod Sayable
 pub mod Run
 pub mod Resume
+pub mod Simple
 pub mod Look
 pub mod Lexer

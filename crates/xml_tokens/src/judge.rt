@@ -94,7 +94,7 @@ fn are_plain(bytes: &[u8]) -> bool
 }
 
 /// A Char of ASCII but for `<`, `&`, `]` and a carriage return.
-fn is_plain_byte(byte: u8) -> bool
+pub fn is_plain_byte(byte: u8) -> bool
     ensures { result ≡ span.is_plain_byte byte }
 {
     // Letters and spaces take one way, since a branch that is guessed wrong costs more than a comparison.
@@ -206,7 +206,7 @@ fn text(alloc: Global, bytes: &[u8]) -> Result<Body, Unread>
     Ok(Body::Chars { text, blank })
 }
 
-fn is_blank(bytes: &[u8]) -> bool
+pub fn is_blank(bytes: &[u8]) -> bool
     ensures { result ≡ list_all class.is_space bytes.now }
 {
     bytes.iter().all(|b| is_space(char::from(*b)))

@@ -1,6 +1,7 @@
-ghost use Rattle.std.specs.Prelude.{◌≡◌, ◌+◌, ◌-◌, ◌++◌, ◌≤◌, ◌<◌, ◌^◌, min, false, true, not, ◌&&◌, if◌then◌else◌, length, take, drop, vec_len, OnOk, OnErr};
+ghost use Rattle.std.specs.Prelude.{◌≡◌, Bool, ◌+◌, ◌-◌, ◌++◌, ◌≤◌, ◌<◌, ◌^◌, min, false, true, not, ◌&&◌, if◌then◌else◌, length, take, drop, vec_len, IfSome, OnOk, OnErr};
 ghost use Rattle.xml_tokens.specs.Reader as spec;
 ghost use Rattle.xml_tokens.specs.Reader.{after, begun, fed, mark_len_of, is_undecided_at, IsAnswer, MayWant, Shrinks};
+ghost use Rattle.xml_tokens.specs.Simple.{bytes_of, BeginsWith, IsSimple};
 ghost use Rattle.xml_tokens.specs.Look.{begun_scan, reader, rest_ending, GoesOn, IsDue, IsShapeDue};
 
 use crate::cut::{head, tail};
@@ -8,6 +9,7 @@ use crate::form::{Form, begins, form_of, is_part};
 use crate::judge::{Unread, judge};
 use crate::lexeme::{Body, Ending, Lexeme, Step};
 use crate::scan::{Found, Scan, search};
+use crate::simple::{Simple, first_simple};
 use std::alloc::Global;
 use std::marker::Model;
 use stx_base::{Limits, Memory, XmlFault, XmlKind};
@@ -174,6 +176,9 @@ fn look(alloc: Global, limits: &Limits, unread: &[u8], offset: u64, ended: bool,
     let mark = mark_len(offset, seen);
     let bytes = tail(seen, mark);
     let at = offset + mark as u64;
+    if let Some(simple) = unsearched(scan, bytes) {
+        return at_simple(alloc, limits, simple, at, mark);
+    }
     let last = is_last(ended, cut);
     match search(bytes, last, scan) {
         Found::Whole(len) => at_shape(alloc, limits, head(bytes, len), offset == 0, at, mark),
@@ -184,6 +189,18 @@ fn look(alloc: Global, limits: &Limits, unread: &[u8], offset: u64, ended: bool,
                 None => Due::Wait(next_scan(undecided, scan)),
             }
         }
+    }
+}
+
+/// The simple lexeme at the front. A search that has begun goes on, so that no byte is passed over again.
+#[inline(always)]
+fn unsearched(scan: Scan, bytes: &[u8]) -> Option<Simple<'_>>
+    ensures { IfSome result (λ simple. BeginsWith simple bytes.now) }
+{
+    if scan.searched == 0 {
+        first_simple(bytes)
+    } else {
+        None
     }
 }
 
@@ -199,6 +216,22 @@ fn at_shape(alloc: Global, limits: &Limits, bytes: &[u8], first: bool, at: u64, 
         Ok(body) => Due::Lexeme(body, at, mark + bytes.len()),
         Err(Unread::Fault(kind)) => Due::Over(bad(kind, at)),
         Err(Unread::Memory) => Due::Over(Ending::Memory),
+    }
+}
+
+/// What a simple lexeme behind a byte order mark of `mark` bytes gives.
+fn at_simple(alloc: Global, limits: &Limits, simple: Simple<'_>, at: u64, mark: usize) -> Due
+    requires simple { IsSimple simple }
+    requires within { mark + length (bytes_of simple) < 2 ^ 64 }
+    ensures { (first : Bool) → IsShapeDue limits.now first (bytes_of simple.entry) at mark result }
+{
+    let len = simple.len();
+    if len as u64 > limits.lexeme {
+        return Due::Over(bad(XmlKind::LexemeTooLong, at));
+    }
+    match simple.body(alloc) {
+        Ok(body) => Due::Lexeme(body, at, mark + len),
+        Err(Memory) => Due::Over(Ending::Memory),
     }
 }
 

@@ -10,6 +10,7 @@ mod lexer;
 mod prolog;
 mod run;
 mod scan;
+mod simple;
 mod tag;
 mod text;
 

@@ -20,7 +20,7 @@ fn name_len(bytes: &[u8]) -> usize
     bytes.iter().take_while(|b| is_name_byte(**b)).count()
 }
 
-fn ascii_name_len(bytes: &[u8]) -> usize
+pub fn ascii_name_len(bytes: &[u8]) -> usize
     ensures value { result ≡ prefix_len span.is_ascii_name_byte bytes.now }
     ensures bound { result ≤ length bytes.now }
 {
@@ -51,7 +51,8 @@ pub fn after_space(bytes: &[u8]) -> &[u8]
     tail(bytes, len)
 }
 
-fn after_byte(byte: u8, bytes: &[u8]) -> Option<&[u8]>
+#[inline(always)]
+pub fn after_byte(byte: u8, bytes: &[u8]) -> Option<&[u8]>
     ensures { option_copied result ≡ spec.after_byte byte bytes.now }
 {
     match bytes.split_first() {
@@ -100,7 +101,7 @@ fn wide_named(bytes: &[u8]) -> Option<(&[u8], &[u8])>
 }
 
 /// A Name of so many bytes of ASCII, each of which may stand in one.
-fn ascii_named(bytes: &[u8], len: usize) -> Option<(&[u8], &[u8])>
+pub fn ascii_named(bytes: &[u8], len: usize) -> Option<(&[u8], &[u8])>
     requires { len ≤ length bytes.now }
     ensures { option_map (λ found. (found.0.now, found.1.now)) result ≡ span.cut_name len bytes.now }
 {

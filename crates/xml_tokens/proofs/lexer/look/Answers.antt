@@ -1,12 +1,24 @@
-use Rattle.std.proofs.Common.{◌≡◌, ap, ◌∙◌, drop}
-use Rattle.xml_tokens.specs.Reader.{coming, seen, mark_len, mark_len_of}
+use Rattle.std.proofs.Common.{◌≡◌, ap, ◌∙◌, ◌==◌, drop, length, refl}
+use Rattle.xml_tokens.specs.Reader.{coming, is_last, seen, mark_len, mark_len_of}
 use Rattle.xml_tokens.specs.Look.{reader}
+use Rattle.xml_tokens.specs.Simple.{bytes_of}
 use Rattle.xml_tokens.proofs.WholeLemmas.{whole-within}
 use Rattle.xml_tokens.proofs.ReaderLemmas.{look-whole, look-over, look-need}
+use Rattle.xml_tokens.proofs.SimpleLemmas.{simple-front, simple-shape}
 use Rattle.xml_tokens.proofs.lexer.look.Goals as goal
 
 pub head-requires : goal.head-requires
 head-requires c = (whole-within c.is_last-last.result c.tail-bytes.result.now c.in-Whole.len c.in-Whole.ensures).1
+
+pub returns-in-Some : goal.returns-in-Some
+returns-in-Some c =
+    let r = reader c.args.limits.now c.args.unread.now c.args.offset c.args.ended in
+    let e_mark : c.mark_len-mark.result ≡ mark_len r = c.mark_len-mark.ensures.value ∙ ap (mark_len_of c.args.offset) c.front-seen.ensures in
+    let e_bytes : c.tail-bytes.result.now ≡ coming r = c.tail-bytes.ensures ∙ (ap (drop c.mark_len-mark.result) c.front-seen.ensures ∙ ap (λ n. drop n (seen r)) e_mark) in
+    let simple = c.in-Some.simple in
+    let front = simple-front simple c.tail-bytes.result.now c.in-Some.ensures in
+    look-whole c.args.limits.now c.args.unread.now c.args.offset c.args.ended (is_last r) c.mark_len-mark.result c.tail-bytes.result.now refl e_mark e_bytes
+    (length (bytes_of simple)) (bytes_of simple) c.at_simple.result front.0 front.1 (simple-shape simple c.tail-bytes.result.now c.in-Some.ensures (is_last r)) (c.at_simple.ensures (c.args.offset == 0))
 
 pub returns-in-Whole : goal.returns-in-Whole
 returns-in-Whole c =
@@ -16,13 +28,13 @@ returns-in-Whole c =
     look-whole c.args.limits.now c.args.unread.now c.args.offset c.args.ended c.is_last-last.result c.mark_len-mark.result c.tail-bytes.result.now c.is_last-last.ensures e_mark e_bytes
     c.in-Whole.len c.head.result.now c.at_shape.result (whole-within c.is_last-last.result c.tail-bytes.result.now c.in-Whole.len c.in-Whole.ensures).1 c.head.ensures c.in-Whole.ensures c.at_shape.ensures
 
-pub returns-in-Some : goal.returns-in-Some
-returns-in-Some c =
+pub returns-in-Some-at_rest : goal.returns-in-Some-at_rest
+returns-in-Some-at_rest c =
     let r = reader c.args.limits.now c.args.unread.now c.args.offset c.args.ended in
     let e_mark : c.mark_len-mark.result ≡ mark_len r = c.mark_len-mark.ensures.value ∙ ap (mark_len_of c.args.offset) c.front-seen.ensures in
     let e_bytes : c.tail-bytes.result.now ≡ coming r = c.tail-bytes.ensures ∙ (ap (drop c.mark_len-mark.result) c.front-seen.ensures ∙ ap (λ n. drop n (seen r)) e_mark) in
     look-over c.args.limits.now c.args.unread.now c.args.offset c.args.ended c.is_last-last.result c.mark_len-mark.result c.tail-bytes.result.now c.is_last-last.ensures e_mark e_bytes
-    c.is_open-undecided.result c.is_open-undecided.ensures c.in-Some.ending c.in-Unended.ensures.0 c.in-Some.ensures
+    c.is_open-undecided.result c.is_open-undecided.ensures c.in-Some-at_rest.ending c.in-Unended.ensures.0 c.in-Some-at_rest.ensures
 
 pub returns-in-None : goal.returns-in-None
 returns-in-None c =
