@@ -141,7 +141,8 @@ fn are_many_ascii_chars(bytes: &[u8]) -> bool
 fn is_ascii_char(byte: u8) -> bool
     ensures { result ≡ (nat_lt byte 128 && class.is_char byte) }
 {
-    matches!(byte, b' '..=b'\x7F') || matches!(byte, b'\t' | b'\n' | b'\r')
+    // The branches of a `match` on ranges would keep a loop over this from comparing many bytes at once.
+    byte >= b' ' && byte < 0x80 || byte == b'\n' || byte == b'\t' || byte == b'\r'
 }
 
 fn are_chars(text: &str) -> bool

@@ -112,6 +112,7 @@ pub fn ascii_named(bytes: &[u8], len: usize) -> Option<(&[u8], &[u8])>
 }
 
 /// What stands in quotes, and what follows them.
+#[inline(always)]
 #[tactic(auto, unfolding(crate::specs::Tags::quoted))]
 pub fn quoted(bytes: &[u8]) -> Option<(&[u8], &[u8])>
     ensures { option_map (λ found. (found.0.now, found.1.now)) result ≡ spec.quoted bytes.now }
@@ -133,6 +134,7 @@ fn is_quote(byte: u8) -> bool
 }
 
 /// `=` with white space round it, and what stands in quotes behind it (Eq; XML 1.0, 2.8).
+#[inline(always)]
 #[tactic(auto, unfolding(crate::specs::Tags::equated))]
 pub fn equated(bytes: &[u8]) -> Option<(&[u8], &[u8])>
     ensures { option_map (λ found. (found.0.now, found.1.now)) result ≡ spec.equated bytes.now }
@@ -153,6 +155,7 @@ fn has_byte(byte: u8, bytes: &[u8]) -> bool
 }
 
 /// The name, the value as written, and the bytes after an attribute (Attribute; XML 1.0, 3.1).
+#[inline(always)]
 #[tactic(auto, unfolding(crate::specs::Tags::attribute))]
 fn attribute(bytes: &[u8]) -> Option<(&[u8], &[u8], &[u8])>
     requires { IsUtf8 bytes.now }

@@ -106,7 +106,8 @@ fn has_unsaid(bytes: &[u8]) -> bool
 fn is_unsaid(byte: u8) -> bool
     ensures { result ≡ (spec.is_ampersand byte || span.is_break byte) }
 {
-    matches!(byte, b'&' | b'\r' | b'\n' | b'\t')
+    // Most bytes of values are letters and digits, so these come first.
+    byte <= b'&' && matches!(byte, b'&' | b'\r' | b'\n' | b'\t')
 }
 
 fn made(out: Vec<u8>) -> Text
@@ -161,6 +162,7 @@ fn cut_at_ampersand(bytes: &[u8]) -> (&[u8], Option<&[u8]>)
 }
 
 /// What stands before the first such byte, and what follows it.
+#[inline(always)]
 pub fn until_byte(byte: u8, bytes: &[u8]) -> Option<(&[u8], &[u8])>
     ensures { option_map (λ found. (found.0.now, found.1.now)) result ≡ span.cut_at (λ b. b == byte) bytes.now }
 {
