@@ -82,7 +82,7 @@ fn is_wide_name_char(c: char) -> bool
 pub fn is_ascii_name_byte(byte: u8) -> bool
     ensures { result ≡ (nat_lt byte 128 && class.is_name_char byte) }
 {
-    byte == b':' || is_ascii_ncname_byte(byte)
+    is_ascii_ncname_byte(byte) || byte == b':'
 }
 
 /// Whether a byte is an ASCII character and a NameChar other than a colon.

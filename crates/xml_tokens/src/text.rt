@@ -12,7 +12,7 @@ use crate::cut::{head, place_of, tail};
 use crate::form::{begins, is_word};
 use memchr::{memchr, memchr2, memchr3};
 use std::alloc::{AllocError, Global};
-use stx_base::{Memory, Text, is_char, is_name, is_name_start};
+use stx_base::{Memory, Text, is_ascii_name_byte, is_char, is_name, is_name_start};
 
 /// Where bytes stand that say a text.
 #[derive(Clone, Copy, Debug, PartialEq, Eq)]
@@ -299,18 +299,6 @@ fn are_ascii_name_bytes(bytes: &[u8]) -> bool
     ensures { result ≡ list_all (λ b. nat_lt b 128 && class.is_name_char b) bytes.now }
 {
     bytes.iter().all(|b| is_ascii_name_byte(*b))
-}
-
-/// A NameChar of ASCII.
-pub fn is_ascii_name_byte(byte: u8) -> bool
-    ensures { result ≡ (nat_lt byte 128 && class.is_name_char byte) }
-{
-    // Most bytes of names are small letters, so these come first.
-    if byte >= b'a' {
-        byte <= b'z'
-    } else {
-        matches!(byte, b'A'..=b'Z' | b'0'..=b':' | b'-' | b'.' | b'_')
-    }
 }
 
 /// The Char whose number these digits write.
