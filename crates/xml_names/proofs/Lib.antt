@@ -9,3 +9,4 @@ pub mod Alike
 pub mod Paths
 pub mod Nearest
 pub mod Taken
+pub mod Plain

@@ -2,6 +2,7 @@
 use Rattle.std.specs.Prelude.{◌≡◌, ℕ, Bool, true, false, not, ◌&&◌, ◌||◌, List, [], ◌∷◌, ◌++◌, Option, Some, None, is_some, codes, if◌then◌else◌}
 use Rattle.std.specs.List.{filter_map, list_all, list_any}
 use Rattle.std.specs.Option.{option_map, option_map_or}
+use Rattle.stx_base.specs.Character.{is_ncname}
 use Rattle.stx_base.specs.declared.fault.XmlKind.{XmlKind}
 use Rattle.stx_base.specs.declared.fault.XmlKind.TheVariants as kind
 use Rattle.stx_base.specs.declared.name.Attr.{Attr}
@@ -64,6 +65,18 @@ is_bad_binding a = option_map_or (λ prefix. not (is_good_binding prefix a.value
 
 abbrev pub has_bad_binding : List RawAttr → Bool
 has_bad_binding attrs = list_any is_bad_binding attrs
+
+-- a name without a prefix, and of no declaration
+abbrev pub is_plain_name : (name : List ℕ) → Bool
+is_plain_name name = is_ncname name && not (same name (codes "xmlns"))
+
+-- no name of a tag has a prefix, and it declares nothing
+abbrev pub is_plain : (name : List ℕ) → List RawAttr → Bool
+is_plain name attrs = is_ncname name && list_all (λ a. is_plain_name a.name) attrs
+
+-- an attribute without a prefix, which is in no namespace
+abbrev pub plain_attribute : RawAttr → Attr
+plain_attribute a = record { name = record { uri = []; local = a.name; prefix = [] }; value = a.value }
 
 -- a prefix that a name has is bound (Namespaces in XML 1.0, 5)
 abbrev pub is_prefix_bound : (path : List (List Binding)) → (prefix : List ℕ) → Bool

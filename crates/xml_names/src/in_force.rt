@@ -59,12 +59,16 @@ impl InForce {
     pub fn uri(&self, prefix: &str) -> Option<&Text>
         ensures { option_copied result ≡ last_uri self.now (chars prefix.now) }
     {
+        if self.declared.is_empty() {
+            return None;
+        }
         let place = self.places.get(prefix)?;
         let declared = self.declared.get(*place)?;
         Some(&declared.binding.uri)
     }
 
     /// Appends a declaration. After a refusal all is unchanged.
+    #[inline(never)]
     fn push(&mut self, binding: &Binding) -> Result<(), Memory>
         ensures ok { OnOk result (self.new ≡ self.old ++ binding.now ∷ []) }
         ensures err { OnErr result (self.new ≡ self.old) }
@@ -84,6 +88,7 @@ impl InForce {
     }
 
     /// Takes the last declaration off. Allocates nothing.
+    #[inline(never)]
     fn pop(&mut self)
         ensures { self.new ≡ take (length self.old - 1) self.old }
     {
@@ -119,6 +124,7 @@ impl InForce {
     }
 
     /// Takes all declarations off but the first `len`. Allocates nothing.
+    #[inline(always)]
     pub fn truncate(&mut self, len: usize)
         ensures { self.new ≡ take len self.old }
     {

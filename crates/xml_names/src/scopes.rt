@@ -1,4 +1,4 @@
-ghost use Rattle.std.specs.Prelude.{◌≡◌, ◌<◌, ◌-◌, ◌++◌, ◌∷◌, [], None, true, not, ◌&&◌, codes, IfOk, IfErr, MatchOption, OnOk, OnErr, length, take, unwrap_or};
+ghost use Rattle.std.specs.Prelude.{◌≡◌, ◌<◌, ◌-◌, ◌++◌, ◌∷◌, [], None, true, not, ◌&&◌, codes, IfOk, IfErr, MatchOption, OnOk, OnErr, length, map, take, unwrap_or};
 ghost use Rattle.std.specs.List.{list_all};
 ghost use Rattle.std.specs.Option.{option_map};
 ghost use Rattle.std.specs.Str.{chars};
@@ -16,7 +16,7 @@ use crate::twins::{has_expanded_twins, has_written_twins};
 use crate::words::{is_empty, is_word};
 use std::alloc::Global;
 use std::marker::Model;
-use stx_base::{Attr, Binding, List, Memory, Name, Text, XmlKind};
+use stx_base::{Attr, Binding, List, Memory, Name, Text, XmlKind, is_ncname};
 use xml_tokens::RawAttr;
 
 /// The elements from the document's root to where it is read, with what each of them declares.
@@ -64,6 +64,44 @@ impl Scopes {
     #[inline(always)]
     pub fn enter(&mut self, name: &Text, attrs: List<RawAttr>) -> Result<Resolved, NameFault>
         // It is taken only where it has no fault.
+        ensures taken { OnOk result (name_fault self.old name.now attrs ≡ None) }
+        ensures fault { IfErr result (IsCause (name_fault self.old name.now attrs)) }
+        ensures value { IfOk result (λ tag. tag ≡ resolved self.old name.now attrs) }
+        ensures ok { OnOk result (self.new ≡ self.old ++ declarations attrs ∷ []) }
+        ensures err { OnErr result (self.new ≡ self.old) }
+    {
+        if is_plain(name, attrs.as_slice()) {
+            self.enter_plain(name, attrs)
+        } else {
+            self.enter_any(name, attrs)
+        }
+    }
+
+    /// Most tags declare nothing and have no prefix, so that nothing has to be looked up in them but the default namespace.
+    #[inline(always)]
+    fn enter_plain(&mut self, name: &Text, attrs: List<RawAttr>) -> Result<Resolved, NameFault>
+        requires { spec.is_plain name.now attrs ≡ true }
+        ensures taken { OnOk result (name_fault self.old name.now attrs ≡ None) }
+        ensures fault { IfErr result (IsCause (name_fault self.old name.now attrs)) }
+        ensures value { IfOk result (λ tag. tag ≡ resolved self.old name.now attrs) }
+        ensures ok { OnOk result (self.new ≡ self.old ++ declarations attrs ∷ []) }
+        ensures err { OnErr result (self.new ≡ self.old) }
+    {
+        if has_written_twins(self.alloc, attrs.as_slice())? {
+            return Err(NameFault::Xml(XmlKind::DuplicateAttribute));
+        }
+        let name = self.element_name(Parts {
+            prefix: "",
+            local: name.as_str(),
+        })?;
+        let attrs = plain_attributes(self.alloc, attrs)?;
+        let decls = List::new(self.alloc);
+        self.declare(&decls)?;
+        Ok(Resolved { name, attrs, decls })
+    }
+
+    #[inline(never)]
+    fn enter_any(&mut self, name: &Text, attrs: List<RawAttr>) -> Result<Resolved, NameFault>
         ensures taken { OnOk result (name_fault self.old name.now attrs ≡ None) }
         ensures fault { IfErr result (IsCause (name_fault self.old name.now attrs)) }
         ensures value { IfOk result (λ tag. tag ≡ resolved self.old name.now attrs) }
@@ -289,4 +327,44 @@ fn has_bad_name(name: &Text, attrs: &[RawAttr]) -> bool
     ensures { result ≡ spec.has_bad_name name.now attrs.now }
 {
     !(is_qname(name.as_str()) && are_qnames(attrs))
+}
+
+/// Whether a tag has no prefix and declares nothing.
+fn is_plain(name: &Text, attrs: &[RawAttr]) -> bool
+    ensures { result ≡ spec.is_plain name.now attrs.now }
+{
+    is_ncname(name.as_str()) && are_plain(attrs)
+}
+
+fn are_plain(attrs: &[RawAttr]) -> bool
+    ensures { result ≡ list_all (λ a. spec.is_plain_name a.name) attrs.now }
+{
+    attrs.iter().all(|attr| is_plain_name(attr.name.as_str()))
+}
+
+fn is_plain_name(name: &str) -> bool
+    ensures { result ≡ spec.is_plain_name (chars name.now) }
+{
+    is_ncname(name) && !is_word(name, "xmlns")
+}
+
+/// The attributes of a tag that has no prefix and declares nothing.
+#[inline(always)]
+fn plain_attributes(alloc: Global, attrs: List<RawAttr>) -> Result<List<Attr>, Memory>
+    ensures { IfOk result (λ made. made ≡ map spec.plain_attribute attrs) }
+{
+    if attrs.is_empty() {
+        return Ok(List::new(alloc));
+    }
+    let mut made = List::from_vec(Vec::with_capacity(alloc, attrs.len())?);
+    for attr in attrs.into_vec() {
+        let RawAttr { name, value } = attr;
+        let name = Name {
+            uri: Text::new(alloc),
+            local: name,
+            prefix: Text::new(alloc),
+        };
+        made.push(Attr { name, value })?;
+    }
+    Ok(made)
 }

@@ -68,6 +68,7 @@ fn is_expanded_in(attr: &Attr, others: &[Attr]) -> bool
     others.iter().any(|other| attr.name.same(&other.name))
 }
 
+#[inline(never)]
 fn has_repeated(alloc: Global, attrs: &[RawAttr]) -> Result<bool, Memory>
     ensures { IfOk result (λ found. found ≡ has_twins same_written attrs.now) }
 {
@@ -80,6 +81,7 @@ fn has_repeated(alloc: Global, attrs: &[RawAttr]) -> Result<bool, Memory>
     Ok(false)
 }
 
+#[inline(never)]
 fn has_repeated_names(alloc: Global, attrs: &[Attr]) -> Result<bool, Memory>
     ensures { IfOk result (λ found. found ≡ has_twins same_expanded attrs.now) }
 {
