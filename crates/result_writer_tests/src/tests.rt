@@ -225,6 +225,11 @@ fn bytes(rt: HostRuntime) -> Result<(), Fail> {
 }
 
 #[test]
+fn long_texts(rt: HostRuntime) -> Result<(), Fail> {
+    check_all(&rt, rt.alloc(), rows::long_texts())
+}
+
+#[test]
 fn refused_parts(rt: HostRuntime) -> Result<(), Fail> {
     check_all(&rt, rt.alloc(), rows::names())?;
     check_all(&rt, rt.alloc(), rows::more_names())?;

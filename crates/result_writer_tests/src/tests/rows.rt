@@ -11,6 +11,10 @@ pub fn escapes() -> &'static [Row] {
     &ESCAPES
 }
 
+pub fn long_texts() -> &'static [Row] {
+    &LONG_TEXTS
+}
+
 pub fn comments() -> &'static [Row] {
     &COMMENTS
 }
@@ -180,6 +184,104 @@ static ESCAPES: [Row; 10] = [
 ];
 
 // Comments and instructions are written as they are.
+// Texts of so many bytes that they are judged and written piece by piece.
+static LONG_TEXTS: [Row; 10] = [
+    (
+        &[
+            Start("a"),
+            Chars("0123456789abcdef0123456789abcdef0123456789abcdef0123456789abcdef"),
+            End("a"),
+        ],
+        "<a>0123456789abcdef0123456789abcdef0123456789abcdef0123456789abcdef</a>",
+        "",
+    ),
+    (
+        &[
+            Start("a"),
+            Chars(
+                "0123456789abcdef0123456789abcdef0123456789abcdef0123456789abcde&0123456789abcdef0123456789abcdef0123456789abcdef0123456789abcd<>",
+            ),
+            End("a"),
+        ],
+        "<a>0123456789abcdef0123456789abcdef0123456789abcdef0123456789abcde&amp;0123456789abcdef0123456789abcdef0123456789abcdef0123456789abcd&lt;&gt;</a>",
+        "",
+    ),
+    (
+        &[
+            Start("a"),
+            Chars(
+                "0123456789abcdef0123456789abcdef0123456789abcdef0123456789abcdef>0123456789abcdef0123456789abcde",
+            ),
+            End("a"),
+        ],
+        "<a>0123456789abcdef0123456789abcdef0123456789abcdef0123456789abcdef&gt;0123456789abcdef0123456789abcde</a>",
+        "",
+    ),
+    (
+        &[
+            Start("a"),
+            Chars(
+                "0123456789abcdef0123456789abcdef0123456789abcdef0123456789abcdef\r0123456789abcdef0123456789abcdef0123456789abcdef0123456789abcdef0123456789abcdef0123456789abcdef0123456789abcdef0123456789abcdef&",
+            ),
+            End("a"),
+        ],
+        "<a>0123456789abcdef0123456789abcdef0123456789abcdef0123456789abcdef&#13;0123456789abcdef0123456789abcdef0123456789abcdef0123456789abcdef0123456789abcdef0123456789abcdef0123456789abcdef0123456789abcdef&amp;</a>",
+        "",
+    ),
+    (
+        &[
+            Start("a"),
+            Chars("éééééééééééééééééééééééééééééééééééééééé<漢漢漢漢漢漢漢漢漢漢漢漢漢漢漢漢漢漢漢漢漢漢漢漢漢漢漢漢漢漢"),
+            End("a"),
+        ],
+        "<a>éééééééééééééééééééééééééééééééééééééééé&lt;漢漢漢漢漢漢漢漢漢漢漢漢漢漢漢漢漢漢漢漢漢漢漢漢漢漢漢漢漢漢</a>",
+        "",
+    ),
+    (
+        &[
+            Start("a"),
+            Attr(
+                "x",
+                "0123456789abcdef0123456789abcdef0123456789abcdef0123456789abcdef\"0123456789abcdef0123456789abcdef01234567\t",
+            ),
+            End("a"),
+        ],
+        "<a x=\"0123456789abcdef0123456789abcdef0123456789abcdef0123456789abcdef&quot;0123456789abcdef0123456789abcdef01234567&#9;\"/>",
+        "",
+    ),
+    (
+        &[
+            Start("a"),
+            Attr(
+                "x",
+                "0123456789abcdef0123456789abcdef0123456789abcdef0123456789abcde\n0123456789abcdef0123456789abcdef0123456789abcdef0123456789abcdef>\r",
+            ),
+            End("a"),
+        ],
+        "<a x=\"0123456789abcdef0123456789abcdef0123456789abcdef0123456789abcde&#10;0123456789abcdef0123456789abcdef0123456789abcdef0123456789abcdef>&#13;\"/>",
+        "",
+    ),
+    (
+        &[Chars("0123456789abcdef0123456789abcdef0123456789abcdef0123456789abcdef\u{1}")],
+        "",
+        "BadChar at 0",
+    ),
+    (
+        &[Chars(
+            "0123456789abcdef0123456789abcdef0123456789abcdef0123456789abcde\u{1}0123456789abcdef0123456789abcdef0123456789abcdef0123456789abcdef",
+        )],
+        "",
+        "BadChar at 0",
+    ),
+    (
+        &[Chars(
+            "éééééééééééééééééééééééééééééééééééééééé\u{FFFE}0123456789abcdef0123456789abcdef0123456789abcdef0123456789abcdef",
+        )],
+        "",
+        "BadChar at 0",
+    ),
+];
+
 static COMMENTS: [Row; 10] = [
     (&[Start("a"), Comment(""), End("a")], "<a><!----></a>", ""),
     (
