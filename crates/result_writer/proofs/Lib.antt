@@ -1,3 +1,4 @@
+mod Answered
 mod Apart
 mod Attributed
 mod Bound

@@ -167,6 +167,16 @@ impl Opened {
         }
     }
 
+    /// Whether an element is open. An end with the name of the innermost one has no fault, since names are judged where
+    /// elements start.
+    pub(crate) fn has_open(&self) -> bool
+        ensures none { result ≡ false → innermost self.now.left.elements self.now.left.held ≡ None }
+        ensures some { result ≡ true → is_some (innermost self.now.left.elements self.now.left.held) ≡ true }
+        ensures good { (name : Name) → innermost self.now.left.elements self.now.left.held ≡ Some name → spec.end_fault self.now.left name ≡ None }
+    {
+        self.innermost().is_some()
+    }
+
     /// How many elements are open.
     fn depth(&self) -> usize
         ensures { result ≡ depth self.now.left.elements self.now.left.held }

@@ -1,10 +1,10 @@
-ghost use Rattle.std.specs.Prelude.{◌≡◌, ◌++◌, [], true, false, IfOk, IfErr, MatchResult, OnOk, OnErr};
+ghost use Rattle.std.specs.Prelude.{◌≡◌, ◌++◌, [], true, false, None, Some, Err, IfOk, IfErr, MatchResult, OnOk, OnErr};
 ghost use Rattle.stx_base.specs.declared.part.Part.TheVariants.{Start, Attribute, End, Chars, Comment, Pi};
 ghost use Rattle.stx_base.specs.declared.name.Name.{Name as Spelled};
 ghost use Rattle.result_writer.specs.Allowed.{is_good_name};
 ghost use Rattle.result_writer.specs.Bytes.{Begins};
 ghost use Rattle.result_writer.specs.Target as spec;
-ghost use Rattle.result_writer.specs.Target.{behind, end_text, fresh, is_closed, settles, text, whole_fault, IsCause};
+ghost use Rattle.result_writer.specs.Target.{behind, end_text, fresh, innermost, is_closed, settles, text, whole_fault, IsCause};
 
 use crate::escape::{Context, append_escaped};
 use crate::fault::{ResultFault, WriteStop};
@@ -139,6 +139,27 @@ impl Writer {
     {
         if let Some(fault) = self.opened.end_fault(name) {
             return Err(WriteStop::Fault(fault));
+        }
+        let len = out.len();
+        if end(&mut self.opened, out).is_err() {
+            out.truncate(len);
+            return Err(WriteStop::Memory);
+        }
+        Ok(())
+    }
+
+    /// Ends the innermost element as `put_end` does, whose name needn't be known. After a refusal all is unchanged.
+    pub fn end_innermost(&mut self, out: &mut Vec<u8>) -> Result<(), WriteStop>
+        ensures unmatched { innermost self.old.left.elements self.old.left.held ≡ None → result ≡ Err (WriteStop.Fault ResultFault.UnmatchedEnd) }
+        ensures memory { (name : Spelled) → innermost self.old.left.elements self.old.left.held ≡ Some name → IfErr result (λ stop. stop ≡ WriteStop.Memory) }
+        ensures taken { (name : Spelled) → innermost self.old.left.elements self.old.left.held ≡ Some name → spec.fault self.old.limit self.old.left (End name) ≡ None }
+        ensures ok { (name : Spelled) → OnOk result (self.new ≡ behind self.old (End name)) }
+        ensures err { OnErr result (self.new ≡ self.old) }
+        ensures written { (name : Spelled) → OnOk result (out.new.items ≡ out.old.items ++ settles self.old.left (End name)) }
+        ensures unwritten { OnErr result (out.new.items ≡ out.old.items) }
+    {
+        if !self.opened.has_open() {
+            return Err(WriteStop::Fault(ResultFault::UnmatchedEnd));
         }
         let len = out.len();
         if end(&mut self.opened, out).is_err() {

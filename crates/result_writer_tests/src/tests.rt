@@ -119,6 +119,8 @@ enum Handed {
     Over,
     /// By the call of its kind.
     ByKind,
+    /// The same, but for ends, which end the innermost element.
+    Unnamed,
 }
 
 impl Handed {
@@ -127,6 +129,7 @@ impl Handed {
             Handed::Lent => put_lent(writer, part, out),
             Handed::Over => writer.put_owned(part, out),
             Handed::ByKind => put_by_kind(writer, part, out),
+            Handed::Unnamed => put_unnamed(writer, part, out),
         }
     }
 }
@@ -143,6 +146,13 @@ fn put_by_kind(writer: &mut Writer, part: Part, out: &mut Vec<u8>) -> Result<(),
         Part::Chars { text } => writer.put_chars(&text, out),
         Part::Comment { text } => writer.put_comment(&text, out),
         Part::Pi { target, text } => writer.put_instruction(&target, &text, out),
+    }
+}
+
+fn put_unnamed(writer: &mut Writer, part: Part, out: &mut Vec<u8>) -> Result<(), WriteStop> {
+    match part {
+        Part::End { name: _name } => writer.end_innermost(out),
+        part => put_by_kind(writer, part, out),
     }
 }
 
@@ -224,6 +234,25 @@ fn bytes(rt: HostRuntime) -> Result<(), Fail> {
     check_all(&rt, rt.alloc(), rows::held())
 }
 
+/// Rows in which each end has the name of its start.
+fn check_unnamed(rt: &impl Abort, alloc: Global, rows: &[Row]) -> Result<(), Fail> {
+    for (parts, bytes, refusals) in rows {
+        let mut faults = String::new(alloc);
+        let out = written(alloc, 4096, Handed::Unnamed, parts, &mut faults)?;
+        check_text(rt, "bytes", out.as_slice(), bytes, parts);
+        check_text(rt, "faults", faults.as_bytes(), refusals, parts);
+    }
+    Ok(())
+}
+
+#[test]
+fn ends_without_names(rt: HostRuntime) -> Result<(), Fail> {
+    check_unnamed(&rt, rt.alloc(), rows::tags())?;
+    check_unnamed(&rt, rt.alloc(), rows::held())?;
+    check_unnamed(&rt, rt.alloc(), rows::late_attributes())?;
+    check_unnamed(&rt, rt.alloc(), rows::unmatched_ends())
+}
+
 #[test]
 fn long_texts(rt: HostRuntime) -> Result<(), Fail> {
     check_all(&rt, rt.alloc(), rows::long_texts())
@@ -243,6 +272,7 @@ fn refused_parts(rt: HostRuntime) -> Result<(), Fail> {
 fn misplaced_parts(rt: HostRuntime) -> Result<(), Fail> {
     check_all(&rt, rt.alloc(), rows::late_attributes())?;
     check_all(&rt, rt.alloc(), rows::ends())?;
+    check_all(&rt, rt.alloc(), rows::unmatched_ends())?;
     check_all(&rt, rt.alloc(), rows::named_ends())?;
     check_all(&rt, rt.alloc(), rows::unchanged())
 }

@@ -55,6 +55,10 @@ pub fn ends() -> &'static [Row] {
     &ENDS
 }
 
+pub fn unmatched_ends() -> &'static [Row] {
+    &UNMATCHED_ENDS
+}
+
 pub fn named_ends() -> &'static [Row] {
     &NAMED_ENDS
 }
@@ -656,6 +660,15 @@ static ENDS: [Row; 10] = [
 ];
 
 // The end is named as the start tag was.
+static UNMATCHED_ENDS: [Row; 2] = [
+    (&[End("a")], "", "UnmatchedEnd at 0"),
+    (
+        &[Start("a"), Chars("x"), End("a"), End("a"), Chars("y")],
+        "<a>x</a>y",
+        "UnmatchedEnd at 3",
+    ),
+];
+
 static NAMED_ENDS: [Row; 3] = [
     (
         &[Start("p:a urn:1"), Chars("x"), End("q:a urn:1")],
