@@ -17,28 +17,15 @@ use Rattle.result_writer.specs.declared.tag.HeldTag.{HeldTag}
 use Rattle.xml_events.specs.Tree.{Why, Mark, Fresh, Told, Begun, Leaf, Chars, Comment, Pi, Element, Forest, End, Cut, Single, Nested}
 use Rattle.stx_engine.specs.Accepted.{TakesGood, is_good, is_good_attr, is_good_element, is_good_leaf}
 use Rattle.stx_engine.specs.Meaning.{Complete, Refused, attribute_part, end_parts, leaf_parts, start_parts}
+use Rattle.stx_engine.specs.Opens.{named, names_by, names_of}
 use Rattle.stx_engine.specs.Passed.{Passed, once_ready, passed, put, run_from, then_put, unless_refused, unless_stopped, with_first}
 use Rattle.stx_engine.specs.Scope.{scope_within}
 use Rattle.stx_engine.specs.declared.pass.Pass.{Pass}
 use Rattle.stx_engine.specs.declared.pass.Pass.TheVariants as pass
 use Rattle.stx_engine.proofs.Beginnings.{run-passed}
+use Rattle.stx_engine.proofs.Copying.{settled-names}
 
 -- Open elements
-
-abbrev named : List target.Element → List Name
-named = map (λ (e : target.Element). e.name)
-
-abbrev names_by : List target.Element → Option HeldTag → List Name
-names_by es None = named es
-names_by es (Some tag) = tag.name ∷ named es
-
--- the names of the elements that are open in a result, the innermost first
-abbrev names_of : Left → List Name
-names_of l = names_by l.elements l.held
-
-settled-names : (es : List target.Element) (h : Option HeldTag) → named (settled es h) ≡ names_by es h
-settled-names es None = refl
-settled-names es (Some tag) = refl
 
 named-length : (es : List target.Element) → length (named es) ≡ length es
 named-length [] = refl

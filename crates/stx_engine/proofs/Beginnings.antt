@@ -25,7 +25,7 @@ use Rattle.stx_engine.specs.More.{Given, ahead, given, given_of, given_on, rest}
 use Rattle.stx_engine.specs.More as more
 use Rattle.stx_engine.specs.Passed.{Run, passed, run_from, with_first}
 use Rattle.stx_engine.specs.Passed as gives
-use Rattle.stx_engine.specs.declared.copier.Open.{Open}
+use Rattle.stx_engine.specs.Opens.{names_in, opens_by}
 use Rattle.stx_engine.specs.declared.engine.Engine.{Engine}
 use Rattle.stx_engine.specs.declared.pass.Pass.{Pass}
 use Rattle.stx_engine.proofs.Passing.{outcome-passed, run_of_tree}
@@ -84,18 +84,18 @@ module _ (limits : Limits) where
 
 module _ (limits : Limits) (pass : Pass) (e : Engine)
     (document : (bytes : List ℕ) (ended : Bool) → future e.reader bytes ended ≡ doc limits false bytes ended ∷ []) (over : e.reader.over ≡ None)
-    (asks : e.copier.pass ≡ pass) (scope : e.copier.scope ≡ []) (elements : e.copier.elements ≡ []) (writer : e.copier.writer ≡ fresh limits.elements) where
-  abbrev given_by : Pass → List Binding → List Open → Target → Future → Given
-  given_by p s os t f = given_of t (rest p s (reverse os) f)
+    (asks : e.copier.pass ≡ pass) (scope : e.copier.scope ≡ []) (around : e.copier.around ≡ []) (writer : e.copier.writer ≡ fresh limits.elements) where
+  abbrev given_by : Pass → List Binding → List (Option (List Binding)) → Target → Future → Given
+  given_by p s os t f = given_of t (rest p s (opens_by (names_in p t.left) (reverse os)) f)
 
   -- it gives what is put on the document's tree
   started : (bytes : List ℕ) (ended : Bool) → let p = passed pass [] (doc limits false bytes ended) in more e bytes ended ≡ given limits.elements nothing p.parts p.stop
   started bytes ended =
       let f = doc limits false bytes ended ∷ [] in
       ap (given_on e.copier) (document bytes ended)
-      ∙ ap (λ x. given_by x e.copier.scope e.copier.elements e.copier.writer f) asks
-      ∙ ap (λ x. given_by pass x e.copier.elements e.copier.writer f) scope
-      ∙ ap (λ x. given_by pass [] x e.copier.writer f) elements
+      ∙ ap (λ x. given_by x e.copier.scope e.copier.around e.copier.writer f) asks
+      ∙ ap (λ x. given_by pass x e.copier.around e.copier.writer f) scope
+      ∙ ap (λ x. given_by pass [] x e.copier.writer f) around
       ∙ ap (λ x. given_by pass [] [] x f) writer
 
   pub means : Means limits pass e
@@ -108,6 +108,6 @@ module _ (limits : Limits) (pass : Pass) (e : Engine)
 
   pub waits : IsWaiting e
   waits = record {
-    going = record { fresh = over; lists = λ bytes ended. ap length (document bytes ended) ∙ sym (ap (λ os. suc (length os)) elements) };
+    going = record { fresh = over; lists = λ bytes ended. ap length (document bytes ended) ∙ sym (ap (λ os. suc (length os)) around) };
     nothing = started [] false ∙ ap (λ tree. given limits.elements nothing (passed pass [] tree).parts (passed pass [] tree).stop) (doc-begun limits);
   }

@@ -1,19 +1,22 @@
 -- What a copier does with events.
 use Rattle.std.proofs.lemmas.List.{reverse-append}
-use Rattle.std.proofs.Common.{reverse, ◌≡◌, ℕ, List, [], ◌∷◌, ◌++◌, Option, Some, None, Ok, Err, Result, refl, sym, ap, ◌∙◌, subst, append_assoc, append-nil}
+use Rattle.std.proofs.Common.{reverse, ◌≡◌, ◌≢◌, ◌⊎◌, ⊎_elim, inl, inr, drop, ℕ, List, [], ◌∷◌, ◌++◌, Option, Some, None, Ok, Err, Result, refl, sym, ap, ◌∙◌, subst, append_assoc, append-nil}
 use Rattle.std.specs.Prelude.{IfErr, IsErrAnd, OnErr, OnOk, unwrap_or}
 use Rattle.stx_base.specs.declared.name.Attr.{Attr}
 use Rattle.stx_base.specs.declared.name.Binding.{Binding}
 use Rattle.stx_base.specs.declared.name.Name.{Name}
 use Rattle.xml_events.specs.Document.{inner, outer}
 use Rattle.stx_engine.specs.declared.pass.Pass.{Pass}
-use Rattle.stx_engine.specs.declared.copier.Open.{Open}
+use Rattle.stx_engine.specs.Opens.{Open, first_name, names_behind, names_by, names_in, names_of, named, opens_by}
 use Rattle.stx_engine.specs.Meaning.{end_parts, leaf_parts, start_parts}
 use Rattle.stx_engine.specs.Passed.{passed, put, then_put}
 use Rattle.stx_engine.specs.Scope.{scope_within}
 use Rattle.stx_base.specs.Course.{Begins}
 use Rattle.stx_base.specs.declared.part.Part.{Part}
-use Rattle.result_writer.specs.Target.{IsCause, Target, behind, fault, next, settles}
+use Rattle.result_writer.specs.Target as target
+use Rattle.result_writer.specs.Target.{IsCause, Left, Target, added, behind, closed, end_of, fault, innermost, next, settled, settles}
+use Rattle.result_writer.specs.declared.fault.ResultFault.TheVariants.{UnmatchedEnd}
+use Rattle.result_writer.specs.declared.tag.HeldTag.{HeldTag}
 use Rattle.result_writer.specs.declared.fault.WriteStop.{WriteStop}
 use Rattle.result_writer.specs.declared.fault.WriteStop.TheVariants.{Fault, Memory}
 use Rattle.xml_events.specs.Tree.{Chars, Comment, Element, Future, Pi}
@@ -25,7 +28,7 @@ use Rattle.stx_engine.proofs.Rest.{rest-end, rest-leaf, rest-start}
 use Rattle.stx_engine.specs.declared.copier.Copier.{Copier}
 use Rattle.stx_engine.specs.declared.copier.Turn.{Turn}
 use Rattle.stx_engine.specs.declared.copier.Turn.TheVariants.{More, Over}
-use Rattle.stx_engine.specs.More.{Given, PutsAll, Puts, Takes, ahead, begin_ahead, close_ahead, end_ahead, ended, given, given_after, given_by, given_of, leaf_ahead, rest, start_ahead, still, unless_refused}
+use Rattle.stx_engine.specs.More.{Given, PutsAll, Puts, Takes, ahead, begin_ahead, close_ahead, end_ahead, ended, given, given_after, given_by, given_of, leaf_ahead, opens, rest, start_ahead, still, unless_refused}
 
 -- Parts
 
@@ -121,27 +124,72 @@ takes-unkept c t o attrs before now new h = (
   h.0,
   h.1,
   λ f.
-      let p = rest c.pass c.scope (o ∷ reverse c.elements) f in
+      let p = rest c.pass c.scope (o ∷ opens c) f in
       subst (λ (g : Given). Begins h.0 g.bytes) (sym (h.2 p.parts p.stop)) ((given t.limit t.left p.parts p.stop).bytes, refl),
 )
 
+pub settled-names : (es : List target.Element) (h : Option HeldTag) → named (settled es h) ≡ names_by es h
+settled-names es None = refl
+settled-names es (Some tag) = refl
+
+pub added-names : (es : List target.Element) (h : Option HeldTag) (name : Name) (value : List ℕ) → names_by es (added h name value) ≡ names_by es h
+added-names es None name value = refl
+added-names es (Some tag) name value = refl
+
+pub OnOk-weaker : {T E A B : Type 0} (r : Result T E) → (A → B) → OnOk r A → OnOk r B
+OnOk-weaker (Ok x) f a = f a
+OnOk-weaker (Err e) f a = tt
+
+pub start-names : (old new : Target) (name : Name) (scope : List Binding) (r : Result (Unit {0}) WriteStop) → OnOk r (new ≡ behind old (part.Start name scope)) → OnOk r (names_of new.left ≡ name ∷ names_of old.left)
+start-names old new name scope r h = OnOk-weaker r (λ e. ap (λ (t : Target). names_of t.left) e ∙ ap (λ ns. name ∷ ns) (settled-names old.left.elements old.left.held)) h
+
+-- an element that is open is known by its name, where its end is put
+one-more-open : (p : Pass) (scope : List Binding) (o : Open) (l : Left) (os : List (Option (List Binding))) (f : Future)
+    → rest p scope (o ∷ opens_by (names_in p l) os) f ≡ rest p scope (opens_by (names_behind p o.name l) (o.outer ∷ os)) f
+one-more-open pass.All scope o l os f = refl
+one-more-open pass.Chars scope o l os f = refl
+one-more-open pass.None scope o l os f = refl
+
 -- it was put and kept
 pub takes-start : (c new : Copier) (t : Target) (o : Open) (attrs : List Attr) (before now : List ℕ)
-    → Puts c.writer t (start_parts c.pass c.scope o.name attrs) before now (Ok tt) → new ≡ record c { elements = c.elements ++ o ∷ []; writer = t } → Takes (begin_ahead c o attrs) new before now (Ok More)
-takes-start c new t o attrs before now h e =
+    → Puts c.writer t (start_parts c.pass c.scope o.name attrs) before now (Ok tt) → names_in c.pass t.left ≡ names_behind c.pass o.name c.writer.left
+    → new ≡ record c { around = c.around ++ o.outer ∷ []; writer = t } → Takes (begin_ahead c o attrs) new before now (Ok More)
+takes-start c new t o attrs before now h names e =
     subst (λ x. Takes (begin_ahead c o attrs) x before now (Ok More)) (sym e) (
       h.0,
       h.1,
       λ f.
-          let p = rest c.pass c.scope (o ∷ reverse c.elements) f in
+          let p = rest c.pass c.scope (o ∷ opens c) f in
           h.2 p.parts p.stop
-          ∙ ap (λ os. ahead h.0 (given_of t (rest c.pass c.scope os f))) (sym (reverse-append c.elements (o ∷ []))),
+          ∙ ap (λ q. ahead h.0 (given_of t q)) (one-more-open c.pass c.scope o c.writer.left (reverse c.around) f)
+          ∙ ap (λ ns. ahead h.0 (given_of t (rest c.pass c.scope (opens_by ns (o.outer ∷ reverse c.around)) f))) (sym names)
+          ∙ ap (λ os. ahead h.0 (given_of t (rest c.pass c.scope (opens_by (names_in c.pass t.left) os) f))) (sym (reverse-append c.around (o.outer ∷ []))),
     )
 
 -- it was refused
 pub takes-refused : (c new : Copier) (t : Target) (o : Open) (attrs : List Attr) (before now : List ℕ) (e : WriteStop) → Puts c.writer t (start_parts c.pass c.scope o.name attrs) before now (Err e) → Takes (begin_ahead c o attrs) new before now (Err e)
-takes-refused c new t o attrs before now (Fault x) h = (h.0, h.1, λ f. let p = rest c.pass c.scope (o ∷ reverse c.elements) f in h.2 p.parts p.stop)
-takes-refused c new t o attrs before now Memory h = (h.0, h.1, λ f. let p = rest c.pass c.scope (o ∷ reverse c.elements) f in h.2 p.parts p.stop)
+takes-refused c new t o attrs before now (Fault x) h = (h.0, h.1, λ f. let p = rest c.pass c.scope (o ∷ opens c) f in h.2 p.parts p.stop)
+takes-refused c new t o attrs before now Memory h = (h.0, h.1, λ f. let p = rest c.pass c.scope (o ∷ opens c) f in h.2 p.parts p.stop)
+
+-- a leaf was put
+names-in : (p : Pass) (l m : Left) → names_of l ≡ names_of m → names_in p l ≡ names_in p m
+names-in pass.All l m e = e
+names-in pass.Chars l m e = refl
+names-in pass.None l m e = refl
+
+pub leaf-taken : (c : Copier) (t : Target) (p : Part) (before now : List ℕ) → fault c.writer.limit c.writer.left p ≡ None → t ≡ behind c.writer p → now ≡ before ++ settles c.writer.left p
+    → names_of (next c.writer.left p) ≡ names_of c.writer.left → Takes (leaf_ahead c (p ∷ [])) (record c { writer = t }) before now (Ok More)
+leaf-taken c t p before now h e w names =
+    let puts : PutsAll (given_after c.writer (p ∷ [])) t (settles c.writer.left p) (Ok tt) =
+    subst (λ x. PutsAll (given_after c.writer (p ∷ [])) x (settles c.writer.left p) (Ok tt)) (sym e) (put-taken c.writer p h) in (
+      settles c.writer.left p,
+      w,
+      λ f.
+          let s = still c f in
+          puts s.parts s.stop
+          ∙ ap (λ ns. ahead (settles c.writer.left p) (given_of t (rest c.pass c.scope (opens_by ns (reverse c.around)) f)))
+          (sym (names-in c.pass t.left c.writer.left (ap (λ (x : Target). names_of x.left) e ∙ names))),
+    )
 
 -- a leaf was refused
 leaf-stopped : (c new : Copier) (p : Part) (before now : List ℕ) (e : WriteStop) → IsCause (fault c.writer.limit c.writer.left p) e → now ≡ before → Takes (leaf_ahead c (p ∷ [])) new before now (Err e)
@@ -164,7 +212,7 @@ pub starts-within : (c d : Copier) (o : Open) (attrs : List Attr) (decls : List 
     → (f : Future) → start_ahead c o.name attrs decls f ≡ begin_ahead d o attrs f
 starts-within c d o attrs decls s u e f =
     let within = scope_within c.scope decls in
-    let os = reverse c.elements in
+    let os = opens c in
     ap (λ p. given_of c.writer (put (start_parts c.pass within o.name attrs) p)) (rest-outer c.pass within c.scope o.name o.outer os f (ap (unwrap_or o.outer) (sym s) ∙ u))
     ∙ ap (λ x. given_of c.writer (put (start_parts c.pass x o.name attrs) (rest c.pass x (o ∷ os) f))) (sym s)
     ∙ ap (λ (x : Copier). begin_ahead x o attrs f) (sym e)
@@ -172,18 +220,72 @@ starts-within c d o attrs decls s u e f =
 -- Ends
 
 -- what was to come on an element's end, where elements are copied
-pub closes : (c d : Copier) (o : Open) → c.pass ≡ pass.All → d ≡ record c { scope = unwrap_or o.outer c.scope } → (f : Future) → close_ahead c o f ≡ leaf_ahead d (part.End o.name ∷ []) f
-closes c d o h e f =
-    ap (λ p. given_of c.writer (put (end_parts p o.name) (rest c.pass (unwrap_or o.outer c.scope) (reverse c.elements) f))) h
-    ∙ ap (λ (x : Copier). leaf_ahead x (part.End o.name ∷ []) f) (sym e)
+pub closes : (c d : Copier) (o : Option (List Binding)) → d ≡ record c { scope = unwrap_or o c.scope } → (f : Future) → close_ahead c o f ≡ close_ahead d None f
+closes c d o e f = ap (λ (x : Copier). close_ahead x None f) (sym e)
 
-pub ends-one : (c : Copier) (left : List Open) (o : Open) → c.elements ≡ left ++ o ∷ [] → (f : Future) → end_ahead c f ≡ close_ahead (record c { elements = left }) o f
-ends-one c left o h f = ap (λ os. given_of c.writer (ended c.pass c.scope os f)) (ap reverse h ∙ reverse-append left (o ∷ []))
+pub ends-one : (c : Copier) (left : List (Option (List Binding))) (o : Option (List Binding)) → c.around ≡ left ++ o ∷ [] → (f : Future) → end_ahead c f ≡ close_ahead (record c { around = left }) o f
+ends-one c left o h f = ap (λ os. given_of c.writer (ended c.pass c.scope (opens_by (names_in c.pass c.writer.left) os) f)) (ap reverse h ∙ reverse-append left (o ∷ []))
+
+-- the innermost element has the first name
+first-or-none : (es : List target.Element) (h : Option HeldTag) → (innermost es h ≡ None) ⊎ (innermost es h ≡ Some (first_name (names_by es h)))
+first-or-none es (Some tag) = inr refl
+first-or-none [] None = inl refl
+first-or-none (e ∷ es) None = inr refl
+
+no-name : (es : List target.Element) (h : Option HeldTag) → innermost es h ≡ None → names_by es h ≡ []
+no-name es (Some tag) e = absurd cc
+no-name [] None e = refl
+no-name (x ∷ es) None e = absurd cc
+
+closed-names : (es : List target.Element) (h : Option HeldTag) → named (closed es h) ≡ drop 1 (names_by es h)
+closed-names es (Some tag) = refl
+closed-names [] None = refl
+closed-names (e ∷ es) None = refl
+
+-- the end of the innermost element was put
+pub end-taken : (c : Copier) (t : Target) (before now : List ℕ) → c.pass ≡ pass.All → innermost c.writer.left.elements c.writer.left.held ≢ None
+    → ((name : Name) → innermost c.writer.left.elements c.writer.left.held ≡ Some name → fault c.writer.limit c.writer.left (part.End name) ≡ None)
+    → ((name : Name) → t ≡ behind c.writer (part.End name)) → ((name : Name) → now ≡ before ++ settles c.writer.left (part.End name))
+    → Takes (close_ahead c None) (record c { writer = t }) before now (Ok More)
+end-taken c t before now all some taken ok written =
+    let l = c.writer.left in
+    let n = first_name (names_of l) in
+    let known : innermost l.elements l.held ≡ Some n = ⊎_elim (λ e. absurd (some e)) (λ e. e) (first-or-none l.elements l.held) in
+    let puts : PutsAll (given_after c.writer (part.End n ∷ [])) t (settles l (part.End n)) (Ok tt) =
+    subst (λ x. PutsAll (given_after c.writer (part.End n ∷ [])) x (settles l (part.End n)) (Ok tt)) (sym (ok n)) (put-taken c.writer (part.End n) (taken n known)) in (
+      settles l (part.End n),
+      written n,
+      λ f.
+          let p = rest c.pass c.scope (opens_by (drop 1 (names_in c.pass l)) (reverse c.around)) f in
+          ap (λ x. given_of c.writer (put (end_parts x (first_name (names_in x l))) p)) all
+          ∙ puts p.parts p.stop
+          ∙ ap (λ ns. ahead (settles l (part.End n)) (given_of t (rest c.pass c.scope (opens_by ns (reverse c.around)) f)))
+          (ap (λ x. drop 1 (names_in x l)) all ∙ sym (closed-names l.elements l.held) ∙ ap (λ (x : Target). names_of x.left) (sym (ok n)) ∙ ap (λ x. names_in x t.left) (sym all)),
+    )
+
+-- there was none, or memory was wanting
+pub end-refused : (c new : Copier) (before now : List ℕ) (e : WriteStop) (r : Result Turn WriteStop) → IsErrAnd r (λ stop. stop ≡ e) → c.pass ≡ pass.All
+    → (innermost c.writer.left.elements c.writer.left.held ≡ None → e ≡ Fault UnmatchedEnd) → ((name : Name) → innermost c.writer.left.elements c.writer.left.held ≡ Some name → e ≡ Memory)
+    → now ≡ before → Takes (close_ahead c None) new before now r
+end-refused c new before now e (Ok turn) k all none some u = absurd k
+end-refused c new before now e (Err stop) k all none some u =
+    ⊎_elim
+    (λ h. subst (λ s. Takes (close_ahead c None) new before now (Err s)) (sym (k ∙ none h)) (
+      [],
+      u ∙ sym (append-nil before),
+      λ f.
+          let p = rest c.pass c.scope (opens_by (drop 1 (names_in c.pass c.writer.left)) (reverse c.around)) f in
+          ap (λ x. given_of c.writer (put (end_parts x (first_name (names_in x c.writer.left))) p)) all
+          ∙ ap (λ ns. given_of c.writer (put (part.End (first_name ns) ∷ []) p)) (no-name c.writer.left.elements c.writer.left.held h)
+          ∙ ap (λ i. unless_refused (end_of i (first_name [])) (ahead (settles c.writer.left (part.End (first_name []))) (given c.writer.limit (next c.writer.left (part.End (first_name []))) p.parts p.stop))) h,
+    ))
+    (λ h. subst (λ s. Takes (close_ahead c None) new before now (Err s)) (sym (k ∙ some (first_name (names_of c.writer.left)) h)) ([], u ∙ sym (append-nil before), λ f. ((close_ahead c None f).bytes, refl)))
+    (first-or-none c.writer.left.elements c.writer.left.held)
 
 -- What was to come, by the event
 
 pub told-start : (c : Copier) (e : Element) (first : First) (f : Future) → given_by c (event.Start e.offset e.name e.attrs e.decls first) f ≡ start_ahead c e.name e.attrs e.decls f
-told-start c e first f = ap (given_of c.writer) (rest-start c.pass c.scope (reverse c.elements) e f)
+told-start c e first f = ap (given_of c.writer) (rest-start c.pass c.scope (opens c) e f)
 
 placeless : (p : Pass) (offset : ℕ) (text : List ℕ) → leaf_parts p (Chars offset text) ≡ leaf_parts p (Chars 0 text)
 placeless pass.All offset text = refl
@@ -201,16 +303,16 @@ placeless-instruction pass.Chars offset target text = refl
 placeless-instruction pass.None offset target text = refl
 
 pub told-chars : (c : Copier) (offset : ℕ) (text : List ℕ) (f : Future) → given_by c (event.Chars offset text) f ≡ leaf_ahead c (leaf_parts c.pass (Chars 0 text)) f
-told-chars c offset text f = ap (given_of c.writer) (rest-leaf c.pass c.scope (reverse c.elements) (Chars offset text) f ∙ ap (λ ps. put ps (still c f)) (placeless c.pass offset text))
+told-chars c offset text f = ap (given_of c.writer) (rest-leaf c.pass c.scope (opens c) (Chars offset text) f ∙ ap (λ ps. put ps (still c f)) (placeless c.pass offset text))
 
 pub told-comment : (c : Copier) (offset : ℕ) (text : List ℕ) (f : Future) → given_by c (event.Comment offset text) f ≡ leaf_ahead c (leaf_parts c.pass (Comment 0 text)) f
-told-comment c offset text f = ap (given_of c.writer) (rest-leaf c.pass c.scope (reverse c.elements) (Comment offset text) f ∙ ap (λ ps. put ps (still c f)) (placeless-comment c.pass offset text))
+told-comment c offset text f = ap (given_of c.writer) (rest-leaf c.pass c.scope (opens c) (Comment offset text) f ∙ ap (λ ps. put ps (still c f)) (placeless-comment c.pass offset text))
 
 pub told-instruction : (c : Copier) (offset : ℕ) (target text : List ℕ) (f : Future) → given_by c (event.Pi offset target text) f ≡ leaf_ahead c (leaf_parts c.pass (Pi 0 target text)) f
-told-instruction c offset target text f = ap (given_of c.writer) (rest-leaf c.pass c.scope (reverse c.elements) (Pi offset target text) f ∙ ap (λ ps. put ps (still c f)) (placeless-instruction c.pass offset target text))
+told-instruction c offset target text f = ap (given_of c.writer) (rest-leaf c.pass c.scope (opens c) (Pi offset target text) f ∙ ap (λ ps. put ps (still c f)) (placeless-instruction c.pass offset target text))
 
 pub told-end : (c : Copier) (offset : ℕ) (f : Future) → given_by c (event.End offset) f ≡ end_ahead c f
-told-end c offset f = ap (given_of c.writer) (rest-end c.pass c.scope (reverse c.elements) offset f)
+told-end c offset f = ap (given_of c.writer) (rest-end c.pass c.scope (opens c) offset f)
 
 pub told-document-end : (c : Copier) (offset : ℕ) (f : Future) → given_by c (event.DocumentEnd offset) f ≡ end_ahead c f
-told-document-end c offset f = ap (given_of c.writer) (rest-end c.pass c.scope (reverse c.elements) offset f)
+told-document-end c offset f = ap (given_of c.writer) (rest-end c.pass c.scope (opens c) offset f)

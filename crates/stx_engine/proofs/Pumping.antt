@@ -60,16 +60,16 @@ module _ (e : Engine) (going : IsGoing e) (s : Source) (x : Event) (answer : IsA
   end-is-alone : (offset : ℕ) → x ≡ event.DocumentEnd offset → length (future e.reader [] false) ≡ 1
   end-is-alone offset h = end-alone (future e.reader [] false) offset (answer [] false ∙ ap (λ y. pull.Event y) h)
 
-  pub goes-on : Goes e.reader (pull.Event x) s → Counts e.reader (pull.Event x) s → Takes (given_by e.copier x) c before now (Ok More) → Opened x (length e.copier.elements) (length c.elements) → Reads (more e) (with e s c) before now None
+  pub goes-on : Goes e.reader (pull.Event x) s → Counts e.reader (pull.Event x) s → Takes (given_by e.copier x) c before now (Ok More) → Opened x (length e.copier.around) (length c.around) → Reads (more e) (with e s c) before now None
   goes-on goes counts takes opened = (
     takes.0,
     takes.1,
     (
       record {
-        fresh = over-behind x s.over (length (future e.reader [] false)) (length e.copier.elements) (length c.elements) (goes going.fresh) opened (going.lists [] false) end-is-alone;
+        fresh = over-behind x s.over (length (future e.reader [] false)) (length e.copier.around) (length c.around) (goes going.fresh) opened (going.lists [] false) end-is-alone;
         lists = λ bytes ended.
             counts bytes ended
-            ∙ lists-go x (length (future e.reader bytes ended)) (length e.copier.elements) (length c.elements) opened (going.lists bytes ended)
+            ∙ lists-go x (length (future e.reader bytes ended)) (length e.copier.around) (length c.around) opened (going.lists bytes ended)
             (λ offset h. going.lists bytes ended ∙ sym (going.lists [] false) ∙ end-is-alone offset h);
       },
       λ bytes ended. was-by bytes ended ∙ takes.2 (future s bytes ended),

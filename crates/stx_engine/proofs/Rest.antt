@@ -1,11 +1,12 @@
 -- Laws of what a copier still puts.
-use Rattle.std.proofs.Common.{◌≡◌, ℕ, List, [], ◌∷◌, Option, Some, None, refl, ap, sym, ◌∙◌, append_assoc}
+use Rattle.std.proofs.Common.{◌≡◌, ℕ, suc, length, drop, List, [], ◌∷◌, Option, Some, None, refl, ap, sym, ◌∙◌, append_assoc}
 use Rattle.std.specs.Prelude.{unwrap_or}
 use Rattle.stx_base.specs.declared.name.Binding.{Binding}
 use Rattle.stx_base.specs.declared.part.Part.{Part}
 use Rattle.xml_events.specs.Document.{inner, outer}
 use Rattle.xml_events.specs.Tree.{Why, Told, Leaf, Element, End, Single, Nested, Future}
-use Rattle.stx_engine.specs.declared.copier.Open.{Open}
+use Rattle.stx_engine.specs.Opens.{Open, opens_by}
+use Rattle.stx_base.specs.declared.name.Name.{Name}
 use Rattle.stx_engine.specs.declared.pass.Pass.{Pass}
 use Rattle.stx_engine.specs.Meaning.{end_parts, leaf_parts, start_parts}
 use Rattle.stx_engine.specs.More.{ended, rest}
@@ -69,3 +70,8 @@ module _ (p : Pass) (scope : List Binding) where
   pub rest-end : (os : List Open) (offset : ℕ) (f : Future) → rest p scope os (End Told offset ∷ f) ≡ ended p scope os f
   rest-end [] offset f = refl
   rest-end (o ∷ os) offset f = refl
+
+-- each open element stands in the list
+pub opens-length : (names : List Name) (os : List (Option (List Binding))) → length (opens_by names os) ≡ length os
+opens-length names [] = refl
+opens-length names (o ∷ os) = ap (λ n. suc n) (opens-length (drop 1 names) os)

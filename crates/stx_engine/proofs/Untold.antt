@@ -1,5 +1,5 @@
 -- No answer is that the result refuses a part.
-use Rattle.std.proofs.Common.{◌≡◌, ◌≢◌, ℕ, true, List, Option, Some, None, refl, arith}
+use Rattle.std.proofs.Common.{◌≢◌, ℕ, true, List, Option, Some, None, refl, arith}
 use Rattle.stx_base.specs.StandardLimits.{standard_limits}
 use Rattle.stx_host.specs.Outside.{document}
 use Rattle.stx_host.specs.declared.act.Doc.{Doc}

@@ -1,5 +1,5 @@
 -- Where no event is ready nothing is given.
-use Rattle.std.proofs.Common.{◌≡◌, ◌≢◌, ℕ, ◌≤◌, arith, Bool, true, List, [], ◌∷◌, Option, Some, None, map, length, refl, sym, ap, ◌∙◌, reverse}
+use Rattle.std.proofs.Common.{◌≡◌, ◌≢◌, ℕ, ◌≤◌, arith, Bool, true, List, [], ◌∷◌, Option, Some, None, map, length, refl, sym, ap, ◌∙◌}
 use Rattle.std.specs.Prelude.{if◌then◌else◌, unwrap_or}
 use Rattle.stx_base.specs.declared.name.Binding.{Binding}
 use Rattle.xml_events.specs.Document.{finished, lists_of, mark_by, readied, stripped, with_items}
@@ -10,7 +10,7 @@ use Rattle.xml_events.specs.declared.event.Event.{Event}
 use Rattle.xml_events.specs.declared.event.Event.TheVariants as event
 use Rattle.xml_events.specs.declared.event.Pull.TheVariants as pull
 use Rattle.stx_engine.specs.declared.copier.Copier.{Copier}
-use Rattle.stx_engine.specs.declared.copier.Open.{Open}
+use Rattle.stx_engine.specs.Opens.{Open}
 use Rattle.stx_engine.specs.declared.pass.Pass.{Pass}
 use Rattle.stx_base.specs.declared.part.Part.{Part}
 use Rattle.result_writer.specs.Target.{Left, Target, fault, next, settles}
@@ -18,7 +18,7 @@ use Rattle.result_writer.specs.declared.fault.ResultFault.{ResultFault}
 use Rattle.xml_events.specs.Answering.{EndsWhole}
 use Rattle.stx_engine.specs.Meaning.{Complete, Unready, end_parts, leaf_parts, start_parts}
 use Rattle.stx_engine.specs.More as more
-use Rattle.stx_engine.specs.More.{Given, ahead, ended, given, given_by, given_of, given_on, rest, still}
+use Rattle.stx_engine.specs.More.{Given, ahead, ended, given, given_by, given_of, given_on, opens, rest, still}
 use Rattle.stx_engine.specs.Scope.{scope_within}
 use Rattle.stx_engine.proofs.Copying.{told-chars, told-comment, told-document-end, told-end, told-instruction, told-start}
 use Rattle.stx_engine.specs.Passed.{Passed, passed, put, stopped, then_put}
@@ -60,7 +60,7 @@ lists-wait : (strip : Bool) (lists : Future) (c : Copier) (why : Why) → pulled
 lists-wait strip [] c why h = absurd (no-end why h)
 lists-wait strip (list ∷ lists) c why h =
     let kept = if strip then stripped list else list in
-    ap (given_of c.writer) (rest-stopped c.pass c.scope why (reverse c.elements) (finished strip list) (map (finished strip) lists) (list-stopped c.pass c.scope why kept (map (finished strip) lists) h))
+    ap (given_of c.writer) (rest-stopped c.pass c.scope why (opens c) (finished strip list) (map (finished strip) lists) (list-stopped c.pass c.scope why kept (map (finished strip) lists) h))
 
 -- where all known events were given, and the next one isn't ready
 pub waits-so : (s : Source) (c : Copier) (more : List ℕ) (ended : Bool) (why : Why) → s.known ≡ [] → pulled (future s more ended) ≡ no_event why → given_on c (future s more ended) ≡ record { bytes = []; ending = Unready why }
@@ -128,19 +128,19 @@ ended-open c [] h = refl
 ended-open c (o ∷ os) h = absurd (given-open c.writer (ended c.pass c.scope (o ∷ os) []) (rest-nothing c.pass (unwrap_or o.outer c.scope) os) h)
 
 -- a run is over only by the end of a list where no element is open
-pub over-ends : (c : Copier) (e : Event) → (given_by c e []).ending ≡ Complete → EndsList e × (reverse c.elements ≡ [])
+pub over-ends : (c : Copier) (e : Event) → (given_by c e []).ending ≡ Complete → EndsList e × (opens c ≡ [])
 over-ends c (event.Start offset name attrs decls first) h =
     let x : Element = record { offset = offset; name = name; attrs = attrs; decls = decls } in
-    let p = put (start_parts c.pass (scope_within c.scope decls) name attrs) (rest c.pass (scope_within c.scope decls) (record { name = name; outer = Some c.scope } ∷ reverse c.elements) []) in
+    let p = put (start_parts c.pass (scope_within c.scope decls) name attrs) (rest c.pass (scope_within c.scope decls) (record { name = name; outer = Some c.scope } ∷ opens c) []) in
     absurd (given-open c.writer p refl (sym (ap (λ (g : Given). g.ending) (told-start c x first [])) ∙ h))
 over-ends c (event.Chars offset text) h =
-    absurd (given-open c.writer (put (leaf_parts c.pass (Chars 0 text)) (still c [])) (rest-nothing c.pass c.scope (reverse c.elements)) (sym (ap (λ (g : Given). g.ending) (told-chars c offset text [])) ∙ h))
+    absurd (given-open c.writer (put (leaf_parts c.pass (Chars 0 text)) (still c [])) (rest-nothing c.pass c.scope (opens c)) (sym (ap (λ (g : Given). g.ending) (told-chars c offset text [])) ∙ h))
 over-ends c (event.Comment offset text) h =
-    absurd (given-open c.writer (put (leaf_parts c.pass (Comment 0 text)) (still c [])) (rest-nothing c.pass c.scope (reverse c.elements)) (sym (ap (λ (g : Given). g.ending) (told-comment c offset text [])) ∙ h))
+    absurd (given-open c.writer (put (leaf_parts c.pass (Comment 0 text)) (still c [])) (rest-nothing c.pass c.scope (opens c)) (sym (ap (λ (g : Given). g.ending) (told-comment c offset text [])) ∙ h))
 over-ends c (event.Pi offset target text) h =
-    absurd (given-open c.writer (put (leaf_parts c.pass (Pi 0 target text)) (still c [])) (rest-nothing c.pass c.scope (reverse c.elements)) (sym (ap (λ (g : Given). g.ending) (told-instruction c offset target text [])) ∙ h))
-over-ends c (event.End offset) h = (tt, ended-open c (reverse c.elements) (sym (ap (λ (g : Given). g.ending) (told-end c offset [])) ∙ h))
-over-ends c (event.DocumentEnd offset) h = (tt, ended-open c (reverse c.elements) (sym (ap (λ (g : Given). g.ending) (told-document-end c offset [])) ∙ h))
+    absurd (given-open c.writer (put (leaf_parts c.pass (Pi 0 target text)) (still c [])) (rest-nothing c.pass c.scope (opens c)) (sym (ap (λ (g : Given). g.ending) (told-instruction c offset target text [])) ∙ h))
+over-ends c (event.End offset) h = (tt, ended-open c (opens c) (sym (ap (λ (g : Given). g.ending) (told-end c offset [])) ∙ h))
+over-ends c (event.DocumentEnd offset) h = (tt, ended-open c (opens c) (sym (ap (λ (g : Given). g.ending) (told-document-end c offset [])) ∙ h))
 
 -- so it is the document's, where one list is open
 pub over-whole : (s : Source) (e : Event) (f : Future) → length f ≡ 1 → pulled f ≡ pull.Event e → EndsList e → EndsWhole s (pull.Event e) → s.lexer.ended ≡ true

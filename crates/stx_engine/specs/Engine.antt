@@ -64,7 +64,7 @@ more_of e End bytes ended = more e [] true
 -- an engine that isn't over: no answer of its reader is repeated, and as many lists are open as elements, and the document's own
 pub record IsGoing (e : Engine) : Type 0 where
   pub fresh : e.reader.over ≡ None
-  pub lists : (bytes : List ℕ) (ended : Bool) → length (future e.reader bytes ended) ≡ suc (length e.copier.elements)
+  pub lists : (bytes : List ℕ) (ended : Bool) → length (future e.reader bytes ended) ≡ suc (length e.copier.around)
 
 -- an engine that wants more of its document: on no bytes more it gives nothing
 pub record IsWaiting (e : Engine) : Type 0 where

@@ -11,6 +11,7 @@ pub mod Loading
 pub mod Meaning
 pub mod More
 pub mod Nesting
+pub mod Opens
 pub mod Output
 pub mod Passed
 pub mod Running

@@ -1,5 +1,5 @@
 -- What a run still gives.
-use Rattle.std.specs.Prelude.{◌≡◌, ℕ, suc, List, [], ◌∷◌, ◌++◌, reverse, unwrap_or, Option, Some, None, Result, Ok, Err}
+use Rattle.std.specs.Prelude.{◌≡◌, ℕ, suc, drop, List, [], ◌∷◌, ◌++◌, reverse, unwrap_or, Option, Some, None, Result, Ok, Err}
 use Rattle.stx_base.specs.Course.{Begins}
 use Rattle.stx_base.specs.declared.name.Attr.{Attr}
 use Rattle.stx_base.specs.declared.name.Binding.{Binding}
@@ -15,10 +15,10 @@ use Rattle.xml_events.specs.Tree.{Future, Why}
 use Rattle.xml_events.specs.declared.event.Event.{Event}
 use Rattle.xml_events.specs.declared.event.Event.TheVariants as event
 use Rattle.stx_engine.specs.Meaning.{Ending, Complete, Refused, end_parts, start_parts}
+use Rattle.stx_engine.specs.Opens.{Open, first_name, names_in, opens_by}
 use Rattle.stx_engine.specs.Passed.{Passed, ending_by, passed, put, then_put}
 use Rattle.stx_engine.specs.Scope.{scope_within}
 use Rattle.stx_engine.specs.declared.copier.Copier.{Copier}
-use Rattle.stx_engine.specs.declared.copier.Open.{Open}
 use Rattle.stx_engine.specs.declared.copier.Turn.{Turn}
 use Rattle.stx_engine.specs.declared.copier.Turn.TheVariants.{More, Over}
 use Rattle.stx_engine.specs.declared.pass.Pass.{Pass}
@@ -48,9 +48,13 @@ rest pass scope [] f = passed pass scope (inner f)
 rest pass scope (o ∷ os) f =
     then_put (passed pass scope (inner f)) (put (end_parts pass o.name) (rest pass (unwrap_or o.outer scope) os (outer f)))
 
+-- the elements that are open, the innermost first
+abbrev pub opens : Copier → List Open
+opens c = opens_by (names_in c.pass c.writer.left) (reverse c.around)
+
 -- what a copier still puts on a future
 abbrev pub still : Copier → Future → Passed
-still c f = rest c.pass c.scope (reverse c.elements) f
+still c f = rest c.pass c.scope (opens c) f
 
 -- what a result still gives of what is to be put
 abbrev pub given_of : Target → Passed → Given
@@ -96,26 +100,28 @@ leaf_ahead c parts f = given_of c.writer (put parts (still c f))
 -- where it is the start of this element, in which these bindings are in force already
 abbrev pub begin_ahead : Copier → Open → List Attr → Future → Given
 begin_ahead c o attrs f =
-    given_of c.writer (put (start_parts c.pass c.scope o.name attrs) (rest c.pass c.scope (o ∷ reverse c.elements) f))
+    given_of c.writer (put (start_parts c.pass c.scope o.name attrs) (rest c.pass c.scope (o ∷ opens c) f))
 
 -- where it is the start of an element
 abbrev pub start_ahead : Copier → Name → List Attr → (decls : List Binding) → Future → Given
 start_ahead c name attrs decls f =
     let within = scope_within c.scope decls in
     given_of c.writer
-    (put (start_parts c.pass within name attrs) (rest c.pass within (record { name = name; outer = Some c.scope } ∷ reverse c.elements) f))
+    (put (start_parts c.pass within name attrs) (rest c.pass within (record { name = name; outer = Some c.scope } ∷ opens c) f))
 
 -- where it is the end of the innermost list: the document's, if no element is open
 abbrev pub ended : Pass → (scope : List Binding) → List Open → Future → Passed
 ended pass scope [] f = record { parts = []; stop = None }
 ended pass scope (o ∷ os) f = put (end_parts pass o.name) (rest pass (unwrap_or o.outer scope) os f)
 
--- where this element ends, which isn't among the open ones any more
-abbrev pub close_ahead : Copier → Open → Future → Given
-close_ahead c o f = given_of c.writer (put (end_parts c.pass o.name) (rest c.pass (unwrap_or o.outer c.scope) (reverse c.elements) f))
+-- where the innermost element ends, of which only the writer still knows
+abbrev pub close_ahead : Copier → (outer : Option (List Binding)) → Future → Given
+close_ahead c outside f =
+    let names = names_in c.pass c.writer.left in
+    given_of c.writer (put (end_parts c.pass (first_name names)) (rest c.pass (unwrap_or outside c.scope) (opens_by (drop 1 names) (reverse c.around)) f))
 
 abbrev pub end_ahead : Copier → Future → Given
-end_ahead c f = given_of c.writer (ended c.pass c.scope (reverse c.elements) f)
+end_ahead c f = given_of c.writer (ended c.pass c.scope (opens c) f)
 
 -- how many elements are open behind an event that didn't end the document
 abbrev pub Opened : Event → (old new : ℕ) → Type 0

@@ -1,27 +1,21 @@
-ghost use Rattle.std.specs.Prelude.{◌≡◌, ◌∷◌, [], IfOk, Ok, OnOk, length, map, suc, unwrap_or};
+ghost use Rattle.std.specs.Prelude.{◌≡◌, ◌∷◌, [], None, IfOk, Ok, OnOk, length, map, suc, unwrap_or};
 ghost use Rattle.result_writer.specs.Target.{fresh};
 ghost use Rattle.stx_base.specs.declared.part.Part.TheVariants as part;
 ghost use Rattle.xml_events.specs.Tree.{Chars, Comment, Pi};
 ghost use Rattle.stx_engine.specs.Meaning.{attribute_part, leaf_parts, start_parts};
 ghost use Rattle.stx_engine.specs.More.{begin_ahead, close_ahead, end_ahead, given_by, leaf_ahead, start_ahead, Opened, Puts, Takes};
 ghost use Rattle.stx_engine.specs.Scope.{scope_within};
+ghost use Rattle.stx_engine.specs.Opens.{names_behind, names_in, names_of};
 ghost use Rattle.stx_engine.specs.declared.copier.Turn.TheVariants as turn;
+ghost use Rattle.stx_engine.specs.declared.pass.Pass.TheVariants as pass;
 
 use crate::pass::Pass;
 use crate::scope::scope_within;
 use result_writer::{WriteStop, Writer};
 use std::alloc::Global;
 use std::mem;
-use stx_base::{Attr, Binding, Copied, List, Memory, Name, Part, Text};
+use stx_base::{Attr, Binding, List, Memory, Name, Part, Text};
 use xml_events::Event;
-
-/// An element of the document that is open.
-#[derive(Debug, Drop)]
-struct Open {
-    name: Name,
-    /// The bindings in force around it, where it has declarations.
-    outer: Option<List<Binding>>,
-}
 
 /// Whether a document goes on behind an event.
 #[derive(Clone, Copy, Debug)]
@@ -37,8 +31,9 @@ pub struct Copier {
     pass: Pass,
     /// The bindings in force in the innermost open element.
     scope: List<Binding>,
-    /// The innermost last.
-    elements: List<Open>,
+    /// Of each open element the bindings in force around it, where it has declarations; the innermost last. The writer knows their
+    /// names.
+    around: List<Option<List<Binding>>>,
     writer: Writer,
 }
 
@@ -47,14 +42,14 @@ impl Copier {
     pub fn new(alloc: Global, limit: u32, pass: Pass) -> Copier
         ensures pass { result.pass ≡ pass }
         ensures scope { result.scope ≡ [] }
-        ensures elements { result.elements ≡ [] }
+        ensures around { result.around ≡ [] }
         ensures writer { result.writer ≡ fresh limit }
     {
         Copier {
             alloc,
             pass,
             scope: List::new(alloc),
-            elements: List::new(alloc),
+            around: List::new(alloc),
             writer: Writer::new(alloc, limit),
         }
     }
@@ -64,7 +59,7 @@ impl Copier {
     #[inline(always)]
     pub fn take(&mut self, event: Event, out: &mut Vec<u8>) -> Result<Turn, WriteStop>
         ensures takes { Takes (given_by self.old event) self.new out.old.items out.new.items result }
-        ensures opens { result ≡ Ok turn.More → Opened event (length self.old.elements) (length self.new.elements) }
+        ensures opens { result ≡ Ok turn.More → Opened event (length self.old.around) (length self.new.around) }
     {
         match event {
             Event::Start {
@@ -100,24 +95,25 @@ impl Copier {
         out: &mut Vec<u8>,
     ) -> Result<Turn, WriteStop>
         ensures takes { Takes (start_ahead self.old name attrs decls.now) self.new out.old.items out.new.items result }
-        ensures opens { result ≡ Ok turn.More → length self.new.elements ≡ suc (length self.old.elements) }
+        ensures opens { result ≡ Ok turn.More → length self.new.around ≡ suc (length self.old.around) }
     {
         let outer = self.enter(decls)?;
-        self.begin(Open { name, outer }, attrs, out)
+        self.begin(name, outer, attrs, out)
     }
 
     fn begin(
         &mut self,
-        element: Open,
+        name: Name,
+        outer: Option<List<Binding>>,
         attrs: List<Attr>,
         out: &mut Vec<u8>,
     ) -> Result<Turn, WriteStop>
-        ensures takes { Takes (begin_ahead self.old element attrs) self.new out.old.items out.new.items result }
-        ensures opens { result ≡ Ok turn.More → length self.new.elements ≡ suc (length self.old.elements) }
+        ensures takes { Takes (begin_ahead self.old (record { name = name; outer = outer }) attrs) self.new out.old.items out.new.items result }
+        ensures opens { result ≡ Ok turn.More → length self.new.around ≡ suc (length self.old.around) }
     {
-        match self.copy_start(&element.name, attrs, out) {
+        match self.copy_start(name, attrs, out) {
             Ok(()) => {
-                self.elements.push(element)?;
+                self.around.push(outer)?;
                 Ok(Turn::More)
             }
             Err(stop) => Err(stop),
@@ -140,25 +136,23 @@ impl Copier {
     // Puts an element's start, where elements are copied.
     fn copy_start(
         &mut self,
-        name: &Name,
+        name: Name,
         attrs: List<Attr>,
         out: &mut Vec<u8>,
     ) -> Result<(), WriteStop>
-        ensures puts { Puts self.old.writer self.new.writer (start_parts self.old.pass self.old.scope name.now attrs) out.old.items out.new.items result }
+        ensures puts { Puts self.old.writer self.new.writer (start_parts self.old.pass self.old.scope name attrs) out.old.items out.new.items result }
+        ensures names { OnOk result (names_in self.old.pass self.new.writer.left ≡ names_behind self.old.pass name self.old.writer.left) }
         ensures others { self.new ≡ record self.old { writer = self.new.writer } }
     {
         match self.pass {
-            Pass::All => {
-                let name = name.copy(self.alloc)?;
-                put_start_tag(&mut self.writer, name, &self.scope, attrs, out)
-            }
+            Pass::All => put_start_tag(&mut self.writer, name, &self.scope, attrs, out),
             Pass::Chars | Pass::None => Ok(()),
         }
     }
 
     fn chars(&mut self, text: &Text, out: &mut Vec<u8>) -> Result<Turn, WriteStop>
         ensures takes { Takes (leaf_ahead self.old (leaf_parts self.old.pass (Chars 0 text.now))) self.new out.old.items out.new.items result }
-        ensures opens { self.new.elements ≡ self.old.elements }
+        ensures opens { self.new.around ≡ self.old.around }
     {
         match self.pass {
             Pass::All => self.put_chars(text, out),
@@ -169,7 +163,7 @@ impl Copier {
 
     fn put_chars(&mut self, text: &Text, out: &mut Vec<u8>) -> Result<Turn, WriteStop>
         ensures takes { Takes (leaf_ahead self.old (part.Chars text.now ∷ [])) self.new out.old.items out.new.items result }
-        ensures opens { self.new.elements ≡ self.old.elements }
+        ensures opens { self.new.around ≡ self.old.around }
     {
         self.writer.put_chars(text, out)?;
         Ok(Turn::More)
@@ -177,7 +171,7 @@ impl Copier {
 
     fn comment(&mut self, text: &Text, out: &mut Vec<u8>) -> Result<Turn, WriteStop>
         ensures takes { Takes (leaf_ahead self.old (leaf_parts self.old.pass (Comment 0 text.now))) self.new out.old.items out.new.items result }
-        ensures opens { self.new.elements ≡ self.old.elements }
+        ensures opens { self.new.around ≡ self.old.around }
     {
         match self.pass {
             Pass::All => self.put_comment(text, out),
@@ -187,7 +181,7 @@ impl Copier {
 
     fn put_comment(&mut self, text: &Text, out: &mut Vec<u8>) -> Result<Turn, WriteStop>
         ensures takes { Takes (leaf_ahead self.old (part.Comment text.now ∷ [])) self.new out.old.items out.new.items result }
-        ensures opens { self.new.elements ≡ self.old.elements }
+        ensures opens { self.new.around ≡ self.old.around }
     {
         self.writer.put_comment(text, out)?;
         Ok(Turn::More)
@@ -200,7 +194,7 @@ impl Copier {
         out: &mut Vec<u8>,
     ) -> Result<Turn, WriteStop>
         ensures takes { Takes (leaf_ahead self.old (leaf_parts self.old.pass (Pi 0 target.now text.now))) self.new out.old.items out.new.items result }
-        ensures opens { self.new.elements ≡ self.old.elements }
+        ensures opens { self.new.around ≡ self.old.around }
     {
         match self.pass {
             Pass::All => self.put_instruction(target, text, out),
@@ -215,7 +209,7 @@ impl Copier {
         out: &mut Vec<u8>,
     ) -> Result<Turn, WriteStop>
         ensures takes { Takes (leaf_ahead self.old (part.Pi target.now text.now ∷ [])) self.new out.old.items out.new.items result }
-        ensures opens { self.new.elements ≡ self.old.elements }
+        ensures opens { self.new.around ≡ self.old.around }
     {
         self.writer.put_instruction(target, text, out)?;
         Ok(Turn::More)
@@ -224,34 +218,38 @@ impl Copier {
     // The innermost list ends: that of an open element, or else the document's.
     fn end(&mut self, out: &mut Vec<u8>) -> Result<Turn, WriteStop>
         ensures takes { Takes (end_ahead self.old) self.new out.old.items out.new.items result }
-        ensures opens { result ≡ Ok turn.More → length self.old.elements ≡ suc (length self.new.elements) }
+        ensures opens { result ≡ Ok turn.More → length self.old.around ≡ suc (length self.new.around) }
     {
-        match self.elements.pop() {
+        match self.around.pop() {
             None => {
                 self.writer.finish()?;
                 Ok(Turn::Over)
             }
-            Some(element) => self.end_element(element, out),
+            Some(outer) => self.end_element(outer, out),
         }
     }
 
-    fn end_element(&mut self, element: Open, out: &mut Vec<u8>) -> Result<Turn, WriteStop>
-        ensures takes { Takes (close_ahead self.old element) self.new out.old.items out.new.items result }
-        ensures opens { self.new.elements ≡ self.old.elements }
+    fn end_element(
+        &mut self,
+        outer: Option<List<Binding>>,
+        out: &mut Vec<u8>,
+    ) -> Result<Turn, WriteStop>
+        ensures takes { Takes (close_ahead self.old outer) self.new out.old.items out.new.items result }
+        ensures opens { self.new.around ≡ self.old.around }
     {
-        let Open { name, outer } = element;
         self.leave(outer);
         match self.pass {
-            Pass::All => self.put_end(&name, out),
+            Pass::All => self.put_end(out),
             Pass::Chars | Pass::None => Ok(Turn::More),
         }
     }
 
-    fn put_end(&mut self, name: &Name, out: &mut Vec<u8>) -> Result<Turn, WriteStop>
-        ensures takes { Takes (leaf_ahead self.old (part.End name.now ∷ [])) self.new out.old.items out.new.items result }
-        ensures opens { self.new.elements ≡ self.old.elements }
+    fn put_end(&mut self, out: &mut Vec<u8>) -> Result<Turn, WriteStop>
+        requires { self.old.pass ≡ pass.All }
+        ensures takes { Takes (close_ahead self.old None) self.new out.old.items out.new.items result }
+        ensures opens { self.new.around ≡ self.old.around }
     {
-        self.writer.put_end(name, out)?;
+        self.writer.end_innermost(out)?;
         Ok(Turn::More)
     }
 
@@ -273,7 +271,8 @@ fn put_start_tag(
     attrs: List<Attr>,
     out: &mut Vec<u8>,
 ) -> Result<(), WriteStop>
-    ensures { Puts writer.old writer.new (part.Start name scope.now ∷ map attribute_part attrs) out.old.items out.new.items result }
+    ensures puts { Puts writer.old writer.new (part.Start name scope.now ∷ map attribute_part attrs) out.old.items out.new.items result }
+    ensures names { OnOk result (names_of writer.new.left ≡ name ∷ names_of writer.old.left) }
 {
     put_start_part(writer, name, scope, out)?;
     put_attributes(writer, attrs, out)
@@ -285,7 +284,8 @@ fn put_start_part(
     scope: &List<Binding>,
     out: &mut Vec<u8>,
 ) -> Result<(), WriteStop>
-    ensures { Puts writer.old writer.new (part.Start name scope.now ∷ []) out.old.items out.new.items result }
+    ensures puts { Puts writer.old writer.new (part.Start name scope.now ∷ []) out.old.items out.new.items result }
+    ensures names { OnOk result (names_of writer.new.left ≡ name ∷ names_of writer.old.left) }
 {
     writer.put_start(name, scope, out)
 }
@@ -295,7 +295,8 @@ fn put_attributes(
     attrs: List<Attr>,
     out: &mut Vec<u8>,
 ) -> Result<(), WriteStop>
-    ensures { Puts writer.old writer.new (map attribute_part attrs) out.old.items out.new.items result }
+    ensures puts { Puts writer.old writer.new (map attribute_part attrs) out.old.items out.new.items result }
+    ensures names { OnOk result (names_of writer.new.left ≡ names_of writer.old.left) }
 {
     for attr in attrs.into_vec() {
         if let Err(stop) = put_attribute(writer, attr, out) {
@@ -306,7 +307,8 @@ fn put_attributes(
 }
 
 fn put_attribute(writer: &mut Writer, attr: Attr, out: &mut Vec<u8>) -> Result<(), WriteStop>
-    ensures { Puts writer.old writer.new (attribute_part attr ∷ []) out.old.items out.new.items result }
+    ensures puts { Puts writer.old writer.new (attribute_part attr ∷ []) out.old.items out.new.items result }
+    ensures names { OnOk result (names_of writer.new.left ≡ names_of writer.old.left) }
 {
     let Attr { name, value } = attr;
     writer.put_owned(Part::Attribute { name, value }, out)

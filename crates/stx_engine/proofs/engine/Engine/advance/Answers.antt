@@ -1,7 +1,9 @@
-use Rattle.std.proofs.Common.{◌≡◌, suc, Ok, Err, [], length, false, sym, ap, subst, ◌∙◌}
+use Rattle.std.proofs.Common.{◌≡◌, suc, Ok, Err, [], length, reverse, false, sym, ap, subst, ◌∙◌}
 use Rattle.std.proofs.lemmas.List.{length-reverse}
 use Rattle.xml_events.specs.Source.{future}
 use Rattle.stx_engine.specs.More.{Given, Takes, given_by}
+use Rattle.stx_engine.specs.Opens.{names_in}
+use Rattle.stx_engine.proofs.Rest.{opens-length}
 use Rattle.stx_engine.proofs.Waiting.{over-ends, over-whole}
 use Rattle.stx_engine.proofs.Pumping.{ends-so, faulty-so, goes-on, lacks-so, refused-so, wants-so}
 use Rattle.stx_engine.proofs.engine.Engine.advance.Goals as goal
@@ -41,5 +43,5 @@ returns-in-Ok-Over-clause-whole c = λ is.
     let x = c.in-Event.event in
     let takes = subst (λ r. Takes (given_by c.args.self.now.copier c.in-Event.event) c.take.new.self c.args.out.now.items c.take.new.out.items (Ok r)) c.in-Ok-Over.field-0-is c.in-Ok-Over.ensures.takes in
     let over = over-ends e.copier x (ap (λ (g : Given). g.ending) (takes.2 [])) in
-    let none : length e.copier.elements ≡ 0 = sym (length-reverse e.copier.elements) ∙ ap (λ os. length os) over.1 in
+    let none : length e.copier.around ≡ 0 = sym (length-reverse e.copier.around) ∙ sym (opens-length (names_in e.copier.pass e.copier.writer.left) (reverse e.copier.around)) ∙ ap (λ os. length os) over.1 in
     over-whole e.reader x (future e.reader [] false) (c.requires.lists [] false ∙ ap suc none) (c.in-Event.ensures.answer [] false) over.0 c.in-Event.ensures.whole

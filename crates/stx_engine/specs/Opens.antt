@@ -1,0 +1,47 @@
+-- The open elements of a run.
+use Rattle.std.specs.Prelude.{List, [], ◌∷◌, Option, Some, None, codes, drop, map}
+use Rattle.stx_base.specs.declared.name.Binding.{Binding}
+use Rattle.stx_base.specs.declared.name.Name.{Name}
+use Rattle.result_writer.specs.Target as target
+use Rattle.result_writer.specs.Target.{Left}
+use Rattle.result_writer.specs.declared.tag.HeldTag.{HeldTag}
+use Rattle.stx_engine.specs.declared.pass.Pass.{Pass}
+use Rattle.stx_engine.specs.declared.pass.Pass.TheVariants as pass
+
+-- an open element, and the bindings in force around it, where it has declarations
+pub record Open : Type 0 where
+  pub name : Name
+  pub outer : Option (List Binding)
+
+abbrev pub named : List target.Element → List Name
+named = map (λ (e : target.Element). e.name)
+
+abbrev pub names_by : List target.Element → Option HeldTag → List Name
+names_by es None = named es
+names_by es (Some tag) = tag.name ∷ named es
+
+-- the names of the elements that are open in a result, the innermost first
+abbrev pub names_of : Left → List Name
+names_of l = names_by l.elements l.held
+
+-- those of the elements whose ends are put
+abbrev pub names_in : Pass → Left → List Name
+names_in pass.All l = names_of l
+names_in pass.Chars l = []
+names_in pass.None l = []
+
+-- behind the start of an element
+abbrev pub names_behind : Pass → Name → Left → List Name
+names_behind pass.All name l = name ∷ names_of l
+names_behind pass.Chars name l = []
+names_behind pass.None name l = []
+
+-- where no name is left any will do: there is no end to put
+abbrev pub first_name : List Name → Name
+first_name [] = record { uri = []; local = codes "a"; prefix = [] }
+first_name (n ∷ names) = n
+
+-- the open elements, the innermost first, by their names and what is in force around them
+abbrev pub opens_by : List Name → List (Option (List Binding)) → List Open
+opens_by names [] = []
+opens_by names (o ∷ os) = record { name = first_name names; outer = o } ∷ opens_by (drop 1 names) os
