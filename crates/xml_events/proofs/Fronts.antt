@@ -1,5 +1,5 @@
 -- What a front makes of what it takes.
-use Rattle.std.proofs.Common.{◌≡◌, ◌≢◌, ◌≤◌, ◌+◌, ◌-◌, ℕ, length, length-append, arith, Bool, true, false, List, [], ◌∷◌, ◌++◌, Option, Some, None, map, refl, sym, ap, ◌∙◌, subst, append_assoc, append-nil}
+use Rattle.std.proofs.Common.{◌≡◌, ◌≢◌, ◌≤◌, ◌+◌, ◌-◌, ℕ, length, length-append, arith, Bool, true, false, List, [], ◌∷◌, ◌++◌, Option, Some, None, map, refl, sym, ap, ◌∙◌, subst, append-nil}
 use Rattle.std.specs.Prelude.{if◌then◌else◌}
 use Rattle.std.specs.List.{list_all}
 use Rattle.stx_base.specs.Character.{is_space}
@@ -7,11 +7,13 @@ use Rattle.stx_base.specs.declared.node.First.{First}
 use Rattle.stx_base.specs.declared.node.First.TheVariants as child
 use Rattle.xml_events.specs.declared.event.Event.{Event}
 use Rattle.xml_events.specs.declared.event.Event.TheVariants as event
+use Rattle.xml_events.specs.declared.front.After.{After}
+use Rattle.xml_events.specs.declared.front.After.TheVariants as after
 use Rattle.xml_events.specs.declared.front.Front.{Front}
 use Rattle.xml_events.specs.declared.front.Run.{Run}
 use Rattle.xml_events.specs.declared.front.Tag.{Tag}
 use Rattle.xml_events.specs.Document.{Opens, Closes, Says, element_at, finished, mark_by, inner, outer, with_item, with_items}
-use Rattle.xml_events.specs.Fronts.{tag_items, run_items, items_of, shown, first_in, first_by, TellsFirst, TellFirst, first_held, Pushes, is_no_node, node_in, started, begun, settled, Settles, IsPlain, plain_items, Waits, TakesItems, width, AreWide, lists_before, held_lists, IsNested, waiting, waiting_behind}
+use Rattle.xml_events.specs.Fronts.{run_events, after_events, held_after, IsSettled, Follows, after_items, known_of, held_of, run_of, tag_items, run_items, items_of, shown, first_in, first_by, TellsFirst, TellFirst, first_held, Pushes, is_no_node, node_in, begun, settled, Settles, IsPlain, plain_items, Waits, TakesItems, width, AreWide, lists_before, held_lists, IsNested, waiting, waiting_behind}
 use Rattle.xml_events.specs.Telling.{told, followed, start_of}
 use Rattle.xml_events.specs.Tree.{Fresh, Told, Chars, Comment, Pi, Element, End, Single, Future}
 use Rattle.xml_events.proofs.Telling.{told-append, text-joined, finished-end, finished-comment, finished-pi, inner-finished, text-node, text-none, ready-by, opens-told}
@@ -20,19 +22,19 @@ use Rattle.xml_events.proofs.Telling.{told-append, text-joined, finished-end, fi
 abbrev pub shown_by : (strip : Bool) → List Event → Option Tag → Option Run → Future → Future
 shown_by strip known held run f = told known (map (finished strip) (with_items (tag_items held ++ run_items run) f))
 
-pub shown-is : (x : Front) (strip : Bool) (known : List Event) (held : Option Tag) (run : Option Run) → x.strip ≡ strip → x.known.items ≡ known → x.held ≡ held → x.run ≡ run →
+pub shown-is : (x : Front) (strip : Bool) (known : List Event) (held : Option Tag) (run : Option Run) → x.strip ≡ strip → (known_of x) ≡ known → (held_of x) ≡ held → (run_of x) ≡ run →
     (f : Future) → shown x f ≡ shown_by strip known held run f
 shown-is x strip known held run s k h r f =
-    ap (λ b. shown_by b x.known.items x.held x.run f) s
-    ∙ ap (λ l. shown_by strip l x.held x.run f) k
-    ∙ ap (λ l. shown_by strip known l x.run f) h
+    ap (λ b. shown_by b (known_of x) (held_of x) (run_of x) f) s
+    ∙ ap (λ l. shown_by strip l (held_of x) (run_of x) f) k
+    ∙ ap (λ l. shown_by strip known l (run_of x) f) h
     ∙ ap (λ l. shown_by strip known held l f) r
 
 sub-zero : (n : ℕ) → n - 0 ≡ n
 sub-zero n = omega arith
 
-pub no-items : (x : Front) → x.held ≡ None → x.run ≡ None → items_of x ≡ []
-no-items x h r = ap (λ t. tag_items t ++ run_items x.run) h ∙ ap run_items r
+pub no-items : (x : Front) → (held_of x) ≡ None → (run_of x) ≡ None → items_of x ≡ []
+no-items x h r = ap (λ t. tag_items t ++ run_items (run_of x)) h ∙ ap run_items r
 
 module _ (s : Bool) (next : First) where
   -- the lists behind a text that is read
@@ -123,16 +125,16 @@ plain_waits (event.Start o name attrs decls first) next h old new none = absurd 
 plain_waits (event.Chars o text) next h old new none = absurd h
 plain_waits (event.DocumentEnd o) next h old new none = absurd h
 
-module _ (old mid : Front) (next : First) (none : old.known.items ≡ []) (settles : Settles next old mid) where
+module _ (old mid : Front) (next : First) (none : (known_of old) ≡ []) (settles : Settles next old mid) where
   -- what was shown of something that follows
-  pub settled-shown : (f : Future) → first_in (inner f) ≡ Some next → shown old f ≡ told mid.known.items (map (finished old.strip) f)
+  pub settled-shown : (f : Future) → first_in (inner f) ≡ Some next → shown old f ≡ told (known_of mid) (map (finished old.strip) f)
   settled-shown f h =
-      shown-is old old.strip [] old.held old.run refl none refl refl f
-      ∙ settled-told old.strip next old.held old.run f h
+      shown-is old old.strip [] (held_of old) (run_of old) refl none refl refl f
+      ∙ settled-told old.strip next (held_of old) (run_of old) f h
       ∙ ap (λ l. told l (map (finished old.strip) f)) (sym settles.known)
 
-  pub mid-tells : TellFirst mid.known.items (Some next)
-  mid-tells = subst (λ l. TellFirst l (Some next)) (sym settles.known) (settled-tells old.held (node_in old.strip old.run) next)
+  pub mid-tells : TellFirst (known_of mid) (Some next)
+  mid-tells = subst (λ l. TellFirst l (Some next)) (sym settles.known) (settled-tells (held_of old) (node_in old.strip (run_of old)) next)
 
 -- they are two at most
 settled-few : (held : Option Tag) (run : Option Run) (next : First) → length (settled held run next) ≤ 2
@@ -141,8 +143,8 @@ settled-few (Some tag) None next = omega arith
 settled-few None (Some run) next = omega arith
 settled-few (Some tag) (Some run) next = omega arith
 
-mid-few : (old mid : Front) (next : First) → Settles next old mid → length mid.known.items ≤ 2
-mid-few old mid next settles = subst (λ (l : List Event). length l ≤ 2) (sym settles.known) (settled-few old.held (node_in old.strip old.run) next)
+mid-few : (old mid : Front) (next : First) → Settles next old mid → length (known_of mid) ≤ 2
+mid-few old mid next settles = subst (λ (l : List Event). length l ≤ 2) (sym settles.known) (settled-few (held_of old) (node_in old.strip (run_of old)) next)
 
 -- what settles an element and a text is as wide as the lists behind them allow
 settled-wide : (held : Option Tag) (run : Option Run) (next : First) (es : List Event) (n : ℕ) → IsNested held (width es n) → AreWide es n → AreWide (settled held run next ++ es) n
@@ -170,98 +172,98 @@ plain-text (event.Chars o text) next h n = absurd h
 plain-text (event.DocumentEnd o) next h n = absurd h
 
 -- a plain event follows
-pub takes-plain : (old mid new : Front) (next : First) (e : Event) → old.known.items ≡ [] → Settles next old mid → Pushes (e ∷ []) mid new → IsPlain e next → TakesItems (plain_items e) old new
+pub takes-plain : (old mid new : Front) (next : First) (e : Event) → (known_of old) ≡ [] → Settles next old mid → Pushes (e ∷ []) mid new → IsPlain e next → TakesItems (plain_items e) old new
 takes-plain old mid new next e none settles pushes plain = record {
   strip = pushes.strip ∙ settles.strip;
-  telling = subst (λ l. TellFirst l (first_held new.held)) (sym pushes.known)
-      (tells-append mid.known.items e (first_held new.held) (subst (λ n. TellFirst mid.known.items (Some n)) (sym p.0) (mid-tells old mid next none settles)) p.1);
-  few = let m = mid-few old mid next settles in let n : length new.known.items ≡ length mid.known.items + 1 = ap length pushes.known ∙ length-append mid.known.items (e ∷ []) in omega (arith, m, n);
+  telling = subst (λ l. TellFirst l (first_held (held_of new))) (sym pushes.known)
+      (tells-append (known_of mid) e (first_held (held_of new)) (subst (λ n. TellFirst (known_of mid) (Some n)) (sym p.0) (mid-tells old mid next none settles)) p.1);
+  few = let m = mid-few old mid next settles in let n : length (known_of new) ≡ length (known_of mid) + 1 = ap length pushes.known ∙ length-append (known_of mid) (e ∷ []) in omega (arith, m, n);
   wide = λ n some nested.
       let w = plain-wide e next plain n in
-      subst (λ h. AreWide new.known.items (n - held_lists h)) (sym (pushes.held ∙ settles.held))
+      subst (λ h. AreWide (known_of new) (n - held_lists h)) (sym (pushes.held ∙ settles.held))
       (subst (λ (l : List Event). AreWide l (n - 0)) (sym (pushes.known ∙ ap (λ l. l ++ e ∷ []) settles.known))
-      (subst (λ k. AreWide (settled old.held (node_in old.strip old.run) next ++ e ∷ []) k) (sym (sub-zero n))
-      (settled-wide old.held (node_in old.strip old.run) next (e ∷ []) n (subst (IsNested old.held) (sym w.0) nested) w.1)));
+      (subst (λ k. AreWide (settled (held_of old) (node_in old.strip (run_of old)) next ++ e ∷ []) k) (sym (sub-zero n))
+      (settled-wide (held_of old) (node_in old.strip (run_of old)) next (e ∷ []) n (subst (IsNested (held_of old)) (sym w.0) nested) w.1)));
   waits = plain_waits e next plain old new (no-items new (pushes.held ∙ settles.held) (pushes.run ∙ settles.run));
-  text = ap waiting (pushes.run ∙ settles.run) ∙ sym (plain-text e next plain (waiting old.run));
+  text = ap waiting (pushes.run ∙ settles.run) ∙ sym (plain-text e next plain (waiting (run_of old)));
   law = λ f.
       let t = plain_told old.strip e next plain f in
       settled-shown old mid next none settles (with_items (plain_items e) f) t.0
-      ∙ ap (told mid.known.items) t.1
-      ∙ sym (told-append mid.known.items (e ∷ []) (map (finished old.strip) f))
-      ∙ sym (shown-is new old.strip (mid.known.items ++ e ∷ []) None None (pushes.strip ∙ settles.strip) pushes.known (pushes.held ∙ settles.held) (pushes.run ∙ settles.run) f);
+      ∙ ap (told (known_of mid)) t.1
+      ∙ sym (told-append (known_of mid) (e ∷ []) (map (finished old.strip) f))
+      ∙ sym (shown-is new old.strip ((known_of mid) ++ e ∷ []) None None (pushes.strip ∙ settles.strip) pushes.known (pushes.held ∙ settles.held) (pushes.run ∙ settles.run) f);
 } where
-  p : (first_by e ≡ next) × TellsFirst e (first_held new.held)
-  p = plain_by e next plain (first_held new.held)
+  p : (first_by e ≡ next) × TellsFirst e (first_held (held_of new))
+  p = plain_by e next plain (first_held (held_of new))
 
 -- a start tag is held
-pub takes-open : (old mid new : Front) (tag : Tag) → old.known.items ≡ [] → Settles child.Other old mid → new.strip ≡ mid.strip → new.known.items ≡ mid.known.items → new.held ≡ Some tag → new.run ≡ mid.run →
+pub takes-open : (old mid new : Front) (tag : Tag) → (known_of old) ≡ [] → Settles child.Other old mid → new.strip ≡ mid.strip → (known_of new) ≡ (known_of mid) → (held_of new) ≡ Some tag → (run_of new) ≡ (run_of mid) →
     TakesItems (Opens (element_at tag.offset tag.resolved) ∷ []) old new
 takes-open old mid new tag none settles strip known held run = record {
   strip = strip ∙ settles.strip;
-  telling = subst (λ (o : Option Tag). TellFirst new.known.items (first_held o)) (sym held) (subst (λ l. TellFirst l (Some child.Other)) (sym known) (mid-tells old mid child.Other none settles));
+  telling = subst (λ (o : Option Tag). TellFirst (known_of new) (first_held o)) (sym held) (subst (λ l. TellFirst l (Some child.Other)) (sym known) (mid-tells old mid child.Other none settles));
   few = let m = mid-few old mid child.Other settles in let n = ap length known in omega (arith, m, n);
   wide = λ n some nested.
-      subst (λ h. AreWide new.known.items (n - held_lists h)) (sym held)
-      (subst (λ (l : List Event). AreWide l (n - 1)) (sym (known ∙ settles.known ∙ sym (append-nil (settled old.held (node_in old.strip old.run) child.Other))))
-      (settled-wide old.held (node_in old.strip old.run) child.Other [] (n - 1) nested tt));
+      subst (λ h. AreWide (known_of new) (n - held_lists h)) (sym held)
+      (subst (λ (l : List Event). AreWide l (n - 1)) (sym (known ∙ settles.known ∙ sym (append-nil (settled (held_of old) (node_in old.strip (run_of old)) child.Other))))
+      (settled-wide (held_of old) (node_in old.strip (run_of old)) child.Other [] (n - 1) nested tt));
   waits = tt;
   text = ap waiting (run ∙ settles.run);
   law = λ f.
       settled-shown old mid child.Other none settles (with_items (Opens (element_at tag.offset tag.resolved) ∷ []) f) refl
-      ∙ sym (shown-is new old.strip mid.known.items (Some tag) None (strip ∙ settles.strip) known held (run ∙ settles.run) f);
+      ∙ sym (shown-is new old.strip (known_of mid) (Some tag) None (strip ∙ settles.strip) known held (run ∙ settles.run) f);
 }
 
 -- an empty-element tag
-pub takes-empty : (old mid begun new : Front) (tag : Tag) → old.known.items ≡ [] → Settles child.Other old mid → Pushes (started tag child.Nothing) mid begun → Pushes (event.End tag.offset ∷ []) begun new →
+pub takes-empty : (old mid new : Front) (tag : Tag) → (known_of old) ≡ [] → Settles child.Other old mid → Pushes (start_of (element_at tag.offset tag.resolved) child.Nothing ∷ event.End tag.offset ∷ []) mid new →
     TakesItems (Opens (element_at tag.offset tag.resolved) ∷ Closes tag.offset ∷ []) old new
-takes-empty old mid begun new tag none settles start end = record {
-  strip = end.strip ∙ start.strip ∙ settles.strip;
-  telling = subst (λ l. TellFirst l (first_held new.held)) (sym known) (tells_two mid.known.items (mid-tells old mid child.Other none settles));
-  few = let m = mid-few old mid child.Other settles in let n : length new.known.items ≡ length mid.known.items + 2 = ap length known ∙ length-append mid.known.items (start_of e child.Nothing ∷ event.End tag.offset ∷ []) in omega (arith, m, n);
+takes-empty old mid new tag none settles pushes = record {
+  strip = pushes.strip ∙ settles.strip;
+  telling = subst (λ l. TellFirst l (first_held (held_of new))) (sym known) (tells_two (known_of mid) (mid-tells old mid child.Other none settles));
+  few = let m = mid-few old mid child.Other settles in let n : length (known_of new) ≡ length (known_of mid) + 2 = ap length known ∙ length-append (known_of mid) (start_of e child.Nothing ∷ event.End tag.offset ∷ []) in omega (arith, m, n);
   wide = λ n some nested.
       let both = start_of e child.Nothing ∷ event.End tag.offset ∷ [] in
-      subst (λ h. AreWide new.known.items (n - held_lists h)) (sym (end.held ∙ start.held ∙ settles.held))
+      subst (λ h. AreWide (known_of new) (n - held_lists h)) (sym (pushes.held ∙ settles.held))
       (subst (λ (l : List Event). AreWide l (n - 0)) (sym (known ∙ ap (λ l. l ++ both) settles.known))
-      (subst (λ k. AreWide (settled old.held (node_in old.strip old.run) child.Other ++ both) k) (sym (sub-zero n))
-      (settled-wide old.held (node_in old.strip old.run) child.Other both n nested (omega arith, tt))));
-  waits = no-items new (end.held ∙ start.held ∙ settles.held) (end.run ∙ start.run ∙ settles.run);
-  text = ap waiting (end.run ∙ start.run ∙ settles.run);
+      (subst (λ k. AreWide (settled (held_of old) (node_in old.strip (run_of old)) child.Other ++ both) k) (sym (sub-zero n))
+      (settled-wide (held_of old) (node_in old.strip (run_of old)) child.Other both n nested (omega arith, tt))));
+  waits = no-items new (pushes.held ∙ settles.held) (pushes.run ∙ settles.run);
+  text = ap waiting (pushes.run ∙ settles.run);
   law = λ f.
       settled-shown old mid child.Other none settles (with_items (Opens e ∷ Closes tag.offset ∷ []) f) refl
-      ∙ ap (told mid.known.items) (opens-told old.strip e child.Nothing (End Fresh tag.offset ∷ f) (ap mark_by (finished-end old.strip Fresh tag.offset)))
-      ∙ ap (λ x. told mid.known.items (followed (start_of e child.Nothing) (x ∷ map (finished old.strip) f))) (finished-end old.strip Fresh tag.offset)
-      ∙ sym (told-append mid.known.items (start_of e child.Nothing ∷ event.End tag.offset ∷ []) (map (finished old.strip) f))
-      ∙ sym (shown-is new old.strip (mid.known.items ++ (start_of e child.Nothing ∷ event.End tag.offset ∷ [])) None None (end.strip ∙ start.strip ∙ settles.strip) known (end.held ∙ start.held ∙ settles.held) (end.run ∙ start.run ∙ settles.run) f);
+      ∙ ap (told (known_of mid)) (opens-told old.strip e child.Nothing (End Fresh tag.offset ∷ f) (ap mark_by (finished-end old.strip Fresh tag.offset)))
+      ∙ ap (λ x. told (known_of mid) (followed (start_of e child.Nothing) (x ∷ map (finished old.strip) f))) (finished-end old.strip Fresh tag.offset)
+      ∙ sym (told-append (known_of mid) (start_of e child.Nothing ∷ event.End tag.offset ∷ []) (map (finished old.strip) f))
+      ∙ sym (shown-is new old.strip ((known_of mid) ++ (start_of e child.Nothing ∷ event.End tag.offset ∷ [])) None None (pushes.strip ∙ settles.strip) known (pushes.held ∙ settles.held) (pushes.run ∙ settles.run) f);
 } where
   e : Element
   e = element_at tag.offset tag.resolved
 
-  known : new.known.items ≡ mid.known.items ++ (start_of e child.Nothing ∷ event.End tag.offset ∷ [])
-  known = end.known ∙ ap (λ l. l ++ event.End tag.offset ∷ []) start.known ∙ append_assoc mid.known.items (started tag child.Nothing) (event.End tag.offset ∷ [])
+  known : (known_of new) ≡ (known_of mid) ++ (start_of e child.Nothing ∷ event.End tag.offset ∷ [])
+  known = pushes.known
 
-  tells_two : (es : List Event) → TellFirst es (Some child.Other) → TellFirst (es ++ (start_of e child.Nothing ∷ event.End tag.offset ∷ [])) (first_held new.held)
+  tells_two : (es : List Event) → TellFirst es (Some child.Other) → TellFirst (es ++ (start_of e child.Nothing ∷ event.End tag.offset ∷ [])) (first_held (held_of new))
   tells_two [] h = (refl, (tt, tt))
   tells_two (d ∷ []) h = (h.0, (refl, (tt, tt)))
   tells_two (d ∷ c ∷ es) h = (h.0, tells_two (c ∷ es) h.1)
 
 -- a text is held
-pub takes-text : (old new : Front) (o : ℕ) (text : List ℕ) → old.known.items ≡ [] → old.run ≡ None → new.strip ≡ old.strip → new.known.items ≡ old.known.items → new.held ≡ old.held → (run : Run) → new.run ≡ Some run → run.offset ≡ o → run.text ≡ text →
+pub takes-text : (old new : Front) (o : ℕ) (text : List ℕ) → (known_of old) ≡ [] → (run_of old) ≡ None → new.strip ≡ old.strip → (known_of new) ≡ (known_of old) → (held_of new) ≡ (held_of old) → (run : Run) → (run_of new) ≡ Some run → run.offset ≡ o → run.text ≡ text →
     TakesItems (Says o text ∷ []) old new
 takes-text old new o text none no_run strip known held run is offset_is text_is = record {
   strip = strip;
-  telling = subst (λ l. TellFirst l (first_held new.held)) (sym (known ∙ none)) tt;
+  telling = subst (λ l. TellFirst l (first_held (held_of new))) (sym (known ∙ none)) tt;
   few = let n = ap length (known ∙ none) in omega (arith, n);
-  wide = λ n some nested. subst (λ (l : List Event). AreWide l (n - held_lists new.held)) (sym (known ∙ none)) tt;
+  wide = λ n some nested. subst (λ (l : List Event). AreWide l (n - held_lists (held_of new))) (sym (known ∙ none)) tt;
   waits = tt;
   text =
-      let w : waiting new.run ≡ length text = ap waiting is ∙ ap length text_is in
-      let z : waiting old.run ≡ 0 = ap waiting no_run in
+      let w : waiting (run_of new) ≡ length text = ap waiting is ∙ ap length text_is in
+      let z : waiting (run_of old) ≡ 0 = ap waiting no_run in
       omega (arith, w, z);
   law = λ f.
-      shown-is old old.strip [] old.held None refl none refl no_run (with_items (Says o text ∷ []) f)
-      ∙ same old.held f
-      ∙ sym (shown-is new old.strip [] old.held (Some run) strip (known ∙ none) held is f);
+      shown-is old old.strip [] (held_of old) None refl none refl no_run (with_items (Says o text ∷ []) f)
+      ∙ same (held_of old) f
+      ∙ sym (shown-is new old.strip [] (held_of old) (Some run) strip (known ∙ none) held is f);
 } where
   said : (f : Future) → with_items (Says o text ∷ []) f ≡ with_items (run_items (Some run)) f
   said f = sym (ap (λ n. with_items (Says n run.text ∷ []) f) offset_is ∙ ap (λ t. with_items (Says o t ∷ []) f) text_is)
@@ -271,19 +273,19 @@ takes-text old new o text none no_run strip known held run is offset_is text_is 
   same (Some tag) f = ap (λ g. map (finished old.strip) (with_item (Opens (element_at tag.offset tag.resolved)) g)) (said f)
 
 -- a text that is held goes on
-pub takes-more : (old new : Front) (o : ℕ) (text : List ℕ) → old.known.items ≡ [] → (was run : Run) → old.run ≡ Some was → new.strip ≡ old.strip → new.known.items ≡ old.known.items → new.held ≡ old.held → new.run ≡ Some run → run.offset ≡ was.offset → run.text ≡ was.text ++ text →
+pub takes-more : (old new : Front) (o : ℕ) (text : List ℕ) → (known_of old) ≡ [] → (was run : Run) → (run_of old) ≡ Some was → new.strip ≡ old.strip → (known_of new) ≡ (known_of old) → (held_of new) ≡ (held_of old) → (run_of new) ≡ Some run → run.offset ≡ was.offset → run.text ≡ was.text ++ text →
     TakesItems (Says o text ∷ []) old new
 takes-more old new o text none was run was_is strip known held is offset_is text_is = record {
   strip = strip;
-  telling = subst (λ l. TellFirst l (first_held new.held)) (sym (known ∙ none)) tt;
+  telling = subst (λ l. TellFirst l (first_held (held_of new))) (sym (known ∙ none)) tt;
   few = let n = ap length (known ∙ none) in omega (arith, n);
-  wide = λ n some nested. subst (λ (l : List Event). AreWide l (n - held_lists new.held)) (sym (known ∙ none)) tt;
+  wide = λ n some nested. subst (λ (l : List Event). AreWide l (n - held_lists (held_of new))) (sym (known ∙ none)) tt;
   waits = tt;
   text = ap waiting is ∙ ap length text_is ∙ length-append was.text text ∙ sym (ap (λ r. waiting r + length text) was_is);
   law = λ f.
-      shown-is old old.strip [] old.held (Some was) refl none refl was_is (with_items (Says o text ∷ []) f)
-      ∙ same old.held f
-      ∙ sym (shown-is new old.strip [] old.held (Some run) strip (known ∙ none) held is f);
+      shown-is old old.strip [] (held_of old) (Some was) refl none refl was_is (with_items (Says o text ∷ []) f)
+      ∙ same (held_of old) f
+      ∙ sym (shown-is new old.strip [] (held_of old) (Some run) strip (known ∙ none) held is f);
 } where
   said : (f : Future) → with_items (Says was.offset was.text ∷ Says o text ∷ []) f ≡ with_items (run_items (Some run)) f
   said f =
@@ -298,3 +300,77 @@ pub no-node-is : (strip : Bool) (text : List ℕ) (all : Bool) → strip ≡ tru
 no-node-is strip [] all s some h = absurd (some refl)
 no-node-is true (c ∷ cs) all s some h = h
 no-node-is false (c ∷ cs) all s some h = absurd cc
+
+-- What a front's fields mean.
+
+pub unsettled-known : (x : Front) → x.settled ≡ false → known_of x ≡ []
+unsettled-known x e = ap (λ t. if t then (begun x.held x.first ++ run_events x.run) ++ after_events x.after x.next else []) e
+
+pub unsettled-held : (x : Front) → x.settled ≡ false → held_of x ≡ x.held
+unsettled-held x e = ap (λ t. if t then held_after x.after x.next else x.held) e
+
+pub unsettled-run : (x : Front) → x.settled ≡ false → run_of x ≡ x.run
+unsettled-run x e = ap (λ t. if t then None else x.run) e
+
+pub settled-known : (x : Front) → x.settled ≡ true → known_of x ≡ (begun x.held x.first ++ run_events x.run) ++ after_events x.after x.next
+settled-known x e = ap (λ t. if t then (begun x.held x.first ++ run_events x.run) ++ after_events x.after x.next else []) e
+
+pub settled-held : (x : Front) → x.settled ≡ true → held_of x ≡ held_after x.after x.next
+settled-held x e = ap (λ t. if t then held_after x.after x.next else x.held) e
+
+pub settled-run : (x : Front) → x.settled ≡ true → run_of x ≡ None
+settled-run x e = ap (λ t. if t then None else x.run) e
+
+-- what is known where nothing follows yet
+abbrev alone : Front → Front
+alone x = record x { after = after.Open; next = None }
+
+-- what follows
+abbrev with : Front → After → Option Tag → Front
+with x a next = record x { after = a; next = next }
+
+module _ (old set : Front) (next : First) (free : old.settled ≡ false) (s : IsSettled next old set) where
+  settled-alone : Settles next old (alone set)
+  settled-alone = record {
+    strip = s.strip;
+    known = settled-known (alone set) s.known ∙ append-nil (begun set.held set.first ++ run_events set.run) ∙ s.shows
+        ∙ ap (λ h. settled h (node_in old.strip old.run) next) (sym (unsettled-held old free)) ∙ ap (λ r. settled (held_of old) (node_in old.strip r) next) (sym (unsettled-run old free));
+    held = settled-held (alone set) s.known;
+    run = settled-run (alone set) s.known;
+  }
+
+  module _ (a : After) (tag : Option Tag) where
+    pushed : held_after a tag ≡ None → Pushes (after_events a tag) (alone set) (with set a tag)
+    pushed e = record {
+      strip = refl;
+      known = settled-known (with set a tag) s.known ∙ ap (λ l. l ++ after_events a tag) (sym (settled-known (alone set) s.known ∙ append-nil (begun set.held set.first ++ run_events set.run)));
+      held = settled-held (with set a tag) s.known ∙ e ∙ sym (settled-held (alone set) s.known);
+      run = settled-run (with set a tag) s.known ∙ sym (settled-run (alone set) s.known);
+    }
+
+  pub takes-after : (a : After) → Follows a next → TakesItems (after_items a) old (with set a set.next)
+  takes-after (after.End o) f = takes-plain old (alone set) (with set (after.End o) set.next) next (event.End o) (unsettled-known old free) settled-alone (pushed (after.End o) set.next refl) f
+  takes-after (after.Comment o text) f = takes-plain old (alone set) (with set (after.Comment o text) set.next) next (event.Comment o text) (unsettled-known old free) settled-alone (pushed (after.Comment o text) set.next refl) f
+  takes-after (after.Pi o target text) f = takes-plain old (alone set) (with set (after.Pi o target text) set.next) next (event.Pi o target text) (unsettled-known old free) settled-alone (pushed (after.Pi o target text) set.next refl) f
+  takes-after after.Open f = absurd f
+  takes-after (after.Empty o) f = absurd f
+
+module _ (old set : Front) (free : old.settled ≡ false) (s : IsSettled child.Other old set) (tag : Tag) where
+  pub takes-next : TakesItems (Opens (element_at tag.offset tag.resolved) ∷ []) old (with set after.Open (Some tag))
+  takes-next =
+      takes-open old (alone set) (with set after.Open (Some tag)) tag (unsettled-known old free) (settled-alone old set child.Other free s) refl
+      (settled-known (with set after.Open (Some tag)) s.known ∙ sym (settled-known (alone set) s.known)) (settled-held (with set after.Open (Some tag)) s.known)
+      (settled-run (with set after.Open (Some tag)) s.known ∙ sym (settled-run (alone set) s.known))
+
+  pub takes-empty-next : TakesItems (Opens (element_at tag.offset tag.resolved) ∷ Closes tag.offset ∷ []) old (with set (after.Empty tag.offset) (Some tag))
+  takes-empty-next =
+      takes-empty old (alone set) (with set (after.Empty tag.offset) (Some tag)) tag (unsettled-known old free) (settled-alone old set child.Other free s)
+      (pushed old set child.Other free s (after.Empty tag.offset) (Some tag) refl)
+
+-- A text that is held, where nothing else followed it.
+pub says-more : (old : Front) (o : ℕ) (text : List ℕ) → old.settled ≡ false → (was run : Run) → old.run ≡ Some was → run.offset ≡ was.offset → run.text ≡ was.text ++ text →
+    TakesItems (Says o text ∷ []) old (record old { run = Some run })
+says-more old o text free was run is offset_is text_is =
+    let new : Front = record old { run = Some run } in
+    takes-more old new o text (unsettled-known old free) was run (unsettled-run old free ∙ is) refl (unsettled-known new free ∙ sym (unsettled-known old free)) (unsettled-held new free ∙ sym (unsettled-held old free)) (unsettled-run new free)
+    offset_is text_is

@@ -1,11 +1,10 @@
 -- What a reader's steps make of what is to come.
-use Rattle.std.proofs.Common.{◌≡◌, ◌<◌, ◌≤◌, ◌^◌, ◌+◌, ◌-◌, ℕ, Bool, true, false, cond, List, [], ◌∷◌, ◌++◌, Option, Some, None, Result, Ok, Err, IfOk, map, length, refl, sym, ap, ◌∙◌, subst, arith}
+use Rattle.std.proofs.Common.{◌≡◌, ◌<◌, ◌≤◌, ◌^◌, ◌+◌, ◌-◌, ℕ, Bool, true, false, cond, List, [], ◌∷◌, ◌++◌, Option, Some, None, map, length, refl, sym, ap, ◌∙◌, subst, arith}
 use Rattle.std.specs.Prelude.{if◌then◌else◌, not, ◌&&◌}
 use Rattle.std.proofs.lemmas.List.{length-reverse}
 use Rattle.stx_base.specs.declared.fault.XmlFault.{XmlFault}
 use Rattle.stx_base.specs.declared.fault.XmlKind.TheVariants.{Truncated}
 use Rattle.stx_base.specs.declared.limits.Limits.{Limits}
-use Rattle.stx_base.specs.declared.memory.Memory.{Memory}
 use Rattle.xml_tokens.specs.Reader.{Reader, due, after, fed}
 use Rattle.xml_tokens.specs.declared.lexeme.Body.{Body}
 use Rattle.xml_tokens.specs.declared.lexeme.Body.TheVariants as body
@@ -31,7 +30,7 @@ use Rattle.xml_events.specs.Cores.{source_of, lists_open, holds, answer_of, IsRe
 use Rattle.xml_events.specs.Document.{Item, Reading, stops, completes, cuts, at_end, judged, reading_from, lists_of, with_items, finished}
 use Rattle.xml_events.specs.Document as document
 use Rattle.xml_events.specs.Answering.{OverBehind, EndsWhole, lists_behind}
-use Rattle.xml_events.specs.Fronts.{items_of, tag_items, run_items, shown, first_held, first_by_all, Gives, TellsFirst, TellFirst, Waits, AreWide, IsNested, held_lists, lists_before, waiting, waiting_behind}
+use Rattle.xml_events.specs.Fronts.{known_of, held_of, run_of, items_of, tag_items, run_items, shown, first_held, first_by_all, Gives, TellsFirst, TellFirst, Waits, AreWide, IsNested, held_lists, lists_before, waiting, waiting_behind}
 use Rattle.xml_events.specs.Source.{later, unless_over, left, future, ends_left, IsShort, text_in}
 use Rattle.xml_events.specs.Taking.{before_of, names_of, items_at}
 use Rattle.xml_events.specs.Telling.{told, followed, pulled, no_event}
@@ -50,10 +49,10 @@ pub future-read : (c : Core) → c.over ≡ None → (more : List ℕ) (ended : 
 future-read c e more ended = ap (λ o. shown c.front (lists_of (unless_over o (before_of c.place) (reading_from c.place.limits (before_of c.place) (later c.lexer more ended))))) e
 
 -- what is cut isn't ready
-cut-shown : (x : Front) → x.known.items ≡ [] → (why : Why) (names : List (List ℕ)) → pulled (shown x (cuts why names)) ≡ no_event why
+cut-shown : (x : Front) → (known_of x) ≡ [] → (why : Why) (names : List (List ℕ)) → pulled (shown x (cuts why names)) ≡ no_event why
 cut-shown x none why names =
     ap (λ l. pulled (told l (map (finished x.strip) (with_items (items_of x) (cuts why names))))) none
-    ∙ cut-pulled x.strip x.held x.run why names
+    ∙ cut-pulled x.strip (held_of x) (run_of x) why names
 
 -- nothing waits outside the root
 module _ (old new : Front) (limits : Limits) (b : Before) (offset : ℕ) (was : is_inside b.names ≡ false → items_of old ≡ []) where
@@ -105,10 +104,10 @@ module _ (old : Core) (reads : IsReading old) (going : old.over ≡ None) where
           (subst (λ is. Waits is old.front new.front) (t.place.items_are l.offset) t.front.waits);
       wide = t.front.wide (length (names_of new.place) + 1) (omega arith) (nested-by old.front b.names (lists_before (items_at l.offset t.word) (length (names_of new.place) + 1)) lists reads.outside);
       counted =
-          let behind : waiting new.front.run ≡ waiting_behind (document.items_of b l.offset l.body) (waiting old.front.run) =
-          t.front.text ∙ ap (λ is. waiting_behind is (waiting old.front.run)) (t.place.items_are l.offset) in
+          let behind : waiting (run_of new.front) ≡ waiting_behind (document.items_of b l.offset l.body) (waiting (run_of old.front)) =
+          t.front.text ∙ ap (λ is. waiting_behind is (waiting (run_of old.front))) (t.place.items_are l.offset) in
           let chars : new.place.chars ≡ (before_next b l.body).chars = ap (λ (x : Before). x.chars) t.place.before in
-          omega (arith, behind, chars, counted-next b l.offset (waiting old.front.run) reads.counted l.body);
+          omega (arith, behind, chars, counted-next b l.offset (waiting (run_of old.front)) reads.counted l.body);
     };
     going = none;
     same = record {
@@ -165,13 +164,13 @@ module _ (old : Core) (reads : IsReading old) (going : old.over ≡ None) where
         ∙ ap (λ r. shown new.front (lists_of (reading_from new.place.limits (before_of new.place) (later r more ended)))) (sym lexer)
         ∙ sym (future-read new none more ended)
 
-  module _ (known : old.front.known.items ≡ []) where
+  module _ (known : (known_of old.front) ≡ []) where
     -- the document has a fault
     pub step-failed : (new : Core) (q : Reader) (fault : XmlFault) →
         ((more : List ℕ) (ended : Bool) → lists_of (reading_from old.place.limits (before_of old.place) (later old.lexer more ended)) ≡ cuts (Bad fault) (names_of old.place)) →
         IsSame old.lexer q → Fails fault (record old { lexer = q }) new → (t : Turn) → t ≡ turn.Bad fault → Turns old t new
     step-failed new q fault law same f t is = subst (λ a. Turns old a new) (sym is) (record {
-      sound = subst (λ o. holds o new) (sym f.over) (ap (λ (x : Front). x.known.items) f.front ∙ known);
+      sound = subst (λ o. holds o new) (sym f.over) (ap (λ (x : Front). (known_of x)) f.front ∙ known);
       same = record {
         ended = ap (λ (r : Reader). r.ended) f.lexer ∙ same.ended;
         fed_is = ap fed f.lexer ∙ same.fed_is;
@@ -181,7 +180,7 @@ module _ (old : Core) (reads : IsReading old) (going : old.over ≡ None) where
       is_answer = λ more ended. ap pulled (before more ended) ∙ cut-shown old.front known (Bad fault) (names_of old.place);
       leaves = λ more ended. behind more ended ∙ sym (before more ended);
       shrinks = tt;
-      goes = ap (λ (x : Front). x.known.items) f.front ∙ known;
+      goes = ap (λ (x : Front). (known_of x)) f.front ∙ known;
       counts = tt;
       whole = tt;
       wants = λ e. absurd cc;
@@ -259,8 +258,8 @@ module _ (old : Core) (reads : IsReading old) (going : old.over ≡ None) where
       wants = λ e. within;
       keeps = λ e. record {
         known = known;
-        front = short old.front.held old.front.run;
-        text = omega (arith, text_of old.front.held old.front.run, reads.counted, old.place.counted);
+        front = short (held_of old.front) (run_of old.front);
+        text = omega (arith, text_of (held_of old.front) (run_of old.front), reads.counted, old.place.counted);
         depth = let n = length-reverse old.place.names in omega (arith, reads.fit.depth);
         scopes = reads.fit.paired ∙ sym (length-reverse old.place.names);
         unread = few-unread old.lexer reads.fresh (sym d);
@@ -327,7 +326,7 @@ module _ (old : Core) (reads : IsReading old) (going : old.over ≡ None) where
       fit = reads.fit;
       telling = tells.1;
       outside = λ out. items_same ∙ reads.outside out;
-      wide = wide-tail e new.known.items (length (names_of old.place) + 1 - held_lists new.held) wide;
+      wide = wide-tail e (known_of new) (length (names_of old.place) + 1 - held_lists (held_of new)) wide;
       counted = subst (λ r. waiting r ≤ old.place.chars) (sym g.run) reads.counted;
     });
     same = record { ended = refl; fed_is = refl; limits = refl };
@@ -335,30 +334,30 @@ module _ (old : Core) (reads : IsReading old) (going : old.over ≡ None) where
     is_answer = λ more ended.
         let f = lists_of (left (source_of old) more ended) in
         ap pulled (law more ended)
-        ∙ known-pulled e new.known.items (first_held new.held) (map (finished new.strip) (with_items (items_of new) f)) tells
-        (held-behind new.strip new.held new.run f)
+        ∙ known-pulled e (known_of new) (first_held (held_of new)) (map (finished new.strip) (with_items (items_of new) f)) tells
+        (held-behind new.strip (held_of new) (run_of new) f)
         (finished-some new.strip (with_items (items_of new) f) (items-some (items_of new) f (some more ended)));
     leaves = law;
     shrinks = let n = ap length g.known in omega (arith, n);
-    goes = λ none. subst (OverBehind e) (sym none) (over_behind e (first_by_all new.known.items (first_held new.held)) tells.0);
+    goes = λ none. subst (OverBehind e) (sym none) (over_behind e (first_by_all (known_of new) (first_held (held_of new))) tells.0);
     counts = λ more ended.
         let f = lists_of (left (source_of old) more ended) in
         let n : length f ≡ length (names_of old.place) + 1 = open_lists more ended in
-        let nested : IsNested new.held (length f) = subst (λ h. IsNested h (length f)) (sym g.held) (nested-by old.front (names_of old.place) (length f) n reads.outside) in
-        let all : length (map (finished new.strip) (with_items (items_of new) f)) ≡ length (names_of old.place) + 1 - held_lists new.held =
-        finished-length new.strip (with_items (items_of new) f) ∙ front-length new.held new.run f (omega (arith, n)) nested ∙ ap (λ k. k - held_lists new.held) n in
-        known-counts e new.known.items (map (finished new.strip) (with_items (items_of new) f)) (first_by_all new.known.items (first_held new.held)) tells.0
-        (subst (AreWide (e ∷ new.known.items)) (sym all) wide) (omega (arith, all, few_held new.held (length f) nested (omega (arith, n)), n))
+        let nested : IsNested (held_of new) (length f) = subst (λ h. IsNested h (length f)) (sym g.held) (nested-by old.front (names_of old.place) (length f) n reads.outside) in
+        let all : length (map (finished new.strip) (with_items (items_of new) f)) ≡ length (names_of old.place) + 1 - held_lists (held_of new) =
+        finished-length new.strip (with_items (items_of new) f) ∙ front-length (held_of new) (run_of new) f (omega (arith, n)) nested ∙ ap (λ k. k - held_lists (held_of new)) n in
+        known-counts e (known_of new) (map (finished new.strip) (with_items (items_of new) f)) (first_by_all (known_of new) (first_held (held_of new))) tells.0
+        (subst (AreWide (e ∷ (known_of new))) (sym all) wide) (omega (arith, all, few_held (held_of new) (length f) nested (omega (arith, n)), n))
         ∙ sym (ap (λ l. lists_behind e (length l)) (law more ended));
-    whole = no_end e (first_by_all new.known.items (first_held new.held)) tells.0;
+    whole = no_end e (first_by_all (known_of new) (first_held (held_of new))) tells.0;
     wants = λ k. absurd cc;
     keeps = λ k. absurd cc;
   } where
-    tells : TellFirst (e ∷ new.known.items) (first_held new.held)
-    tells = subst (λ h. TellFirst (e ∷ new.known.items) (first_held h)) (sym g.held) (subst (λ l. TellFirst l (first_held old.front.held)) g.known reads.telling)
+    tells : TellFirst (e ∷ (known_of new)) (first_held (held_of new))
+    tells = subst (λ h. TellFirst (e ∷ (known_of new)) (first_held h)) (sym g.held) (subst (λ l. TellFirst l (first_held (held_of old.front))) g.known reads.telling)
 
-    wide : AreWide (e ∷ new.known.items) (length (names_of old.place) + 1 - held_lists new.held)
-    wide = subst (λ h. AreWide (e ∷ new.known.items) (length (names_of old.place) + 1 - held_lists h)) (sym g.held) (subst (λ l. AreWide l (lists_open old)) g.known reads.wide)
+    wide : AreWide (e ∷ (known_of new)) (length (names_of old.place) + 1 - held_lists (held_of new))
+    wide = subst (λ h. AreWide (e ∷ (known_of new)) (length (names_of old.place) + 1 - held_lists h)) (sym g.held) (subst (λ l. AreWide l (lists_open old)) g.known reads.wide)
 
     over_behind : (e : Event) (next : Option First) → TellsFirst e next → OverBehind e None
     over_behind (event.Start o name attrs decls first) next t = refl
@@ -387,7 +386,7 @@ module _ (old : Core) (reads : IsReading old) (going : old.over ≡ None) where
         ∙ reading-open old.place.limits (fed r) (lexed_from r).last (before_of old.place) (lexed_from r).lexemes
 
     items_same : items_of new ≡ items_of old.front
-    items_same = ap (λ h. tag_items h ++ run_items new.run) g.held ∙ ap (λ r. tag_items old.front.held ++ run_items r) g.run
+    items_same = ap (λ h. tag_items h ++ run_items (run_of new)) g.held ∙ ap (λ r. tag_items (held_of old.front) ++ run_items r) g.run
 
     some : (more : List ℕ) (ended : Bool) → IsSome (lists_of (left (source_of old) more ended))
     some more ended =
@@ -397,7 +396,7 @@ module _ (old : Core) (reads : IsReading old) (going : old.over ≡ None) where
     law : (more : List ℕ) (ended : Bool) → future (source_of old) more ended ≡ followed e (future (source_of (record old { front = new })) more ended)
     law more ended =
         let f = lists_of (left (source_of old) more ended) in
-        shown-is old.front new.strip (e ∷ new.known.items) new.held new.run (sym g.strip) g.known (sym g.held) (sym g.run) f
+        shown-is old.front new.strip (e ∷ (known_of new)) (held_of new) (run_of new) (sym g.strip) g.known (sym g.held) (sym g.run) f
 
 -- an answer is repeated
 pub step-repeats : (old : Core) (over : Ending) → old.over ≡ Some over → IsSound old → (answer : Pull) → answer ≡ answer_of over → Answers old answer old

@@ -16,7 +16,7 @@ use Rattle.xml_events.specs.Answering.{lists_behind}
 use Rattle.xml_events.specs.Before.{Before, outer_names, is_inside, is_innermost, fault_of, before_next}
 use Rattle.xml_events.specs.Document.{Says, outer, finished, with_items, items_of}
 use Rattle.xml_events.specs.Fronts as fronts
-use Rattle.xml_events.specs.Fronts.{tag_items, run_items, width, AreWide, lists_before, held_lists, IsNested, TellsFirst}
+use Rattle.xml_events.specs.Fronts.{held_of, run_of, tag_items, run_items, width, AreWide, lists_before, held_lists, IsNested, TellsFirst}
 use Rattle.xml_events.specs.Telling.{told, followed}
 use Rattle.xml_events.specs.Tree.{Future}
 
@@ -85,12 +85,12 @@ wide_enough None n h = tt
 wide_enough (Some tag) n h = h
 
 -- what waits is nested, where nothing waits outside the root
-pub nested-by : (x : Front) (names : List (List ℕ)) (n : ℕ) → n ≡ length names + 1 → (is_inside names ≡ false → fronts.items_of x ≡ []) → IsNested x.held n
-nested-by x [] n e h = by_held x.held x.run (h refl) where
+pub nested-by : (x : Front) (names : List (List ℕ)) (n : ℕ) → n ≡ length names + 1 → (is_inside names ≡ false → fronts.items_of x ≡ []) → IsNested (held_of x) n
+nested-by x [] n e h = by_held (held_of x) (run_of x) (h refl) where
   by_held : (held : Option Tag) (run : Option Run) → tag_items held ++ run_items run ≡ [] → IsNested held n
   by_held None run k = tt
   by_held (Some tag) run k = absurd cc
-nested-by x (name ∷ names) n e h = wide_enough x.held n (omega (arith, e))
+nested-by x (name ∷ names) n e h = wide_enough (held_of x) n (omega (arith, e))
 
 module _ (limits : Limits) (b : Before) (offset : ℕ) where
   text_before-next : (text : List ℕ) (t : Bool) →

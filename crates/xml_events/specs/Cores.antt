@@ -17,7 +17,7 @@ use Rattle.stx_base.specs.declared.fault.XmlKind.TheVariants.{Truncated}
 use Rattle.xml_tokens.specs.declared.lexeme.Lexeme.{Lexeme}
 use Rattle.xml_events.specs.Before.{is_inside, fault_of}
 use Rattle.xml_events.specs.Answering.{Goes, Counts, EndsWhole}
-use Rattle.xml_events.specs.Fronts.{items_of, held_lists, IsTelling, AreWide, TakesItems, waiting}
+use Rattle.xml_events.specs.Fronts.{known_of, held_of, run_of, items_of, held_lists, IsTelling, AreWide, TakesItems, waiting}
 use Rattle.xml_events.specs.Source.{Source, IsAnswer, Leaves, Keeps, Shrinks, events_left, future}
 use Rattle.xml_events.specs.Taking as Taking
 use Rattle.xml_events.specs.Taking.{before_of, names_of, items_at, IsFit}
@@ -26,7 +26,7 @@ abbrev pub source_of : Core → Source
 source_of c = record {
   limits = c.place.limits;
   strip = c.front.strip;
-  known = c.front.known.items;
+  known = (known_of c.front);
   front = items_of c.front;
   before = before_of c.place;
   lexer = c.lexer;
@@ -35,7 +35,7 @@ source_of c = record {
 
 -- how many lists are open behind the events that are known
 abbrev pub lists_open : Core → ℕ
-lists_open c = length (names_of c.place) + 1 - held_lists c.front.held
+lists_open c = length (names_of c.place) + 1 - held_lists (held_of c.front)
 
 -- what holds while lexemes are read: the lexer repeats no answer, the events that are known tell the first children, and outside the
 -- root nothing waits
@@ -45,14 +45,14 @@ pub record IsReading (c : Core) : Type 0 where
   pub fit : IsFit c.place
   pub telling : IsTelling c.front
   pub outside : is_inside (names_of c.place) ≡ false → items_of c.front ≡ []
-  pub wide : AreWide c.front.known.items (lists_open c)
-  pub counted : waiting c.front.run ≤ c.place.chars
+  pub wide : AreWide (known_of c.front) (lists_open c)
+  pub counted : waiting (run_of c.front) ≤ c.place.chars
 
 -- what holds by the answer that is repeated, if one is
 abbrev pub holds : Option Ending → Core → Type 0
 holds None c = IsReading c
-holds (Some ending.End) c = (c.front.known.items ≡ []) × (items_of c.front ≡ [])
-holds (Some (ending.Bad fault)) c = c.front.known.items ≡ []
+holds (Some ending.End) c = ((known_of c.front) ≡ []) × (items_of c.front ≡ [])
+holds (Some (ending.Bad fault)) c = (known_of c.front) ≡ []
 holds (Some ending.Memory) c = Unit {0}
 
 abbrev pub IsSound : Core → Type 0

@@ -1,10 +1,10 @@
-ghost use Rattle.std.specs.Prelude.{◌≡◌, ◌++◌, [], ◌∷◌, MatchOption, OnOk};
+ghost use Rattle.std.specs.Prelude.{◌≡◌, ◌++◌, [], ◌∷◌, IfOk, MatchOption, OnOk};
 ghost use Rattle.xml_events.specs.Fronts as spec;
 
 use crate::event::Event;
 use crate::place::Word;
 use std::alloc::Global;
-use std::collections::VecDeque;
+use std::mem::replace;
 use stx_base::{Copied, First, Memory, Text, is_space};
 use xml_names::Resolved;
 
@@ -22,24 +22,52 @@ pub struct Run {
     text: Text,
 }
 
-/// What was read and wasn't given yet.
+/// What follows an element and a text that are known.
+#[derive(Debug, Drop)]
+pub enum After {
+    /// A start tag, whose element's first child isn't known.
+    Open,
+    /// An empty-element tag.
+    Empty {
+        offset: u64,
+    },
+    End {
+        offset: u64,
+    },
+    Comment {
+        offset: u64,
+        text: Text,
+    },
+    Pi {
+        offset: u64,
+        target: Text,
+        text: Text,
+    },
+}
+
+/// What was read and wasn't given yet. It stays where it is until it is given: tags are large, and events larger.
 #[derive(Debug, Drop)]
 pub struct Front {
     alloc: Global,
     // Texts of white space alone are no nodes.
     strip: bool,
-    // The events that are known.
-    known: VecDeque<Event>,
-    // The innermost open element, where its first child isn't known.
+    // The innermost open element, until it is given.
     held: Option<Tag>,
-    // The text that nothing else followed yet.
+    // The text behind it, until it is given.
     run: Option<Run>,
+    // Something followed them: their events are known.
+    settled: bool,
+    // The first child of the element, where it is known.
+    first: First,
+    // What followed them, and its tag where it has one.
+    after: After,
+    next: Option<Tag>,
 }
 
 impl Front {
-    ghost use Rattle.stx_base.specs.declared.node.First.TheVariants as child;
+    ghost use Rattle.std.specs.Prelude.{false};
     ghost use Rattle.xml_events.specs.Document.{Closes, Opens, Says, element_at};
-    ghost use Rattle.xml_events.specs.Fronts.{node_in, plain_items, started, Begins, Gives, IsDry, IsEmpty, IsPlain, Pushes, Settles, TakesItems, TakesText};
+    ghost use Rattle.xml_events.specs.Fronts.{after_items, run_events, settled, Follows, Gives, IsDry, IsEmpty, IsSettled, Strips, TakesItems};
     ghost use Rattle.xml_events.specs.Taking.{items_at};
 
     pub fn new(alloc: Global, strip: bool) -> Front
@@ -48,9 +76,12 @@ impl Front {
         Front {
             alloc,
             strip,
-            known: VecDeque::new(alloc),
             held: None,
             run: None,
+            settled: false,
+            first: First::Nothing,
+            after: After::Open,
+            next: None,
         }
     }
 
@@ -61,24 +92,75 @@ impl Front {
     pub fn give(&mut self) -> Option<Event>
         ensures { MatchOption result (IsDry self.old self.new) (Gives self.old self.new) }
     {
-        self.known.pop_front()
+        if !self.settled {
+            return None;
+        }
+        // To take what isn't there would still move as much.
+        if self.held.is_some() {
+            if let Some(tag) = self.held.take() {
+                let first = replace(&mut self.first, First::Nothing);
+                return Some(started(tag, first));
+            }
+        }
+        if self.run.is_some() {
+            if let Some(Run { offset, text }) = self.run.take() {
+                return Some(Event::Chars { offset, text });
+            }
+        }
+        match replace(&mut self.after, After::Open) {
+            After::Open => {
+                self.held = self.next.take();
+                self.settled = false;
+                None
+            }
+            After::Empty { offset } => match self.next.take() {
+                Some(tag) => {
+                    self.after = After::End { offset };
+                    Some(started(tag, First::Nothing))
+                }
+                None => {
+                    self.settled = false;
+                    Some(Event::End { offset })
+                }
+            },
+            After::End { offset } => {
+                self.settled = false;
+                Some(Event::End { offset })
+            }
+            After::Comment { offset, text } => {
+                self.settled = false;
+                Some(Event::Comment { offset, text })
+            }
+            After::Pi {
+                offset,
+                target,
+                text,
+            } => {
+                self.settled = false;
+                Some(Event::Pi {
+                    offset,
+                    target,
+                    text,
+                })
+            }
+        }
     }
 
     /// Takes what a lexeme at a place is in the tree.
     #[inline(always)]
     pub fn take(&mut self, offset: u64, word: Word) -> Result<(), Memory>
-        requires { self.old.known.items ≡ [] }
+        requires { self.old.settled ≡ false }
         ensures { OnOk result (TakesItems (items_at offset word) self.old self.new) }
     {
         match word {
             Word::Open(resolved) => self.open(Tag { offset, resolved }),
             Word::Empty(resolved) => self.open_and_close(Tag { offset, resolved }),
-            Word::Close => self.follow(First::Nothing, Event::End { offset }),
+            Word::Close => self.follow(First::Nothing, After::End { offset }),
             Word::Text(text) => self.say(offset, text),
-            Word::Comment(text) => self.follow(First::Other, Event::Comment { offset, text }),
+            Word::Comment(text) => self.follow(First::Other, After::Comment { offset, text }),
             Word::Pi { target, text } => self.follow(
                 First::Other,
-                Event::Pi {
+                After::Pi {
                     offset,
                     target,
                     text,
@@ -90,7 +172,7 @@ impl Front {
 
     #[inline(always)]
     fn say(&mut self, offset: u64, text: Text) -> Result<(), Memory>
-        requires { self.old.known.items ≡ [] }
+        requires { self.old.settled ≡ false }
         ensures { OnOk result (TakesItems (Says offset text ∷ []) self.old self.new) }
     {
         match &mut self.run {
@@ -104,109 +186,90 @@ impl Front {
 
     #[inline(always)]
     fn open(&mut self, tag: Tag) -> Result<(), Memory>
-        requires { self.old.known.items ≡ [] }
+        requires { self.old.settled ≡ false }
         ensures { OnOk result (TakesItems (Opens (element_at tag.offset tag.resolved) ∷ []) self.old self.new) }
     {
         self.settle(First::Other)?;
-        self.held = Some(tag);
+        self.after = After::Open;
+        self.next = Some(tag);
         Ok(())
     }
 
     #[inline(always)]
     fn open_and_close(&mut self, tag: Tag) -> Result<(), Memory>
-        requires { self.old.known.items ≡ [] }
+        requires { self.old.settled ≡ false }
         ensures { OnOk result (TakesItems (Opens (element_at tag.offset tag.resolved) ∷ Closes tag.offset ∷ []) self.old self.new) }
     {
         self.settle(First::Other)?;
-        let offset = tag.offset;
-        self.start(tag, First::Nothing)?;
-        self.push(Event::End { offset })
+        self.after = After::Empty { offset: tag.offset };
+        self.next = Some(tag);
+        Ok(())
     }
 
-    // An event follows that `first` tells, where it is the first child.
+    // A leaf or an end follows that `first` tells, where it is the first child.
     #[inline(always)]
-    fn follow(&mut self, first: First, event: Event) -> Result<(), Memory>
-        requires known { self.old.known.items ≡ [] }
-        requires plain { IsPlain event first }
-        ensures { OnOk result (TakesItems (plain_items event) self.old self.new) }
+    fn follow(&mut self, first: First, after: After) -> Result<(), Memory>
+        requires unsettled { self.old.settled ≡ false }
+        requires follows { Follows after first }
+        ensures { OnOk result (TakesItems (after_items after) self.old self.new) }
     {
         self.settle(first)?;
-        self.push(event)
+        self.after = after;
+        Ok(())
     }
 
     // Something else than a text follows: the text is a node, and the element's first child is known.
+    #[inline(always)]
     fn settle(&mut self, next: First) -> Result<(), Memory>
-        requires { self.old.known.items ≡ [] }
-        ensures { OnOk result (Settles next self.old self.new) }
+        ensures { OnOk result (IsSettled next self.old self.new) }
     {
-        match self.take_text() {
-            None => self.begin(next),
-            Some(Run { offset, text }) => {
-                self.begin_with(&text)?;
-                self.push(Event::Chars { offset, text })
-            }
-        }
-    }
-
-    // The text, where it is a node.
-    #[inline(always)]
-    fn take_text(&mut self) -> Option<Run>
-        ensures { TakesText self.old self.new result }
-    {
-        let run = self.run.take()?;
-        if is_no_node(self.strip, &run.text) {
-            None
-        } else {
-            Some(run)
-        }
-    }
-
-    #[inline(always)]
-    fn begin(&mut self, first: First) -> Result<(), Memory>
-        ensures { OnOk result (Begins first self.old self.new) }
-    {
-        match self.held.take() {
-            None => Ok(()),
-            Some(tag) => self.start(tag, first),
-        }
-    }
-
-    #[inline(always)]
-    fn begin_with(&mut self, text: &Text) -> Result<(), Memory>
-        ensures { OnOk result (Begins (child.Chars text.now) self.old self.new) }
-    {
-        match self.held.take() {
-            None => Ok(()),
-            Some(tag) => {
-                let text = text.copy(self.alloc)?;
-                self.start(tag, First::Chars(text))
-            }
-        }
-    }
-
-    #[inline(always)]
-    fn start(&mut self, tag: Tag, first: First) -> Result<(), Memory>
-        ensures { OnOk result (Pushes (started tag first) self.old self.new) }
-    {
-        let Tag { offset, resolved } = tag;
-        let Resolved { name, attrs, decls } = resolved;
-        self.push(Event::Start {
-            offset,
-            name,
-            attrs,
-            decls,
-            first,
-        })
-    }
-
-    #[inline(always)]
-    fn push(&mut self, event: Event) -> Result<(), Memory>
-        ensures { OnOk result (Pushes (event ∷ []) self.old self.new) }
-    {
-        // Without room first, a refusal would carry the event back.
-        self.known.reserve(1)?;
-        self.known.push_back_reserved(event);
+        self.strip_text();
+        self.first = self.first_child(next)?;
+        self.settled = true;
         Ok(())
+    }
+
+    // Drops the text unless it is a node.
+    #[inline(always)]
+    fn strip_text(&mut self)
+        ensures { Strips self.old self.new }
+    {
+        if let Some(run) = &self.run {
+            if is_no_node(self.strip, &run.text) {
+                self.run = None;
+            }
+        }
+    }
+
+    // The first child of the element, if there is one, where this follows the text.
+    #[inline(always)]
+    fn first_child(&self, next: First) -> Result<First, Memory>
+        ensures { IfOk result (λ first. spec.begun self.now.held first ++ run_events self.now.run ≡ settled self.now.held self.now.run next) }
+    {
+        let Some(run) = &self.run else {
+            return Ok(next);
+        };
+        if self.held.is_none() {
+            return Ok(next);
+        }
+        let text = run.text.copy(self.alloc)?;
+        Ok(First::Chars(text))
+    }
+}
+
+// The start of an element whose first child is known.
+#[inline(always)]
+fn started(tag: Tag, first: First) -> Event
+    ensures { result ∷ [] ≡ spec.started tag first }
+{
+    let Tag { offset, resolved } = tag;
+    let Resolved { name, attrs, decls } = resolved;
+    Event::Start {
+        offset,
+        name,
+        attrs,
+        decls,
+        first,
     }
 }
 

@@ -147,7 +147,7 @@ impl Core {
     fn read(&mut self) -> Turn
         requires reads { IsReading self.old }
         requires going { self.old.over ≡ None }
-        requires none { self.old.front.known.items ≡ [] }
+        requires none { self.old.front.settled ≡ false }
         ensures turns { Turns self.old result self.new }
         ensures same { IsSame self.old.lexer self.new.lexer }
         ensures limits { self.new.place.limits ≡ self.old.place.limits }
@@ -163,7 +163,7 @@ impl Core {
 
     fn take(&mut self, lexeme: Lexeme) -> Turn
         requires fit { IsFit self.old.place }
-        requires none { self.old.front.known.items ≡ [] }
+        requires none { self.old.front.settled ≡ false }
         ensures receives { Receives self.old lexeme result self.new }
         ensures lexer { self.new.lexer ≡ self.old.lexer }
         ensures limits { self.new.place.limits ≡ self.old.place.limits }

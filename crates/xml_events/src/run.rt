@@ -2,6 +2,7 @@ ghost use Rattle.std.specs.Prelude.{◌≡◌, ◌∷◌, [], None, true, IfOk};
 ghost use Rattle.std.specs.List.{flat_map};
 ghost use Rattle.xml_events.specs.Document.{doc};
 ghost use Rattle.xml_events.specs.Run.{IsDrained, Tells, stop_of};
+ghost use Rattle.xml_events.specs.Source.{source};
 ghost use Rattle.xml_events.specs.Telling.{events_of, stop_in};
 
 use crate::event::{Event, Pull};
@@ -25,15 +26,23 @@ pub fn read(alloc: Global, limits: Limits, strip: bool, pieces: &[Vec<u8>]) -> R
     ensures ending { IfOk result (λ run. stop_in (doc limits strip (flat_map (λ piece. piece.items) pieces.now) true) ≡ stop_of run.ending) }
 {
     let mut reader = EventReader::new(alloc, limits, strip);
+    read_pieces(alloc, &mut reader, pieces)
+}
+
+/// The same of a reader that read nothing yet.
+fn read_pieces(alloc: Global, reader: &mut EventReader, pieces: &[Vec<u8>]) -> Result<Run, Memory>
+    requires { reader.old ≡ source reader.old.limits reader.old.strip }
+    ensures { IfOk result (λ run. Tells (doc reader.old.limits reader.old.strip (flat_map (λ piece. piece.items) pieces.now) true ∷ []) run.events run.ending) }
+{
     let mut events = List::new(alloc);
     for piece in pieces {
         reader.feed(piece)?;
-        if let Some(ending) = drain(&mut reader, &mut events)? {
+        if let Some(ending) = drain(reader, &mut events)? {
             return Ok(Run { events, ending });
         }
     }
     reader.finish();
-    match drain(&mut reader, &mut events)? {
+    match drain(reader, &mut events)? {
         Some(ending) => Ok(Run { events, ending }),
         None => unreachable!(),
     }

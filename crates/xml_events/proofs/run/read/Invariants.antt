@@ -1,7 +1,0 @@
-use Rattle.std.proofs.Common.{take}
-use Rattle.std.specs.List.{flat_map}
-use Rattle.xml_events.proofs.Running.{IsRead}
-use Rattle.xml_events.proofs.run.read.Given as goal
-
-abbrev pub invariant-loop-piece : goal.invariant-loop-piece
-invariant-loop-piece l = IsRead l.fn.limits l.fn.strip (flat_map (λ piece. piece.items) (take l.piece-index l.pieces)) l.events l.reader
