@@ -8,10 +8,7 @@ ghost use Rattle.result_writer.specs.Allowed as spec;
 ghost use Rattle.result_writer.specs.Allowed.{has_pair, ends_in, is_good_attribute, is_good_comment, is_good_data, is_good_target, are_chars};
 
 use crate::words::{agree, is_empty, is_word};
-use stx_base::{Name, Text, is_char, is_ncname};
-
-/// From so many bytes on it pays to compare them many at a time.
-const MANY: usize = 32;
+use stx_base::{Name, Text, are_ascii_chars, is_char, is_ncname};
 
 const XML_URI: &'static str = "http://www.w3.org/XML/1998/namespace";
 
@@ -62,35 +59,6 @@ fn holds_chars(text: &str) -> bool
     ensures { result ≡ list_all is_char (chars text.now) }
 {
     are_ascii_chars(text.as_bytes()) || text.chars().all(|c| is_char(c))
-}
-
-fn are_ascii_chars(bytes: &[u8]) -> bool
-    ensures { result ≡ list_all (λ b. nat_lt b 128 && is_char b) bytes.now }
-{
-    if bytes.len() < MANY {
-        bytes.iter().all(|b| is_ascii_char(*b))
-    } else {
-        are_many_ascii_chars(bytes)
-    }
-}
-
-fn are_many_ascii_chars(bytes: &[u8]) -> bool
-    ensures { result ≡ list_all (λ b. nat_lt b 128 && is_char b) bytes.now }
-{
-    // No byte ends the loop, so that many bytes are compared at once.
-    let mut chars = true;
-    for b in bytes {
-        chars = chars & is_ascii_char(*b);
-    }
-    chars
-}
-
-fn is_ascii_char(byte: u8) -> bool
-    ensures { result ≡ (nat_lt byte 128 && is_char byte) }
-{
-    // One value without branches, as bytes that are compared together need it.
-    let is_space = (byte == b'\t') | (byte == b'\n') | (byte == b'\r');
-    ((byte >= b' ') & (byte < 0x80)) | is_space
 }
 
 fn has_pair(bytes: &[u8], first: u8, second: u8) -> bool

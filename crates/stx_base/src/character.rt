@@ -4,6 +4,9 @@ ghost use Rattle.std.specs.Option.{option_map_or};
 ghost use Rattle.std.specs.Str.{chars};
 ghost use Rattle.stx_base.specs.Character as class;
 
+// From so many bytes on a loop over all of them is faster than one that ends early.
+const MANY: usize = 32;
+
 /// Whether `c` is a Char (XML 1.0, 2.2).
 #[inline]
 pub fn is_char(c: char) -> bool
@@ -15,6 +18,38 @@ pub fn is_char(c: char) -> bool
     )
 }
 
+/// Whether each byte is an ASCII character and a Char (XML 1.0, 2.2).
+pub fn are_ascii_chars(bytes: &[u8]) -> bool
+    ensures { result ≡ list_all (λ b. nat_lt b 128 && class.is_char b) bytes.now }
+{
+    if bytes.len() < MANY {
+        bytes.iter().all(|b| is_ascii_char(*b))
+    } else {
+        are_many_ascii_chars(bytes)
+    }
+}
+
+fn are_many_ascii_chars(bytes: &[u8]) -> bool
+    ensures { result ≡ list_all (λ b. nat_lt b 128 && class.is_char b) bytes.now }
+{
+    // No byte ends the loop, so that many bytes are compared at once.
+    let mut chars = true;
+    for b in bytes {
+        chars = chars & is_ascii_char(*b);
+    }
+    chars
+}
+
+/// Whether a byte is an ASCII character and a Char (XML 1.0, 2.2).
+#[inline(always)]
+pub fn is_ascii_char(byte: u8) -> bool
+    ensures { result ≡ (nat_lt byte 128 && class.is_char byte) }
+{
+    // One value without branches, as bytes that are compared together need it.
+    let is_space = (byte == b'\t') | (byte == b'\n') | (byte == b'\r');
+    ((byte >= b' ') & (byte < 0x80)) | is_space
+}
+
 /// Whether `c` is white space, S (XML 1.0, 2.3).
 #[inline]
 pub fn is_space(c: char) -> bool
@@ -24,7 +59,7 @@ pub fn is_space(c: char) -> bool
 }
 
 /// Whether `c` is a NameStartChar (XML 1.0, 2.3).
-#[inline]
+#[inline(always)]
 pub fn is_name_start(c: char) -> bool
     ensures { result ≡ class.is_name_start c }
 {
@@ -58,7 +93,7 @@ fn is_wide_name_start(c: char) -> bool
 }
 
 /// Whether `c` is a NameChar (XML 1.0, 2.3).
-#[inline]
+#[inline(always)]
 pub fn is_name_char(c: char) -> bool
     ensures { result ≡ class.is_name_char c }
 {

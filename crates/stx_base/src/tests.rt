@@ -125,6 +125,20 @@ fn ascii_bytes_of_names(rt: HostRuntime) {
 }
 
 #[test]
+fn ascii_chars(rt: HostRuntime) {
+    for byte in 0..=255u8 {
+        let wanted = byte < 128 && is_char(char::from(byte));
+        assert_eq!(rt; is_ascii_char(byte), wanted, "{byte}");
+        // Few bytes are compared one by one, and many at once.
+        let mut many = [b'a'; 40];
+        many[39] = byte;
+        assert_eq!(rt; are_ascii_chars(&many), wanted, "{byte}");
+        assert_eq!(rt; are_ascii_chars(&many[32..]), wanted, "{byte}");
+    }
+    assert!(rt; are_ascii_chars(b""));
+}
+
+#[test]
 fn names_without_colon(rt: HostRuntime) {
     for (text, wanted) in [
         ("", false),

@@ -17,10 +17,7 @@ use crate::scan::has_word;
 use crate::tag::{after_space, tag};
 use crate::text::{BadText, Context, lines_of, said, text_of};
 use std::alloc::Global;
-use stx_base::{Memory, XmlKind, is_char, is_ncname, is_space};
-
-/// From so many bytes on it pays to compare them many at a time.
-const MANY: usize = 32;
+use stx_base::{Memory, XmlKind, are_ascii_chars, is_char, is_ncname, is_space};
 
 /// Why a whole shape says nothing.
 #[derive(Clone, Copy, Debug, PartialEq, Eq)]
@@ -114,35 +111,6 @@ fn char_fault(bytes: &[u8]) -> Option<XmlKind>
         Ok(_) => Some(XmlKind::BadChar),
         Err(_) => Some(XmlKind::BadUtf8),
     }
-}
-
-/// Whether each byte is a Char of ASCII.
-fn are_ascii_chars(bytes: &[u8]) -> bool
-    ensures { result ≡ list_all (λ b. nat_lt b 128 && class.is_char b) bytes.now }
-{
-    if bytes.len() < MANY {
-        bytes.iter().all(|b| is_ascii_char(*b))
-    } else {
-        are_many_ascii_chars(bytes)
-    }
-}
-
-fn are_many_ascii_chars(bytes: &[u8]) -> bool
-    ensures { result ≡ list_all (λ b. nat_lt b 128 && class.is_char b) bytes.now }
-{
-    // No byte ends the loop, so that many bytes are compared at once.
-    let mut chars = true;
-    for b in bytes {
-        chars = chars & is_ascii_char(*b);
-    }
-    chars
-}
-
-fn is_ascii_char(byte: u8) -> bool
-    ensures { result ≡ (nat_lt byte 128 && class.is_char byte) }
-{
-    // The branches of a `match` on ranges would keep a loop over this from comparing many bytes at once.
-    byte >= b' ' && byte < 0x80 || byte == b'\n' || byte == b'\t' || byte == b'\r'
 }
 
 fn are_chars(text: &str) -> bool

@@ -1,7 +1,7 @@
 use Rattle.std.proofs.Common.{◌≡◌, ◌&&◌, nat_lt, take}
 use Rattle.std.specs.List.{list_all}
 use Rattle.stx_base.specs.Character.{is_char}
-use Rattle.result_writer.proofs.allowed.are_many_ascii_chars.Given as goal
+use Rattle.stx_base.proofs.character.are_many_ascii_chars.Given as goal
 
 -- those so far
 abbrev pub invariant-loop-b : goal.invariant-loop-b

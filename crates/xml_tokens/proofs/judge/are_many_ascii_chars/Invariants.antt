@@ -1,7 +1,0 @@
-use Rattle.std.proofs.Common.{◌≡◌, ◌&&◌, nat_lt, take}
-use Rattle.std.specs.List.{list_all}
-use Rattle.stx_base.specs.Character.{is_char}
-use Rattle.xml_tokens.proofs.judge.are_many_ascii_chars.Given as goal
-
-abbrev pub invariant-loop-b : goal.invariant-loop-b
-invariant-loop-b l = l.chars ≡ list_all (λ b. nat_lt b 128 && is_char b) (take l.b-index l.bytes)
