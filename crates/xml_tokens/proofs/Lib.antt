@@ -39,3 +39,4 @@ pub mod ShapeSpelling
 pub mod AloneLemmas
 pub mod SayableLemmas
 pub mod SimpleLemmas
+pub mod PlainTagLemmas

@@ -6,6 +6,7 @@ use Rattle.std.proofs.lemmas.Bool.Decides.{nat_tests}
 use Rattle.std.proofs.lemmas.Str.{chars-IsAscii, IsUtf8-from_ascii}
 use Rattle.stx_base.specs.Character.{is_char, is_name, is_name_char, is_name_start, is_space}
 use Rattle.stx_base.specs.declared.fault.XmlKind.TheVariants as kind
+use Rattle.xml_tokens.specs.PlainTags.{is_low_char}
 use Rattle.xml_tokens.specs.Places.{begins, first_word}
 use Rattle.xml_tokens.specs.Shape.{form}
 use Rattle.xml_tokens.specs.Texts.{said, is_ampersand}
@@ -18,13 +19,10 @@ use Rattle.xml_tokens.proofs.ListLemmas.{all-none, two}
 use Rattle.xml_tokens.proofs.LiteralLemmas.{literal-said}
 use Rattle.xml_tokens.proofs.JudgedLemmas.{judged-by_form}
 
-abbrev pub is_low_char : ℕ → Bool
-is_low_char b = nat_lt b 128 && is_char b
-
 less : {n m : ℕ} → nat_lt n m ≡ true → n < m
 less {n} {m} h = grind (arith, nat_tests)
 
-all-both : (p q : ℕ → Bool) (bytes : List ℕ) → list_all (λ b. p b && q b) bytes ≡ true → (list_all p bytes ≡ true) × (list_all q bytes ≡ true)
+pub all-both : (p q : ℕ → Bool) (bytes : List ℕ) → list_all (λ b. p b && q b) bytes ≡ true → (list_all p bytes ≡ true) × (list_all q bytes ≡ true)
 all-both p q [] h = (refl, refl)
 all-both p q (b ∷ bs) h =
     let outer = two (p b && q b) (list_all (λ b. p b && q b) bs) h in

@@ -24,14 +24,15 @@ use Rattle.xml_tokens.proofs.AttributeLemmas.{after_byte-same, some_if}
 use Rattle.xml_tokens.proofs.LexemeSpelling.{lexemes-read, text-form}
 use Rattle.xml_tokens.proofs.ListLemmas.{all-none, prefix-all, two}
 use Rattle.xml_tokens.proofs.NameLemmas.{one-more}
-use Rattle.xml_tokens.proofs.PlainLemmas.{ascii-name, is_low_char, low-chars, low-utf8, others, plain-judged}
+use Rattle.xml_tokens.specs.PlainTags.{is_low_char}
+use Rattle.xml_tokens.proofs.PlainLemmas.{ascii-name, low-chars, low-utf8, others, plain-judged}
 use Rattle.xml_tokens.proofs.ShapeSpelling.{lexemes-cut, text-shape}
 use Rattle.xml_tokens.proofs.TagSpelling.{name_char-char}
 
-both_true : (s t : Bool) → s ≡ true → t ≡ true → (s && t) ≡ true
+pub both_true : (s t : Bool) → s ≡ true → t ≡ true → (s && t) ≡ true
 both_true s t x y = rw (x, y) refl
 
-name-low : (name : List ℕ) → list_all is_ascii_name_byte name ≡ true → list_all is_low_char name ≡ true
+pub name-low : (name : List ℕ) → list_all is_ascii_name_byte name ≡ true → list_all is_low_char name ≡ true
 name-low [] h = refl
 name-low (b ∷ bs) h =
     let parts = two (is_ascii_name_byte b) (list_all is_ascii_name_byte bs) h in
@@ -81,7 +82,7 @@ simple-judged (End name) is first =
     lexemes-read first (body.End (chars name.now)) bytes (low-utf8 bytes low) (low-chars bytes low) (spells-end name.now is first)
 simple-judged (Text text) is first = plain-judged text.now is first
 
-take-front : (front more : List ℕ) → take (length front) (front ++ more) ≡ front
+pub take-front : (front more : List ℕ) → take (length front) (front ++ more) ≡ front
 take-front [] more = refl
 take-front (b ∷ bs) more = ap (λ l. b ∷ l) (take-front bs more)
 
@@ -145,7 +146,7 @@ text-found n bytes text rest more some front back e =
       positive : (m : ℕ) → 0 < m → nat_lt 0 m ≡ true
       positive m h = grind (arith, nat_tests)
 
-not_less : (n m : ℕ) → n ≤ m → nat_lt m n ≡ false
+pub not_less : (n m : ℕ) → n ≤ m → nat_lt m n ≡ false
 not_less n m h = grind (arith, nat_tests)
 
 -- what is due at it, where it isn't too long

@@ -1,3 +1,4 @@
+pub mod PlainTags
 pub mod Places
 pub mod Shape
 pub mod Cuts

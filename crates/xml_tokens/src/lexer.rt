@@ -1,6 +1,7 @@
-ghost use Rattle.std.specs.Prelude.{◌≡◌, Bool, ◌+◌, ◌-◌, ◌++◌, ◌≤◌, ◌<◌, ◌^◌, min, false, true, not, ◌&&◌, if◌then◌else◌, length, take, drop, vec_len, IfSome, OnOk, OnErr};
+ghost use Rattle.std.specs.Prelude.{◌≡◌, ℕ, Bool, List, ◌+◌, ◌-◌, ◌++◌, ◌≤◌, ◌<◌, ◌^◌, min, false, true, not, ◌&&◌, if◌then◌else◌, length, take, drop, vec_len, IfOk, IfSome, OnOk, OnErr};
 ghost use Rattle.xml_tokens.specs.Reader as spec;
 ghost use Rattle.xml_tokens.specs.Reader.{after, begun, fed, mark_len_of, is_undecided_at, IsAnswer, MayWant, Shrinks};
+ghost use Rattle.xml_tokens.specs.PlainTags.{BeginsWithTag, SpellsPlainTag};
 ghost use Rattle.xml_tokens.specs.Simple.{bytes_of, BeginsWith, IsSimple};
 ghost use Rattle.xml_tokens.specs.Look.{begun_scan, reader, rest_ending, GoesOn, IsDue, IsShapeDue};
 
@@ -8,6 +9,7 @@ use crate::cut::{head, tail};
 use crate::form::{Form, begins, form_of, is_part};
 use crate::judge::{Unread, judge};
 use crate::lexeme::{Body, Ending, Lexeme, Step};
+use crate::plain_tag::{PlainTag, plain_tag};
 use crate::scan::{Found, Scan, search};
 use crate::simple::{Simple, first_simple};
 use std::alloc::Global;
@@ -179,6 +181,11 @@ fn look(alloc: Global, limits: &Limits, unread: &[u8], offset: u64, ended: bool,
     if let Some(simple) = unsearched(scan, bytes) {
         return at_simple(alloc, limits, simple, at, mark);
     }
+    match unsearched_tag(alloc, scan, bytes) {
+        Ok(None) => {}
+        Ok(Some(tag)) => return at_tag(limits, tag, at, mark),
+        Err(Memory) => return Due::Over(Ending::Memory),
+    }
     let last = is_last(ended, cut);
     match search(bytes, last, scan) {
         Found::Whole(len) => at_shape(alloc, limits, head(bytes, len), offset == 0, at, mark),
@@ -201,6 +208,18 @@ fn unsearched(scan: Scan, bytes: &[u8]) -> Option<Simple<'_>>
         first_simple(bytes)
     } else {
         None
+    }
+}
+
+/// The same of a start tag with attributes.
+#[inline(always)]
+fn unsearched_tag(alloc: Global, scan: Scan, bytes: &[u8]) -> Result<Option<PlainTag>, Memory>
+    ensures { IfOk result (λ found. IfSome found (λ tag. BeginsWithTag tag bytes.now)) }
+{
+    if scan.searched == 0 {
+        plain_tag(alloc, bytes)
+    } else {
+        Ok(None)
     }
 }
 
@@ -233,6 +252,22 @@ fn at_simple(alloc: Global, limits: &Limits, simple: Simple<'_>, at: u64, mark: 
         Ok(body) => Due::Lexeme(body, at, mark + len),
         Err(Memory) => Due::Over(Ending::Memory),
     }
+}
+
+/// What a start tag behind a byte order mark of `mark` bytes gives.
+fn at_tag(limits: &Limits, tag: PlainTag, at: u64, mark: usize) -> Due
+    requires { mark + tag.len < 2 ^ 64 }
+    ensures { (first : Bool) (bytes : List ℕ) → SpellsPlainTag tag bytes → IsShapeDue limits.now first bytes at mark result }
+{
+    if tag.len as u64 > limits.lexeme {
+        return Due::Over(bad(XmlKind::LexemeTooLong, at));
+    }
+    let body = Body::Start {
+        name: tag.name,
+        attrs: tag.attrs,
+        empty: tag.empty,
+    };
+    Due::Lexeme(body, at, mark + tag.len)
 }
 
 /// What `len` bytes of a lexeme that isn't whole give; `None` where more bytes must come.

@@ -7,6 +7,7 @@ mod judge;
 pub mod laws;
 mod lexeme;
 mod lexer;
+mod plain_tag;
 mod prolog;
 mod run;
 mod scan;

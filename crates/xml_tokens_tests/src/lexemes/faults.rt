@@ -248,7 +248,7 @@ pub static TRUNCATED: [(&[u8], &str); 40] = [
 ];
 
 /// The limits on bytes of a lexeme and of the document, and what is read within them.
-pub static LIMITED: [(u64, u64, &[u8], &str); 35] = [
+pub static LIMITED: [(u64, u64, &[u8], &str); 39] = [
     (4, 99, b"<ab>", "0<ab> end"),
     (4, 99, b"<abc>", "LexemeTooLong at 0"),
     (4, 99, b"abcd", "0[abcd] end"),
@@ -260,6 +260,10 @@ pub static LIMITED: [(u64, u64, &[u8], &str); 35] = [
     (4, 99, b"\xC3\xA9\xC3\xA9a", "LexemeTooLong at 0"),
     (4, 99, b"\xEF\xBB\xBF<ab>", "3<ab> end"),
     (4, 99, b"\xEF\xBB\xBF<abc>", "LexemeTooLong at 3"),
+    (11, 99, b"<a b=\"123\">", "0<a b='123'> end"),
+    (10, 99, b"<a b=\"123\">", "LexemeTooLong at 0"),
+    (99, 10, b"<a b=\"123\">", "InputTooLong at 10"),
+    (11, 99, b"\xEF\xBB\xBF<a b=\"123\">", "3<a b='123'> end"),
     (4, 99, b"&lt;", "0[<] end"),
     (4, 99, b"&amp;", "LexemeTooLong at 0"),
     (7, 99, b"<!---->", "0comment[] end"),

@@ -1,7 +1,7 @@
 //! Tags, comments, CDATA sections, instructions, document type declarations and XML declarations.
 
 /// Tags and their lexemes (XML 1.0, 3.1).
-pub static TAGS: [(&str, &str); 44] = [
+pub static TAGS: [(&str, &str); 58] = [
     ("<a>", "0<a> end"),
     ("<a/>", "0<a/> end"),
     ("<a >", "0<a> end"),
@@ -47,10 +47,31 @@ pub static TAGS: [(&str, &str); 44] = [
     ("<a><b>x</b>y</a>", "0<a> 3<b> 6[x] 7</b> 11[y] 12</a> end"),
     ("</a></b>", "0</a> 4</b> end"),
     ("<é/>é<a/>", "0<é/> 5[é] 7<a/> end"),
+    // As most are written, and then almost so.
+    (
+        "<a b=\"1\" c=\"\" d=\"x y\">",
+        "0<a b='1' c='' d='x y'> end",
+    ),
+    ("<a b=\"1\" c=\"2\"/><d>", "0<a b='1' c='2'/> 16<d> end"),
+    (
+        "<a:b c:d=\"'>/=\">x</a:b>",
+        "0<a:b c:d=''>/='> 16[x] 17</a:b> end",
+    ),
+    ("<a b=\"1\" c='2'>", "0<a b='1' c='2'> end"),
+    ("<a b=\"1\"  c=\"2\">", "0<a b='1' c='2'> end"),
+    ("<a b=\"1\" c =\"2\">", "0<a b='1' c='2'> end"),
+    ("<a b=\"1\" c= \"2\">", "0<a b='1' c='2'> end"),
+    ("<a b=\"1\" c=\"2\" />", "0<a b='1' c='2'/> end"),
+    ("<a b=\"1\" c=\"2\" >", "0<a b='1' c='2'> end"),
+    ("<a b=\"1\" c=\"&#50;\">", "0<a b='1' c='2'> end"),
+    ("<a b=\"1\" c=\"2\t3\">", "0<a b='1' c='2 3'> end"),
+    ("<a b=\"1\" c=\"2\r\n3\n\">", "0<a b='1' c='2 3 '> end"),
+    ("<a b=\"1\" ü=\"ö\">", "0<a b='1' ü='ö'> end"),
+    ("<aü b=\"1\">", "0<aü b='1'> end"),
 ];
 
 /// What begins as a tag and is none.
-pub static BAD_TAGS: [&str; 80] = [
+pub static BAD_TAGS: [&str; 89] = [
     "<>",
     "</>",
     "</ >",
@@ -131,6 +152,15 @@ pub static BAD_TAGS: [&str; 80] = [
     "<a\u{A0}b='1'>",
     "<a\u{3000}/>",
     "<a b='1'\u{85}/>",
+    "<a b=\"1\"c=\"2\">",
+    "<a b=\"1\" c=\"<\">",
+    "<a b=\"1\" c>",
+    "<a b=\"1\" c=>",
+    "<a b=\"1\" =\"2\">",
+    "<a b=\"1\" 2=\"2\">",
+    "<a b=\"1\"\"2\">",
+    "<a b=\"1\"/ >",
+    "<1 b=\"1\">",
 ];
 
 /// Comments (XML 1.0, 2.5).

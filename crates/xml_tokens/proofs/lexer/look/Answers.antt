@@ -1,9 +1,11 @@
-use Rattle.std.proofs.Common.{◌≡◌, ap, ◌∙◌, ◌==◌, drop, length, refl}
+use Rattle.std.proofs.Common.{◌≡◌, ap, ◌∙◌, ◌==◌, drop, length, refl, subst, IfSome}
 use Rattle.xml_tokens.specs.Reader.{coming, is_last, seen, mark_len, mark_len_of}
 use Rattle.xml_tokens.specs.Look.{reader}
+use Rattle.xml_tokens.specs.PlainTags.{BeginsWithTag}
 use Rattle.xml_tokens.specs.Simple.{bytes_of}
 use Rattle.xml_tokens.proofs.WholeLemmas.{whole-within}
 use Rattle.xml_tokens.proofs.ReaderLemmas.{look-whole, look-over, look-need}
+use Rattle.xml_tokens.proofs.PlainTagLemmas.{tag-front, tag-shape}
 use Rattle.xml_tokens.proofs.SimpleLemmas.{simple-front, simple-shape}
 use Rattle.xml_tokens.proofs.lexer.look.Goals as goal
 
@@ -19,6 +21,18 @@ returns-in-Some c =
     let front = simple-front simple c.tail-bytes.result.now c.in-Some.ensures in
     look-whole c.args.limits.now c.args.unread.now c.args.offset c.args.ended (is_last r) c.mark_len-mark.result c.tail-bytes.result.now refl e_mark e_bytes
     (length (bytes_of simple)) (bytes_of simple) c.at_simple.result front.0 front.1 (simple-shape simple c.tail-bytes.result.now c.in-Some.ensures (is_last r)) (c.at_simple.ensures (c.args.offset == 0))
+
+pub returns-in-Ok-Some : goal.returns-in-Ok-Some
+returns-in-Ok-Some c =
+    let r = reader c.args.limits.now c.args.unread.now c.args.offset c.args.ended in
+    let e_mark : c.mark_len-mark.result ≡ mark_len r = c.mark_len-mark.ensures.value ∙ ap (mark_len_of c.args.offset) c.front-seen.ensures in
+    let e_bytes : c.tail-bytes.result.now ≡ coming r = c.tail-bytes.ensures ∙ (ap (drop c.mark_len-mark.result) c.front-seen.ensures ∙ ap (λ n. drop n (seen r)) e_mark) in
+    let bytes = c.tail-bytes.result.now in
+    let tag = c.in-Ok-Some.tag in
+    let found = subst (λ o. IfSome o (λ tag. BeginsWithTag tag bytes)) c.in-Ok-Some.field-0-is c.in-Ok-Some.ensures in
+    let front = tag-front tag found.0 found.1 bytes found.2 found.3 in
+    look-whole c.args.limits.now c.args.unread.now c.args.offset c.args.ended (is_last r) c.mark_len-mark.result bytes refl e_mark e_bytes
+    (length found.0) found.0 c.at_tag.result front.0 front.1 (tag-shape tag found.0 found.1 bytes found.2 found.3 (is_last r)) (c.at_tag.ensures (c.args.offset == 0) found.0 found.2)
 
 pub returns-in-Whole : goal.returns-in-Whole
 returns-in-Whole c =
