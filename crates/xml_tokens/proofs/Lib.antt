@@ -40,3 +40,4 @@ pub mod AloneLemmas
 pub mod SayableLemmas
 pub mod SimpleLemmas
 pub mod PlainTagLemmas
+pub mod EndLemmas

@@ -1,8 +1,8 @@
 -- What a look at the unread bytes gives.
-use Rattle.std.specs.Prelude.{◌≡◌, ◌⊎◌, ℕ, ◌+◌, ◌≤◌, Bool, false, not, ◌&&◌, ◌==◌, nat_lt, List, Option, Some, None, length, if◌then◌else◌}
+use Rattle.std.specs.Prelude.{◌≡◌, ◌⊎◌, ℕ, ◌+◌, ◌≤◌, Bool, false, not, ◌&&◌, ◌==◌, nat_lt, List, Option, Some, None, length, drop, if◌then◌else◌}
 use Rattle.stx_base.specs.declared.limits.Limits.{Limits}
 use Rattle.stx_base.specs.declared.fault.XmlKind.TheVariants.{LexemeTooLong, Truncated, InputTooLong}
-use Rattle.xml_tokens.specs.Reader.{Reader, mark, seen, coming, size, bad, due, at_shape, step_of}
+use Rattle.xml_tokens.specs.Reader.{Reader, mark, seen, coming, size, bad, due, after, at_shape, end_at, step_of}
 use Rattle.xml_tokens.specs.Resume.{AlwaysResumes}
 use Rattle.xml_tokens.specs.Places.{is_part}
 use Rattle.xml_tokens.specs.declared.lexeme.Ending.{Ending}
@@ -52,3 +52,11 @@ IsDue r (look.Lexeme body offset len) =
 IsDue r (look.Wait scan) = (due r ≡ step.Need) × GoesOn scan r
 IsDue r (look.Over ending.Memory) = Unit {0}
 IsDue r (look.Over over) = due r ≡ step_of over
+
+-- so many bytes are read
+abbrev pub passed : (len : ℕ) → Reader → Reader
+passed len r = record r { unread = drop len r.unread; offset = r.offset + len }
+
+-- the end tag of a name is due at a place, and the reader goes on behind it
+abbrev pub TakesEnd : (old : Reader) → (offset : ℕ) → (name : List ℕ) → (new : Reader) → Type 0
+TakesEnd old offset name new = (end_at offset name ≡ due old) × (new ≡ after old (end_at offset name))

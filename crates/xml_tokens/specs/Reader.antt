@@ -9,6 +9,7 @@ use Rattle.stx_base.specs.declared.fault.XmlKind.TheVariants.{LexemeTooLong, Tru
 use Rattle.xml_tokens.specs.declared.form.Form.{Form}
 use Rattle.xml_tokens.specs.declared.form.Form.TheVariants.{Undecided}
 use Rattle.xml_tokens.specs.declared.lexeme.Body.{Body}
+use Rattle.xml_tokens.specs.declared.lexeme.Body.TheVariants as body
 use Rattle.xml_tokens.specs.declared.lexeme.Ending.{Ending}
 use Rattle.xml_tokens.specs.declared.lexeme.Ending.TheVariants as ending
 use Rattle.xml_tokens.specs.declared.lexeme.Step.{Step}
@@ -137,6 +138,10 @@ after r step.Need = r
 after r step.End = record r { over = Some ending.End }
 after r (step.Bad fault) = record r { over = Some (ending.Bad fault) }
 after r step.Memory = record r { over = Some ending.Memory }
+
+-- the end tag of a name at a place
+abbrev pub end_at : (offset : ℕ) → (name : List ℕ) → Step
+end_at offset name = step.Lexeme (record { offset = offset; body = body.End name })
 
 -- an answer is what is due, or want of memory where no answer is repeated yet
 abbrev pub IsAnswer : Reader → Step → Type 0

@@ -10,6 +10,10 @@ use Rattle.xml_tokens.specs.declared.lexeme.Body.TheVariants as body
 use Rattle.xml_tokens.specs.declared.simple.Simple.{Simple}
 use Rattle.xml_tokens.specs.declared.simple.Simple.TheVariants.{Start, End, Text}
 
+-- the end tag of a name, without white space
+abbrev pub end_of : (name : List ℕ) → List ℕ
+end_of name = 60 ∷ 47 ∷ (name ++ 62 ∷ [])
+
 -- the bytes that it takes
 abbrev pub bytes_of : Simple → List ℕ
 bytes_of (Start name) = 60 ∷ (name.now ++ 62 ∷ [])

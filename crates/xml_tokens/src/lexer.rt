@@ -1,9 +1,11 @@
-ghost use Rattle.std.specs.Prelude.{◌≡◌, ℕ, Bool, List, ◌+◌, ◌-◌, ◌++◌, ◌≤◌, ◌<◌, ◌^◌, min, false, true, not, ◌&&◌, if◌then◌else◌, length, take, drop, vec_len, IfOk, IfSome, OnOk, OnErr};
+ghost use Rattle.std.specs.Prelude.{◌≡◌, ℕ, Bool, List, ◌+◌, ◌-◌, ◌++◌, ◌≤◌, ◌<◌, ◌^◌, min, false, true, not, ◌&&◌, if◌then◌else◌, length, take, drop, vec_len, None, IfOk, IfSome, IsUtf8, OnOk, OnErr};
+ghost use Rattle.std.specs.Str.{chars};
+ghost use Rattle.stx_base.specs.Character.{is_name};
 ghost use Rattle.xml_tokens.specs.Reader as spec;
-ghost use Rattle.xml_tokens.specs.Reader.{after, begun, fed, mark_len_of, is_undecided_at, IsAnswer, MayWant, Shrinks};
+ghost use Rattle.xml_tokens.specs.Reader.{after, begun, end_at, fed, mark_len_of, is_undecided_at, IsAnswer, MayWant, Shrinks};
 ghost use Rattle.xml_tokens.specs.PlainTags.{BeginsWithTag, SpellsPlainTag};
 ghost use Rattle.xml_tokens.specs.Simple.{bytes_of, BeginsWith, IsSimple};
-ghost use Rattle.xml_tokens.specs.Look.{begun_scan, reader, rest_ending, GoesOn, IsDue, IsShapeDue};
+ghost use Rattle.xml_tokens.specs.Look.{begun_scan, reader, passed, rest_ending, TakesEnd, GoesOn, IsDue, IsShapeDue};
 
 use crate::cut::{head, tail};
 use crate::form::{Form, begins, form_of, is_part};
@@ -11,7 +13,7 @@ use crate::judge::{Unread, judge};
 use crate::lexeme::{Body, Ending, Lexeme, Step};
 use crate::plain_tag::{PlainTag, plain_tag};
 use crate::scan::{Found, Scan, search};
-use crate::simple::{Simple, first_simple};
+use crate::simple::{Simple, after_end_of, first_simple};
 use std::alloc::Global;
 use std::marker::Model;
 use stx_base::{Limits, Memory, XmlFault, XmlKind};
@@ -106,6 +108,62 @@ impl Lexer {
         self.advance()
     }
 
+    /// Takes the end tag of a name, where that is the next lexeme; says where it begins. It allocates nothing, and leaves
+    /// to `next` each other lexeme, a tag with white space, and one that came in pieces.
+    #[inline]
+    pub fn take_end(&mut self, name: &str) -> Option<u64>
+        requires { is_name (chars name.now) ≡ true }
+        ensures answer { IfSome result (λ offset. IsAnswer self.old (end_at offset (chars name.now))) }
+        ensures after { IfSome result (λ offset. self.new ≡ after self.old (end_at offset (chars name.now))) }
+        ensures none { result ≡ None → self.new ≡ self.old }
+        ensures ended { self.new.ended ≡ self.old.ended }
+        ensures shrinks { IfSome result (λ offset. length self.new.unread < length self.old.unread) }
+        ensures fed { fed self.new ≡ fed self.old }
+        ensures limits { self.new.limits ≡ self.old.limits }
+    {
+        self.take_end_of(name.as_bytes())
+    }
+
+    #[inline]
+    fn take_end_of(&mut self, name: &[u8]) -> Option<u64>
+        requires utf8 { IsUtf8 name.now }
+        requires name { is_name (chars name.now) ≡ true }
+        ensures taken { IfSome result (λ offset. TakesEnd self.old offset (chars name.now) self.new) }
+        ensures none { result ≡ None → self.new ≡ self.old }
+    {
+        if self.over.is_some() || self.scan.searched > 0 {
+            return None;
+        }
+        let _ = after_end_of(name, tail(&self.buffer, self.start))?;
+        let size = name.len() + 3;
+        if size as u64 > self.room() {
+            return None;
+        }
+        let offset = self.offset;
+        self.pass(size);
+        Some(offset)
+    }
+
+    /// How long a lexeme may be that begins here.
+    fn room(&self) -> u64
+        ensures { result ≡ min (self.now.limits.input - self.now.offset) self.now.limits.lexeme }
+    {
+        (self.limits.input - self.offset).min(self.limits.lexeme)
+    }
+
+    /// Goes on behind a lexeme and a byte order mark of so many bytes.
+    #[inline]
+    fn pass(&mut self, size: usize)
+        requires unread { size ≤ length self.old.unread }
+        requires input { self.old.offset + size ≤ self.old.limits.input }
+        ensures { self.new ≡ passed size self.old }
+    {
+        let kept = let_go(&mut self.buffer, self.start + size);
+        self.start = kept;
+        self.offset += size as u64;
+        self.scan = Scan::START;
+    }
+
     fn advance(&mut self) -> Step
         ensures within { self.old.offset ≤ self.old.limits.input }
         ensures answer { IsAnswer self.old result }
@@ -125,10 +183,7 @@ impl Lexer {
         );
         match due {
             Due::Lexeme(body, offset, size) => {
-                let kept = let_go(&mut self.buffer, self.start + size);
-                self.start = kept;
-                self.offset += size as u64;
-                self.scan = Scan::START;
+                self.pass(size);
                 Step::Lexeme(Lexeme { offset, body })
             }
             Due::Wait(scan) => {

@@ -1,10 +1,11 @@
 //! Lexemes that one look at their bytes shows whole and without fault, as most are.
-ghost use Rattle.std.specs.Prelude.{◌≡◌, ◌≤◌, ◌<◌, ◌^◌, ◌∷◌, true, length, IfOk, IfSome};
+ghost use Rattle.std.specs.Prelude.{◌≡◌, ◌≤◌, ◌<◌, ◌^◌, ◌∷◌, ◌++◌, true, length, IfOk, IfSome};
 ghost use Rattle.std.specs.List.{prefix_len};
 ghost use Rattle.xml_tokens.specs.Spans as span;
-ghost use Rattle.xml_tokens.specs.Simple.{body_of, bytes_of, BeginsWith, IsBareName, IsBefore, IsSimple};
+ghost use Rattle.xml_tokens.specs.Simple.{body_of, bytes_of, end_of, BeginsWith, IsBareName, IsBefore, IsSimple};
 
 use crate::cut::head;
+use crate::form::is_word;
 use crate::judge::{is_blank, is_plain_byte};
 use crate::lexeme::Body;
 use crate::tag::{after_byte, ascii_name_len, ascii_named};
@@ -83,6 +84,25 @@ fn bare_tag(inside: &[u8]) -> Option<Simple<'_>>
     match after_byte(b'/', inside) {
         Some(rest) => Some(Simple::End(bare_name(rest)?)),
         None => Some(Simple::Start(bare_name(inside)?)),
+    }
+}
+
+/// What follows the end tag of a name, where the bytes begin with that and no white space stands in it.
+#[inline]
+pub fn after_end_of<'b>(name: &[u8], bytes: &'b [u8]) -> Option<&'b [u8]>
+    ensures { IfSome result (λ rest. bytes.now ≡ end_of name.now ++ rest.now) }
+{
+    let inside = after_byte(b'<', bytes)?;
+    let rest = after_byte(b'/', inside)?;
+    if rest.len() < name.len() {
+        return None;
+    }
+    let (front, behind) = rest.split_at(name.len());
+    let rest = after_byte(b'>', behind)?;
+    if is_word(front, name) {
+        Some(rest)
+    } else {
+        None
     }
 }
 

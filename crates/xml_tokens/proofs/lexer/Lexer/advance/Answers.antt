@@ -1,7 +1,7 @@
-use Rattle.std.proofs.Common.{◌≡◌, sym, ap, ◌∙◌, drop, subst, Some}
-use Rattle.std.proofs.lemmas.List.{drop-drop}
+use Rattle.std.proofs.Common.{◌≡◌, sym, ap, ◌∙◌, drop, refl, subst, Some}
 use Rattle.xml_tokens.specs.Reader.{Reader, IsAnswer, after}
 use Rattle.xml_tokens.specs.Lexer.{reader_of}
+use Rattle.xml_tokens.specs.Look.{passed}
 use Rattle.xml_tokens.specs.declared.lexeme.Lexeme.{Lexeme}
 use Rattle.xml_tokens.specs.declared.lexeme.Step.{Step}
 use Rattle.xml_tokens.specs.declared.lexeme.Step.TheVariants as step
@@ -23,8 +23,9 @@ returns-in-Lexeme-clause-after c =
     let l = c.self.inside in
     let lexeme : Lexeme = record { offset = c.in-Lexeme.offset; body = c.in-Lexeme.body } in
     let unread : c.tail.result.now ≡ drop l.start l.buffer.items = c.tail.ensures ∙ ap (drop l.start) c.deref.ensures.value in
-    next-lexeme (reader_of l) c.tail.result.now (drop c.let_go-kept.result c.let_go-kept.new.buffer.items) c.in-Lexeme.size lexeme unread c.in-Lexeme.ensures.1 (c.let_go-kept.ensures.unread ∙ sym (drop-drop c.in-Lexeme.size l.start l.buffer.items))
-    ∙ ap (λ (r : Reader). after r (step.Lexeme lexeme)) c.self.view_is
+    c.pass.ensures
+    ∙ subst (λ (r : Reader). passed c.in-Lexeme.size r ≡ after r (step.Lexeme lexeme)) c.self.view_is
+    (next-lexeme (reader_of l) c.tail.result.now (drop c.in-Lexeme.size (drop l.start l.buffer.items)) c.in-Lexeme.size lexeme unread c.in-Lexeme.ensures.1 refl)
 
 pub returns-in-Wait-clause-after : goal.returns-in-Wait-clause-after
 returns-in-Wait-clause-after c = c.self.view_is ∙ sym (after-need c.args.self.now)
