@@ -16,3 +16,4 @@ pub mod Ending
 pub mod Widths
 pub mod Growing
 pub mod Stopping
+pub mod Elements

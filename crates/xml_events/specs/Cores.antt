@@ -1,6 +1,6 @@
 -- What a reader's fields mean, and what they keep.
 use Rattle.std.specs.Prelude.{◌≡◌, ◌<◌, ◌≤◌, ◌^◌, ℕ, ◌+◌, ◌-◌, Bool, true, false, List, [], length, Option, Some, None}
-use Rattle.xml_tokens.specs.Reader.{Reader, fed}
+use Rattle.xml_tokens.specs.Reader.{Reader, after, due, fed}
 use Rattle.xml_tokens.specs.declared.lexeme.Ending.{Ending}
 use Rattle.xml_tokens.specs.declared.lexeme.Ending.TheVariants as ending
 use Rattle.xml_events.specs.declared.event.Pull.{Pull}
@@ -14,8 +14,10 @@ use Rattle.xml_events.specs.declared.place.Word.{Word}
 use Rattle.stx_base.specs.declared.fault.XmlFault.{XmlFault}
 use Rattle.stx_base.specs.declared.fault.XmlKind.{XmlKind}
 use Rattle.stx_base.specs.declared.fault.XmlKind.TheVariants.{Truncated}
+use Rattle.xml_tokens.specs.declared.lexeme.Body.TheVariants as body
 use Rattle.xml_tokens.specs.declared.lexeme.Lexeme.{Lexeme}
-use Rattle.xml_events.specs.Before.{is_inside, fault_of}
+use Rattle.xml_tokens.specs.declared.lexeme.Step.TheVariants as step
+use Rattle.xml_events.specs.Before.{is_innermost, is_inside, fault_of}
 use Rattle.xml_events.specs.Answering.{Goes, Counts, EndsWhole}
 use Rattle.xml_events.specs.Fronts.{known_of, held_of, run_of, items_of, held_lists, IsTelling, AreWide, TakesItems, waiting}
 use Rattle.xml_events.specs.Source.{Source, IsAnswer, Leaves, Keeps, Shrinks, events_left, future}
@@ -135,6 +137,22 @@ Receives old l turn.Taken new = Takes old l new
 Receives old l (turn.Bad fault) new = Refuses old l fault new
 Receives old l turn.Memory new = Unit {0}
 Receives old l other new = ⊥
+
+-- the end tag of a name at a place
+abbrev pub end_lexeme : (offset : ℕ) → (name : List ℕ) → Lexeme
+end_lexeme offset name = record { offset = offset; body = body.End name }
+
+-- the end tag of the innermost open element was taken off the bytes
+pub record TakesEnd (old : Core) (offset : ℕ) (new : Core) : Type 0 where
+  pub name : List ℕ
+  pub innermost : is_innermost name (names_of old.place) ≡ true
+  pub answer : step.Lexeme (end_lexeme offset name) ≡ due old.lexer
+  pub lexer : new.lexer ≡ after old.lexer (step.Lexeme (end_lexeme offset name))
+  pub same : IsSame old.lexer new.lexer
+  pub shorter : length new.lexer.unread < length old.lexer.unread
+  pub place : new.place ≡ old.place
+  pub front : new.front ≡ old.front
+  pub over : new.over ≡ old.over
 
 -- what a document's end comes to, where it has so many bytes
 abbrev pub Ends : (length : ℕ) → (complete : Bool) → (old : Core) → Turn → (new : Core) → Type 0

@@ -1,9 +1,12 @@
 -- What a place in a document takes.
-use Rattle.std.specs.Prelude.{◌≡◌, ◌≤◌, ℕ, List, [], ◌∷◌, reverse, length, Option, Some, None, if◌then◌else◌}
+use Rattle.std.specs.Prelude.{◌≡◌, ◌≤◌, ℕ, true, List, [], ◌∷◌, reverse, length, Option, Some, None, if◌then◌else◌}
+use Rattle.std.specs.List.{list_all}
+use Rattle.stx_base.specs.Character.{is_name}
 use Rattle.stx_base.specs.declared.fault.XmlKind.TheVariants.{TextTooLong}
 use Rattle.stx_base.specs.declared.fault.XmlKind.{XmlKind}
 use Rattle.stx_base.specs.declared.limits.Limits.{Limits}
 use Rattle.xml_tokens.specs.declared.lexeme.Body.{Body}
+use Rattle.xml_tokens.specs.declared.lexeme.Body.TheVariants as body
 use Rattle.xml_names.specs.declared.resolved.NameFault.{NameFault}
 use Rattle.xml_names.specs.declared.resolved.NameFault.TheVariants as fault
 use Rattle.xml_events.specs.declared.place.Place.{Place}
@@ -27,10 +30,11 @@ names_of p = reverse p.names
 abbrev pub before_of : Place → Before
 before_of p = record { names = names_of p; path = p.scopes; rooted = p.rooted; typed = p.typed; chars = p.chars }
 
--- each open element has its declarations, and no more are open than may be
+-- each open element has its declarations, no more are open than may be, and they have Names
 pub record IsFit (p : Place) : Type 0 where
   pub paired : length p.scopes ≡ length p.names
   pub depth : length p.names ≤ p.limits.depth
+  pub named : list_all is_name p.names ≡ true
 
 -- a place before the first lexeme
 pub record StartsAs (limits : Limits) (p : Place) : Type 0 where
@@ -71,6 +75,10 @@ text_fault p text = if is_too_long p.limits (before_of p) text then Some TextToo
 abbrev pub TakesFitting : Place → Body → Place → Word → Type 0
 TakesFitting old x new word =
     Took (unfit_at old x) (before_next (before_of old) x) (λ offset. items_of (before_of old) offset x) old new word
+
+-- the end tag of the innermost open element was taken
+abbrev pub IsClosed : (old new : Place) → Type 0
+IsClosed old new = Took None (before_next (before_of old) (body.End [])) (λ offset. Closes offset ∷ []) old new word.Close
 
 -- a lexeme has a fault, and as many elements are open as before; want of memory is free
 abbrev pub Refuses : Option XmlKind → (old new : Place) → Refusal → Type 0

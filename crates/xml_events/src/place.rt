@@ -1,4 +1,5 @@
-ghost use Rattle.std.specs.Prelude.{◌≡◌, ◌≤◌, ◌<◌, ◌^◌, ◌+◌, ◌&&◌, nat_lt, nat_le, true, false, length, IfOk, IfErr};
+ghost use Rattle.std.specs.Prelude.{◌≡◌, ◌≤◌, ◌<◌, ◌^◌, ◌+◌, ◌&&◌, ℕ, List, [], ◌∷◌, nat_lt, nat_le, true, false, length, IfOk, IfErr, MatchOption};
+ghost use Rattle.std.specs.Str.{chars};
 ghost use Rattle.xml_events.specs.Before as spec;
 ghost use Rattle.xml_events.specs.Document.{text_items};
 ghost use Rattle.xml_tokens.specs.declared.lexeme.Body.TheVariants as body;
@@ -74,7 +75,7 @@ pub struct Place {
 }
 
 impl Place {
-    ghost use Rattle.xml_events.specs.Taking.{before_of, names_of, IsFit, Refuses, StartsAs, Takes, TakesFitting, Took, text_fault, unfit_at};
+    ghost use Rattle.xml_events.specs.Taking.{before_of, names_of, IsClosed, IsFit, Refuses, StartsAs, Takes, TakesFitting, Took, text_fault, unfit_at};
 
     pub fn new(alloc: Global, limits: Limits) -> Place
         ensures { StartsAs limits result }
@@ -206,10 +207,32 @@ impl Place {
         if !self.is_innermost(name) {
             return Err(Refusal::Xml(XmlKind::Mismatch));
         }
+        self.close();
+        Ok(Word::Close)
+    }
+
+    /// Takes the end tag of the innermost open element.
+    #[inline]
+    pub fn close(&mut self)
+        requires fit { IsFit self.old }
+        requires inside { spec.is_inside (names_of self.old) ≡ true }
+        ensures closed { IsClosed self.old self.new }
+        ensures limits { self.new.limits ≡ self.old.limits }
+    {
         let _ = self.names.pop();
         self.scopes.leave();
         self.chars = 0;
-        Ok(Word::Close)
+    }
+
+    /// The name of the innermost open element as written.
+    #[inline]
+    pub fn innermost(&self) -> Option<&str>
+        ensures { MatchOption result (names_of self.now ≡ []) (λ name. (others : List (List ℕ)) × (names_of self.now ≡ chars name.now ∷ others)) }
+    {
+        match self.names.last() {
+            Some(name) => Some(name.as_str()),
+            None => None,
+        }
     }
 
     // The innermost open element has this name.

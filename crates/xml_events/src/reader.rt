@@ -1,4 +1,4 @@
-ghost use Rattle.std.specs.Prelude.{◌≡◌, ◌++◌, ◌∷◌, ◌≤◌, ℕ, Bool, List, ◌<◌, ◌^◌, [], Some, None, false, true, IfOk, OnOk, OnErr};
+ghost use Rattle.std.specs.Prelude.{◌≡◌, ◌++◌, ◌∷◌, ◌≤◌, ℕ, Bool, List, ◌<◌, ◌^◌, [], Some, None, false, true, IfOk, MatchOption, OnOk, OnErr};
 ghost use Rattle.xml_tokens.specs.Reader.{fed};
 ghost use Rattle.xml_tokens.specs.declared.lexeme.Ending.TheVariants as ending;
 ghost use Rattle.xml_events.specs.Cores.{answer_of};
@@ -10,7 +10,7 @@ ghost use Rattle.xml_events.specs.declared.reader.Turn.TheVariants as turn;
 
 use crate::event::{Event, Pull};
 use crate::front::Front;
-use crate::place::{Place, Refusal};
+use crate::place::{Place, Refusal, Word};
 use std::alloc::Global;
 use std::marker::Model;
 use stx_base::{Limits, Memory, XmlFault, XmlKind};
@@ -114,9 +114,9 @@ enum Turn {
 }
 
 impl Core {
-    ghost use Rattle.xml_events.specs.Cores.{Answers, Ends, Fails, IsReading, IsSame, Receives, Turns};
+    ghost use Rattle.xml_events.specs.Cores.{end_lexeme, Answers, Ends, Fails, IsReading, IsSame, Receives, TakesEnd, Turns};
     ghost use Rattle.xml_events.specs.Before as spec;
-    ghost use Rattle.xml_events.specs.Taking.{before_of, IsFit};
+    ghost use Rattle.xml_events.specs.Taking.{before_of, names_of, IsFit};
 
     // No answer is repeated yet. What is read stays in the front until it is given, since events are large to move.
     #[inline(always)]
@@ -152,12 +152,54 @@ impl Core {
         ensures same { IsSame self.old.lexer self.new.lexer }
         ensures limits { self.new.place.limits ≡ self.old.place.limits }
     {
+        match self.take_end() {
+            Some(offset) => self.close(offset),
+            None => self.read_any(),
+        }
+    }
+
+    // Takes the end tag of the innermost open element, if it is next; most end tags need no lexeme so.
+    #[inline(always)]
+    fn take_end(&mut self) -> Option<u64>
+        requires { IsFit self.old.place }
+        ensures { MatchOption result (self.new ≡ self.old) (λ offset. TakesEnd self.old offset self.new) }
+    {
+        let name = self.place.innermost()?;
+        self.lexer.take_end(name)
+    }
+
+    #[inline(always)]
+    fn read_any(&mut self) -> Turn
+        requires reads { IsReading self.old }
+        requires going { self.old.over ≡ None }
+        requires none { self.old.front.settled ≡ false }
+        ensures turns { Turns self.old result self.new }
+        ensures same { IsSame self.old.lexer self.new.lexer }
+        ensures limits { self.new.place.limits ≡ self.old.place.limits }
+    {
         match self.lexer.next() {
             Step::Lexeme(lexeme) => self.take(lexeme),
             Step::Need => Turn::Need,
             Step::End => self.end(),
             Step::Bad(fault) => self.fail(fault),
             Step::Memory => Turn::Memory,
+        }
+    }
+
+    // The innermost open element ends.
+    #[inline(always)]
+    fn close(&mut self, offset: u64) -> Turn
+        requires fit { IsFit self.old.place }
+        requires inside { spec.is_inside (names_of self.old.place) ≡ true }
+        requires none { self.old.front.settled ≡ false }
+        ensures receives { (name : List ℕ) → spec.is_innermost name (names_of self.old.place) ≡ true → Receives self.old (end_lexeme offset name) result self.new }
+        ensures lexer { self.new.lexer ≡ self.old.lexer }
+        ensures limits { self.new.place.limits ≡ self.old.place.limits }
+    {
+        self.place.close();
+        match self.front.take(offset, Word::Close) {
+            Ok(()) => Turn::Taken,
+            Err(Memory) => Turn::Memory,
         }
     }
 
