@@ -16,7 +16,7 @@ use crate::allowed::{
 use crate::attributes::Attributes;
 use crate::bytes::{append, append_byte, append_two};
 use crate::fault::{ResultFault, WriteStop};
-use crate::steady::{copy_unless_same, keep_bindings};
+use crate::steady::{copy_unless_same, keep_bindings, keeps_names};
 use crate::tag::{Dressed, HeldTag, append_end_tag, append_open_tag, dress};
 use crate::words::{is_empty, same_name};
 use std::alloc::Global;
@@ -202,6 +202,16 @@ impl Opened {
         }
     }
 
+    /// Whether nothing more than its names and values is written with the tag that is held back, if there is one. So no
+    /// list need be moved.
+    #[inline(always)]
+    pub(crate) fn is_undressed(&self) -> bool
+        ensures { result ≡ true → dressing self.now.left.held None ≡ dressed_in self.now.left.elements self.now.left.held }
+    {
+        let around = &self.around;
+        !around.holds || around.keeps && keeps_names(&around.bindings, &around.tag)
+    }
+
     /// What is written with the tag that is held back, where that is more than its names and values.
     #[inline(always)]
     pub(crate) fn dressed(&self) -> Result<Option<Dressed>, Memory>
@@ -216,6 +226,7 @@ impl Opened {
     }
 
     /// Appends the tag that is held back, if there is one.
+    #[inline(always)]
     #[tactic(auto, using(crate::proofs::Growing::begins_trans, crate::proofs::Growing::begins_self))]
     pub(crate) fn append_tag(
         &self,
@@ -234,6 +245,7 @@ impl Opened {
     }
 
     /// The same of one that has nothing in it.
+    #[inline(always)]
     #[tactic(auto, using(crate::proofs::Growing::begins_trans, crate::proofs::Growing::begins_self))]
     fn append_empty_tag(&self, dressed: &Option<Dressed>, out: &mut Vec<u8>) -> Result<(), Memory>
         requires { dressing self.now.left.held dressed.now ≡ dressed_in self.now.left.elements self.now.left.held }
@@ -248,6 +260,7 @@ impl Opened {
     }
 
     /// Appends the end of the innermost element.
+    #[inline(always)]
     #[tactic(auto, using(crate::proofs::Growing::begins_trans, crate::proofs::Growing::begins_self))]
     pub(crate) fn append_end(
         &self,
@@ -290,6 +303,7 @@ impl Opened {
     }
 
     /// Takes the start of an element that is accepted. After a refusal all is unchanged.
+    #[inline(always)]
     pub(crate) fn start(
         &mut self,
         name: Name,

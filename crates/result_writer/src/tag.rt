@@ -140,6 +140,7 @@ fn append_own_attributes(attrs: &[Attr], out: &mut Vec<u8>) -> Result<(), Memory
 }
 
 /// Appends a start tag without its end, which is `>` or `/>`.
+#[inline(always)]
 #[tactic(auto, using(crate::proofs::Growing::begins_trans, crate::proofs::Growing::begins_self))]
 pub fn append_open_tag(
     tag: &HeldTag,

@@ -3,14 +3,16 @@ ghost use Rattle.stx_base.specs.declared.part.Part.TheVariants.{Start, Attribute
 ghost use Rattle.stx_base.specs.declared.name.Name.{Name as Spelled};
 ghost use Rattle.result_writer.specs.Allowed.{is_good_name};
 ghost use Rattle.result_writer.specs.Bytes.{Begins};
+ghost use Rattle.result_writer.specs.Opened.{dressing};
 ghost use Rattle.result_writer.specs.Target as spec;
-ghost use Rattle.result_writer.specs.Target.{behind, end_text, fresh, innermost, is_closed, settles, text, whole_fault, IsCause};
+ghost use Rattle.result_writer.specs.Target.{behind, dressed_in, end_text, fresh, innermost, is_closed, settles, text, whole_fault, IsCause};
 
 use crate::escape::{Context, append_escaped};
 use crate::fault::{ResultFault, WriteStop};
 use crate::opened::{
     Opened, append_comment, append_instruction, chars_fault, comment_fault, instruction_fault,
 };
+use crate::tag::Dressed;
 use std::alloc::Global;
 use std::marker::Model;
 use stx_base::{Binding, Copied, List, Memory, Name, Part, Text};
@@ -263,7 +265,30 @@ fn start(
     ensures written { OnOk result (out.new.items ≡ out.old.items ++ settles opened.old.left (Start name scope.now)) }
     ensures kept { Begins out.old.items out.new.items }
 {
+    if opened.is_undressed() {
+        return start_dressed(opened, name, scope, None, out);
+    }
     let dressed = opened.dressed()?;
+    start_dressed(opened, name, scope, dressed, out)
+}
+
+/// The same, where the tag that is held back is written so.
+#[inline(always)]
+#[tactic(auto, using(crate::proofs::Growing::begins_trans, crate::proofs::Growing::begins_self))]
+fn start_dressed(
+    opened: &mut Opened,
+    name: Name,
+    scope: &List<Binding>,
+    dressed: Option<Dressed>,
+    out: &mut Vec<u8>,
+) -> Result<(), Memory>
+    requires dressed { dressing opened.old.left.held dressed ≡ dressed_in opened.old.left.elements opened.old.left.held }
+    requires good { is_good_name name ≡ true }
+    ensures ok { OnOk result (opened.new ≡ behind opened.old (Start name scope.now)) }
+    ensures err { OnErr result (opened.new ≡ opened.old) }
+    ensures written { OnOk result (out.new.items ≡ out.old.items ++ settles opened.old.left (Start name scope.now)) }
+    ensures kept { Begins out.old.items out.new.items }
+{
     opened.append_tag(&dressed, out)?;
     opened.start(name, scope, dressed)
 }
@@ -290,7 +315,28 @@ fn chars(opened: &mut Opened, text: &Text, out: &mut Vec<u8>) -> Result<(), Memo
     ensures written { OnOk result (out.new.items ≡ out.old.items ++ settles opened.old.left (Chars text.now)) }
     ensures kept { Begins out.old.items out.new.items }
 {
+    if opened.is_undressed() {
+        return chars_dressed(opened, text, None, out);
+    }
     let dressed = opened.dressed()?;
+    chars_dressed(opened, text, dressed, out)
+}
+
+/// The same, where the tag that is held back is written so.
+#[inline(always)]
+#[tactic(auto, using(crate::proofs::Growing::begins_trans, crate::proofs::Growing::begins_self))]
+fn chars_dressed(
+    opened: &mut Opened,
+    text: &Text,
+    dressed: Option<Dressed>,
+    out: &mut Vec<u8>,
+) -> Result<(), Memory>
+    requires { dressing opened.old.left.held dressed ≡ dressed_in opened.old.left.elements opened.old.left.held }
+    ensures ok { OnOk result (opened.new ≡ behind opened.old (Chars text.now)) }
+    ensures err { OnErr result (opened.new ≡ opened.old) }
+    ensures written { OnOk result (out.new.items ≡ out.old.items ++ settles opened.old.left (Chars text.now)) }
+    ensures kept { Begins out.old.items out.new.items }
+{
     opened.append_tag(&dressed, out)?;
     append_escaped(Context::Content, text.as_str().as_bytes(), out)?;
     opened.settle(dressed)
