@@ -1,6 +1,8 @@
 -- Bytes of ASCII, and texts that say themselves.
 use Rattle.std.proofs.Common.{◌≡◌, ℕ, zero, suc, ◌+◌, ◌<◌, ◌≤◌, length, get_or, Bool, true, false, not, ◌&&◌, ◌==◌, nat_lt, List, [], ◌∷◌, Some, None, Ok, Err, is_some, refl, ap, ◌∙◌, arith, cond, chars, IsAscii, IsUtf8}
 use Rattle.std.specs.List.{list_all, list_any}
+use Rattle.std.specs.Option.{option_map_or}
+use Rattle.std.specs.Prelude.{slice_get}
 use Rattle.std.specs.Result.{result_map_both}
 use Rattle.std.proofs.lemmas.Bool.Decides.{nat_tests}
 use Rattle.std.proofs.lemmas.Str.{chars-IsAscii, IsUtf8-from_ascii}
@@ -11,7 +13,7 @@ use Rattle.xml_tokens.specs.Places.{begins, first_word}
 use Rattle.xml_tokens.specs.Shape.{form}
 use Rattle.xml_tokens.specs.Texts.{said, is_ampersand}
 use Rattle.xml_tokens.specs.Judged.{by_form, judged, kind_of}
-use Rattle.xml_tokens.specs.Spans.{is_changed, is_literal, is_plain, is_plain_byte}
+use Rattle.xml_tokens.specs.Spans.{chars_said, is_changed, is_easy, is_easy_byte, is_literal, is_plain, is_plain_byte}
 use Rattle.xml_tokens.specs.declared.form.Form.TheVariants as form
 use Rattle.xml_tokens.specs.declared.lexeme.Body.TheVariants.{Chars}
 use Rattle.xml_tokens.specs.declared.text.Context.TheVariants.{Content}
@@ -19,7 +21,7 @@ use Rattle.xml_tokens.proofs.ListLemmas.{all-none, two}
 use Rattle.xml_tokens.proofs.LiteralLemmas.{literal-said}
 use Rattle.xml_tokens.proofs.JudgedLemmas.{judged-by_form}
 
-less : {n m : ℕ} → nat_lt n m ≡ true → n < m
+pub less : {n m : ℕ} → nat_lt n m ≡ true → n < m
 less {n} {m} h = grind (arith, nat_tests)
 
 pub all-both : (p q : ℕ → Bool) (bytes : List ℕ) → list_all (λ b. p b && q b) bytes ≡ true → (list_all p bytes ≡ true) × (list_all q bytes ≡ true)
@@ -82,6 +84,43 @@ no_bracket b = not (b == 93)
 
 abbrev pub no_return : ℕ → Bool
 no_return b = not (b == 13)
+
+-- easy texts, with references or without
+module _ (bytes : List ℕ) (easy : is_easy bytes ≡ true) where
+  easy-parts : (option_map_or no_less (slice_get bytes 0) false ≡ true) × (list_all is_easy_byte bytes ≡ true)
+  easy-parts = two (option_map_or no_less (slice_get bytes 0) false) (list_all is_easy_byte bytes) easy
+
+  easy-lows : (list_all is_low_char bytes ≡ true) × (list_all (λ b. no_bracket b && no_return b) bytes ≡ true)
+  easy-lows = all-both is_low_char (λ b. no_bracket b && no_return b) bytes easy-parts.1
+
+  easy-last : (list_all no_bracket bytes ≡ true) × (list_all no_return bytes ≡ true)
+  easy-last = all-both no_bracket no_return bytes easy-lows.1
+
+  pub easy-utf8 : IsUtf8 bytes
+  easy-utf8 = low-utf8 bytes easy-lows.0
+
+  pub easy-unbroken : list_all no_return bytes ≡ true
+  easy-unbroken = easy-last.1
+
+  form-easy : form bytes ≡ form.Text
+  form-easy = of_first bytes easy-parts.0 where
+    of_first : (bs : List ℕ) → option_map_or no_less (slice_get bs 0) false ≡ true → form bs ≡ form.Text
+    of_first [] h = absurd cc
+    of_first (b ∷ bs) h = form-text b bs (is_no (b == 60) h)
+
+  text-easy : (first : Bool) → by_form first form.Text bytes ≡ chars_said bytes
+  text-easy first = ap (λ t. cond t (Err kind.CdataEnd) (chars_said bytes)) (ap is_some (no-word (93 ∷ 62 ∷ []) 0 bytes easy-last.0))
+
+  pub easy-judged : (first : Bool) → judged first bytes ≡ chars_said bytes
+  easy-judged first =
+      judged-by_form first bytes easy-utf8 (low-chars bytes easy-lows.0) ∙ (ap (λ f. by_form first f bytes) form-easy ∙ text-easy first)
+
+  pub literal-judged : list_all no_reference bytes ≡ true → (first : Bool) → judged first bytes ≡ Ok (Chars (chars bytes) (list_all is_space bytes))
+  literal-judged calm first =
+      easy-judged first ∙ ap (result_map_both (λ text. Chars (chars text) (list_all is_space bytes)) kind_of) (literal-said Content bytes itself) where
+        itself : is_literal Content bytes ≡ true
+        itself =
+            ap (λ t. not t && not (list_any (is_changed Content) bytes)) (all-none is_ampersand bytes calm) ∙ ap not (all-none (is_changed Content) bytes easy-last.1)
 
 module _ (bytes : List ℕ) (plain : is_plain bytes ≡ true) where
   all : list_all is_plain_byte bytes ≡ true

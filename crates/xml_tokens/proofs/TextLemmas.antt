@@ -3,7 +3,7 @@ use Rattle.std.proofs.Common.{◌≡◌, ℕ, zero, suc, ◌+◌, ◌<◌, ◌�
 use Rattle.std.proofs.lemmas.Bool.{eqb-true, ne_eqb}
 use Rattle.std.proofs.lemmas.List.{map-append, append-nil, drop_more, take_all, take-append-drop}
 use Rattle.std.proofs.Common.{IsUtf8}
-use Rattle.xml_tokens.proofs.ListLemmas.{all-none, prefix-all}
+use Rattle.xml_tokens.proofs.ListLemmas.{all-none, prefix-all, two}
 use Rattle.xml_tokens.proofs.Utf8Lemmas.{utf8-one, utf8-before, utf8-behind}
 use Rattle.std.specs.Prelude.{nat_lt, unwrap_or, is_some}
 use Rattle.std.specs.List.{list_all, list_any, position_or_len}
@@ -97,15 +97,20 @@ changed-said Value b bytes h = by_return (b == 13) refl where
   by_return false e =
       ap (map as_space) (other-said b bytes e) ∙ ap (λ t. cond t 32 b ∷ map as_space (lines (behind_break (b ∷ bytes)))) (tab_or_feed (b == 13) (b == 10) (b == 9) e h)
 
+-- bytes of which none is changed say themselves
+pub literal-kept : (place : Context) (bytes : List ℕ) → list_all (λ b. not (is_changed place b)) bytes ≡ true → literal place bytes ≡ bytes
+literal-kept place bytes all =
+    ap (literal place) (sym (append-nil bytes)) ∙ (calm-here place bytes all [] ∙ (ap (λ l. bytes ++ l) (nothing place) ∙ append-nil bytes)) where
+      nothing : (place : Context) → literal place [] ≡ []
+      nothing Content = refl
+      nothing Value = refl
+
 -- a text goes on span by span
 pub literal-none : (place : Context) (bytes : List ℕ) → position_or_len (is_changed place) bytes ≡ length bytes → literal place bytes ≡ bytes
 literal-none place bytes h =
     let whole : take (position_or_len (is_changed place) bytes) bytes ≡ bytes = ap (λ n. take n bytes) h ∙ take_all (length bytes) bytes (omega arith) in
     let all : list_all (λ b. not (is_changed place b)) bytes ≡ true = subst (λ (l : List ℕ). list_all (λ b. not (is_changed place b)) l ≡ true) whole (prefix-all (λ b. not (is_changed place b)) bytes) in
-    ap (literal place) (sym (append-nil bytes)) ∙ (calm-here place bytes all [] ∙ (ap (λ l. bytes ++ l) (nothing place) ∙ append-nil bytes)) where
-      nothing : (place : Context) → literal place [] ≡ []
-      nothing Content = refl
-      nothing Value = refl
+    literal-kept place bytes all
 
 pub literal-next : (place : Context) (bytes : List ℕ) (at : ℕ) → (position_or_len (is_changed place) bytes ≡ at) × (at < length bytes) →
     literal place bytes ≡ take at bytes ++ break_as place ∷ literal place (behind_break (drop at bytes))
@@ -193,6 +198,24 @@ cut-utf8 byte bytes found h low utf8 =
     let at_byte : get_or bytes c.0 0 ≡ byte = ap (λ n. get_or bytes n 0) (sym c.1) ∙ eqb-true _ _ (passes_at_first (λ b. b == byte) bytes 0 inside) in
     let ascii : get_or bytes c.0 0 < 128 = omega (arith, at_byte, low) in
     (subst IsUtf8 (sym c.3) (utf8-before bytes c.0 utf8 c.2 ascii), subst IsUtf8 (sym c.4) (utf8-behind bytes c.0 utf8 c.2 ascii))
+
+-- both pieces of what is cut so pass what the whole passes
+pub cut-all : (test p : ℕ → Bool) (bytes : List ℕ) (found : List ℕ × List ℕ) → cut_at test bytes ≡ Some found → list_all p bytes ≡ true →
+    (list_all p found.0 ≡ true) × (list_all p found.1 ≡ true)
+cut-all test p bytes found h all =
+    let c = cut-is test bytes found h in
+    (ap (list_all p) c.3 ∙ front c.0 bytes all, ap (list_all p) c.4 ∙ back (c.0 + 1) bytes all) where
+      front : (n : ℕ) (l : List ℕ) → list_all p l ≡ true → list_all p (take n l) ≡ true
+      front zero l k = refl
+      front (suc n) [] k = refl
+      front (suc n) (b ∷ bs) k =
+          let parts = two (p b) (list_all p bs) k in
+          ap (λ t. t && list_all p (take n bs)) parts.0 ∙ front n bs parts.1
+
+      back : (n : ℕ) (l : List ℕ) → list_all p l ≡ true → list_all p (drop n l) ≡ true
+      back zero l k = k
+      back (suc n) [] k = refl
+      back (suc n) (b ∷ bs) k = back n bs (two (p b) (list_all p bs) k).1
 
 -- the parts behind ampersands are found one after another
 pub parts-pass : (front rest : List ℕ) → list_all (λ b. not (is_ampersand b)) front ≡ true → later_parts is_ampersand (front ++ rest) ≡ later_parts is_ampersand rest

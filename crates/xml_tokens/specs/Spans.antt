@@ -1,18 +1,23 @@
 -- How texts are read span by span.
-use Rattle.std.specs.Prelude.{◌≡◌, ℕ, ◌+◌, ◌<◌, Bool, false, not, ◌&&◌, ◌||◌, ◌==◌, nat_le, nat_lt, suc, List, [], ◌∷◌, ◌++◌, Option, Some, None, Result, Ok, Err, length, take, drop, slice_get, if◌then◌else◌}
+use Rattle.std.specs.Prelude.{◌≡◌, ℕ, ◌+◌, ◌<◌, Bool, false, true, not, ◌&&◌, ◌||◌, ◌==◌, nat_le, nat_lt, suc, List, [], ◌∷◌, ◌++◌, Option, Some, None, Result, Ok, Err, length, take, drop, slice_get, if◌then◌else◌}
 use Rattle.std.specs.List.{list_all, list_any, position_or_len}
 use Rattle.std.specs.Option.{option_copied, option_map_or}
+use Rattle.std.specs.Result.{result_map_both}
 use Rattle.std.specs.Str.{chars, is_utf8}
 use Rattle.std.specs.declared.vec.Vec.{Vec}
 use Rattle.std.specs.declared.alloc.Global.{Global}
 use Rattle.xml_tokens.specs.Texts.{first_part, is_ampersand, later_parts, result_map, said, worse}
 use Rattle.xml_tokens.specs.Tags.{attributes, attrs_said}
-use Rattle.stx_base.specs.Character.{is_char, is_name_char, is_name_start}
+use Rattle.xml_tokens.specs.Judged.{kind_of}
+use Rattle.stx_base.specs.Character.{is_char, is_name_char, is_name_start, is_space}
 use Rattle.stx_base.specs.declared.fault.XmlKind.{XmlKind}
 use Rattle.stx_base.specs.declared.fault.XmlKind.TheVariants.{BadUtf8, BadChar}
+use Rattle.xml_tokens.specs.declared.judge.Ease.{Ease}
+use Rattle.xml_tokens.specs.declared.judge.Ease.TheVariants.{Literal, Referring, Other}
 use Rattle.xml_tokens.specs.declared.judge.Unread.{Unread}
 use Rattle.xml_tokens.specs.declared.judge.Unread.TheVariants.{Fault, Memory}
 use Rattle.xml_tokens.specs.declared.lexeme.Body.{Body}
+use Rattle.xml_tokens.specs.declared.lexeme.Body.TheVariants.{Chars}
 use Rattle.xml_tokens.specs.declared.lexeme.RawAttr.{RawAttr}
 use Rattle.xml_tokens.specs.declared.prolog.XmlDeclaration.{XmlDeclaration}
 use Rattle.xml_tokens.specs.declared.tag.AttributeList.{AttributeList}
@@ -45,6 +50,10 @@ is_literal place bytes = not (list_any is_ampersand bytes) && not (list_any (is_
 abbrev pub break_as : Context → ℕ
 break_as Content = 10
 break_as Value = 32
+
+-- no byte is changed where no reference stands, unless bytes may be broken
+abbrev pub IsKept : (broken : Bool) → Context → List ℕ → Type 0
+IsKept broken place bytes = broken ≡ false → list_all (λ b. not (is_changed place b)) bytes ≡ true
 
 -- what follows a byte, or CR LF
 abbrev pub behind_break : List ℕ → List ℕ
@@ -111,6 +120,20 @@ cut_name len (b ∷ bs) = if is_name_start b then Some (take len (b ∷ bs), dro
 abbrev pub is_plain_byte : ℕ → Bool
 is_plain_byte b = (nat_lt b 128 && is_char b) && (not (b == 60) && (not (b == 38) && (not (b == 93) && not (b == 13))))
 
+-- a Char of ASCII that says itself wherever no reference stands
+abbrev pub is_easy_byte : ℕ → Bool
+is_easy_byte b = (nat_lt b 128 && is_char b) && (not (b == 93) && not (b == 13))
+
+-- such characters, one or more, as a text
+abbrev pub is_easy : List ℕ → Bool
+is_easy bytes = option_map_or (λ b. not (b == 60)) (slice_get bytes 0) false && list_all is_easy_byte bytes
+
+-- an easy text has references or not, as is said of it
+abbrev pub IsEase : List ℕ → Ease → Type 0
+IsEase bytes Literal = (is_easy bytes ≡ true) × (list_all (λ b. not (is_ampersand b)) bytes ≡ true)
+IsEase bytes Referring = is_easy bytes ≡ true
+IsEase bytes Other = Unit {0}
+
 -- such characters, one or more
 abbrev pub is_plain : List ℕ → Bool
 is_plain bytes = nat_lt 0 (length bytes) && list_all is_plain_byte bytes
@@ -118,6 +141,10 @@ is_plain bytes = nat_lt 0 (length bytes) && list_all is_plain_byte bytes
 -- the fault of bytes that are no UTF-8, or that say other characters than Chars
 abbrev pub char_fault : List ℕ → Option XmlKind
 char_fault bytes = if not (is_utf8 bytes) then Some BadUtf8 else if not (list_all is_char (chars bytes)) then Some BadChar else None
+
+-- what character data says, or the fault that its references have
+abbrev pub chars_said : List ℕ → Result Body XmlKind
+chars_said bytes = result_map_both (λ text. Chars (chars text) (list_all is_space bytes)) kind_of (said Content bytes)
 
 -- a shape says this, or has this fault, unless memory was wanting
 abbrev pub IsJudged : Result Body XmlKind → Result Body Unread → Type 0

@@ -1,13 +1,13 @@
-ghost use Rattle.std.specs.Prelude.{◌≡◌, ◌+◌, ◌<◌, ◌≤◌, ◌^◌, ◌&&◌, nat_lt, length, IsUtf8};
+ghost use Rattle.std.specs.Prelude.{◌≡◌, ◌+◌, ◌<◌, ◌≤◌, ◌^◌, ◌&&◌, ◌==◌, false, not, true, nat_lt, slice_get, length, IsUtf8};
 ghost use Rattle.std.specs.List.{list_all, position_or_len};
-ghost use Rattle.std.specs.Option.{option_copied};
+ghost use Rattle.std.specs.Option.{option_copied, option_map_or};
 ghost use Rattle.std.specs.Str.{chars};
 ghost use Rattle.stx_base.specs.Character as class;
 ghost use Rattle.xml_tokens.specs.Judged as spec;
 ghost use Rattle.xml_tokens.specs.Shape.{form};
 ghost use Rattle.xml_tokens.specs.Tags as tags;
 ghost use Rattle.xml_tokens.specs.Spans as span;
-ghost use Rattle.xml_tokens.specs.Spans.{IsJudged};
+ghost use Rattle.xml_tokens.specs.Spans.{IsEase, IsJudged};
 
 use crate::cut::{head, tail};
 use crate::form::{Form, begins, form_of};
@@ -15,7 +15,7 @@ use crate::lexeme::Body;
 use crate::prolog::{declared, is_doctype, is_encoding, is_version};
 use crate::scan::has_word;
 use crate::tag::{after_space, tag};
-use crate::text::{BadText, Context, lines_of, said, text_of};
+use crate::text::{BadText, Context, lines_of, said, text_of, unbroken_said};
 use std::alloc::Global;
 use stx_base::{Memory, XmlKind, are_ascii_chars, is_char, is_ncname, is_space};
 
@@ -58,36 +58,74 @@ impl From<BadText> for Unread {
 pub fn judge(alloc: Global, bytes: &[u8], first: bool) -> Result<Body, Unread>
     ensures { IsJudged (spec.judged first bytes.now) result }
 {
-    if is_plain(bytes) {
-        let text = text_of(alloc, bytes)?;
-        let blank = is_blank(bytes);
-        return Ok(Body::Chars { text, blank });
-    }
-    match char_fault(bytes) {
-        None => by_form(alloc, bytes, first),
-        Some(kind) => Err(Unread::Fault(kind)),
+    match ease_of(bytes) {
+        Ease::Literal => {
+            let text = text_of(alloc, bytes)?;
+            let blank = is_blank(bytes);
+            Ok(Body::Chars { text, blank })
+        }
+        Ease::Referring => referring(alloc, bytes),
+        Ease::Other => match char_fault(bytes) {
+            None => by_form(alloc, bytes, first),
+            Some(kind) => Err(Unread::Fault(kind)),
+        },
     }
 }
 
-/// Whether bytes are a text that says itself, as most are: one look at each byte shows it.
-fn is_plain(bytes: &[u8]) -> bool
-    ensures { result ≡ span.is_plain bytes.now }
+/// What one look at each byte of a shape shows.
+#[derive(Clone, Copy, Debug, PartialEq, Eq)]
+pub enum Ease {
+    /// A text that says itself, as most are.
+    Literal,
+    /// A text that says itself but for references.
+    Referring,
+    Other,
+}
+
+fn ease_of(bytes: &[u8]) -> Ease
+    ensures { IsEase bytes.now result }
 {
     match bytes {
-        [] | [b'<', ..] => false,
-        _ => are_plain(bytes),
+        [] | [b'<', ..] => Ease::Other,
+        _ => ease_of_text(bytes),
     }
 }
 
-fn are_plain(bytes: &[u8]) -> bool
-    ensures { result ≡ list_all span.is_plain_byte bytes.now }
+fn ease_of_text(bytes: &[u8]) -> Ease
+    requires { option_map_or (λ b. not (b == 60)) (slice_get bytes.now 0) false ≡ true }
+    ensures { IsEase bytes.now result }
 {
     // No byte ends the loop, so that many bytes are compared at once.
-    let mut plain = true;
+    let mut easy = true;
+    let mut literal = true;
     for b in bytes {
-        plain = plain & is_plain_byte(*b);
+        easy = easy & is_easy_byte(*b);
+        literal = literal & (*b != b'&');
     }
-    plain
+    match (easy, literal) {
+        (true, true) => Ease::Literal,
+        (true, false) => Ease::Referring,
+        (false, _) => Ease::Other,
+    }
+}
+
+/// An easy text in which references stand.
+fn referring(alloc: Global, bytes: &[u8]) -> Result<Body, Unread>
+    requires utf8 { IsUtf8 bytes.now }
+    requires unbroken { list_all (λ b. not (b == 13)) bytes.now ≡ true }
+    ensures { IsJudged (span.chars_said bytes.now) result }
+{
+    let text = unbroken_said(alloc, bytes)??;
+    let blank = is_blank(bytes);
+    Ok(Body::Chars { text, blank })
+}
+
+/// A Char of ASCII but for `]` and a carriage return.
+fn is_easy_byte(byte: u8) -> bool
+    ensures { result ≡ span.is_easy_byte byte }
+{
+    let is_char = byte >= b' ' && byte < 0x80 || byte == b'\n' || byte == b'\t';
+    is_char && byte != b']'
 }
 
 /// A Char of ASCII but for `<`, `&`, `]` and a carriage return.

@@ -1,4 +1,4 @@
-ghost use Rattle.std.specs.Prelude.{◌≡◌, ◌≤◌, ◌<◌, ◌++◌, ◌==◌, ◌||◌, ◌&&◌, nat_lt, true, length, encode_utf8, IfOk, IfSome, IsUtf8};
+ghost use Rattle.std.specs.Prelude.{◌≡◌, ◌≤◌, ◌<◌, ◌++◌, ◌==◌, ◌||◌, ◌&&◌, Bool, not, nat_lt, true, length, encode_utf8, IfOk, IfSome, IsUtf8};
 ghost use Rattle.std.specs.Char.{IsScalar, is_digit};
 ghost use Rattle.std.specs.List.{list_all, list_any};
 ghost use Rattle.std.specs.Option.{option_copied, option_map, SomeIff};
@@ -7,6 +7,9 @@ ghost use Rattle.std.specs.Str.Parse.{digits_value};
 ghost use Rattle.stx_base.specs.Character as class;
 ghost use Rattle.xml_tokens.specs.Texts as spec;
 ghost use Rattle.xml_tokens.specs.Spans as span;
+ghost use Rattle.xml_tokens.specs.Spans.{IsKept};
+ghost use Rattle.xml_tokens.specs.declared.text.Context.{Context as Spelled};
+ghost use Rattle.xml_tokens.specs.declared.text.Context.TheVariants as context;
 
 use crate::cut::{head, place_of, tail};
 use crate::form::{begins, is_word};
@@ -79,7 +82,30 @@ pub fn said(alloc: Global, bytes: &[u8], context: Context) -> Result<Result<Text
         let text = text_of(alloc, bytes)?;
         return Ok(Ok(text));
     }
-    match resolve(alloc, bytes, context)? {
+    resolved(alloc, bytes, context, true)
+}
+
+/// The text that bytes of content say in which references stand, but no carriage return.
+pub fn unbroken_said(alloc: Global, bytes: &[u8]) -> Result<Result<Text, BadText>, Memory>
+    requires utf8 { IsUtf8 bytes.now }
+    requires unbroken { list_all (λ b. not (b == 13)) bytes.now ≡ true }
+    ensures { IfOk result (λ said. said ≡ span.text_said context.Content bytes.now) }
+{
+    resolved(alloc, bytes, Context::Content, false)
+}
+
+/// The same, reference by reference. `broken` says that bytes may have to be changed where no reference stands.
+fn resolved(
+    alloc: Global,
+    bytes: &[u8],
+    context: Context,
+    broken: bool,
+) -> Result<Result<Text, BadText>, Memory>
+    requires utf8 { IsUtf8 bytes.now }
+    requires broken { IsKept broken context bytes.now }
+    ensures { IfOk result (λ said. said ≡ span.text_said context bytes.now) }
+{
+    match resolve(alloc, bytes, context, broken)? {
         Ok(out) => Ok(Ok(made(out))),
         Err(fault) => Ok(Err(fault)),
     }
@@ -123,18 +149,20 @@ fn resolve(
     alloc: Global,
     bytes: &[u8],
     context: Context,
+    broken: bool,
 ) -> Result<Result<Vec<u8>, BadText>, Memory>
-    requires { IsUtf8 bytes.now }
+    requires utf8 { IsUtf8 bytes.now }
+    requires broken { IsKept broken context bytes.now }
     ensures said { IfOk result (λ said. span.bytes_of said ≡ spec.said context bytes.now) }
     ensures utf8 { IfOk result (λ said. IfOk said (λ out. IsUtf8 out.items)) }
 {
     let mut out = Vec::with_capacity(alloc, bytes.len())?;
     let mut is_known = true;
     let (literal, mut next) = cut_at_ampersand(bytes);
-    push_literal(&mut out, literal, context)?;
+    push_piece(&mut out, literal, context, broken)?;
     while let Some(more) = next {
         let (part, later) = cut_at_ampersand(more);
-        match push_part(&mut out, part, context)? {
+        match push_part(&mut out, part, context, broken)? {
             Ok(()) => {}
             Err(BadText::Reference) => return Ok(Err(BadText::Reference)),
             Err(BadText::Entity) => is_known = false,
@@ -154,8 +182,9 @@ fn cut_at_ampersand(bytes: &[u8]) -> (&[u8], Option<&[u8]>)
     ensures later { spec.later_parts spec.is_ampersand bytes.now ≡ span.parts_of (option_copied result.1) }
     ensures utf8 { IsUtf8 bytes.now → IsUtf8 result.0.now × IfSome result.1 (λ later. IsUtf8 later.now) }
     ensures shorter { IfSome result.1 (λ later. length later.now < length bytes.now) }
+    ensures kept { (broken : Bool) (place : Spelled) → IsKept broken place bytes.now → IsKept broken place result.0.now × IfSome result.1 (λ later. IsKept broken place later.now) }
 {
-    match until_byte(b'&', bytes) {
+    match until_far_byte(b'&', bytes) {
         Some((first, later)) => (first, Some(later)),
         None => (bytes, None),
     }
@@ -170,13 +199,24 @@ pub fn until_byte(byte: u8, bytes: &[u8]) -> Option<(&[u8], &[u8])>
     Some((head(bytes, at), tail(bytes, at + 1)))
 }
 
+/// The same of a byte that mostly doesn't stand near.
+#[inline(always)]
+fn until_far_byte(byte: u8, bytes: &[u8]) -> Option<(&[u8], &[u8])>
+    ensures { option_map (λ found. (found.0.now, found.1.now)) result ≡ span.cut_at (λ b. b == byte) bytes.now }
+{
+    let at = memchr(byte, bytes)?;
+    Some((head(bytes, at), tail(bytes, at + 1)))
+}
+
 /// Appends what a part behind an `&` says.
 fn push_part(
     out: &mut Vec<u8>,
     part: &[u8],
     context: Context,
+    broken: bool,
 ) -> Result<Result<(), BadText>, AllocError>
-    requires { IsUtf8 part.now }
+    requires utf8 { IsUtf8 part.now }
+    requires broken { IsKept broken context part.now }
     ensures said { IfOk result (λ done. span.IsPushed out.old.items out.new.items (spec.after_ampersand context part.now) done) }
     ensures utf8 { IsUtf8 out.old.items → IfOk result (λ done. IsUtf8 out.new.items) }
 {
@@ -186,7 +226,7 @@ fn push_part(
     match referred(name) {
         Ok(c) => {
             push_char(out, c)?;
-            push_literal(out, literal, context)?;
+            push_piece(out, literal, context, broken)?;
             Ok(Ok(()))
         }
         Err(fault) => Ok(Err(fault)),
@@ -197,8 +237,31 @@ fn push_char(out: &mut Vec<u8>, c: char) -> Result<(), AllocError>
     ensures said { IfOk result (λ done. out.new.items ≡ out.old.items ++ encode_utf8 c) }
     ensures utf8 { IsUtf8 out.old.items → IfOk result (λ done. IsUtf8 out.new.items) }
 {
+    if c.is_ascii() {
+        out.push(c as u8)?;
+        return Ok(());
+    }
     let mut room = [0; 4];
     out.extend_from_slice(c.encode_utf8(&mut room).as_bytes())
+}
+
+/// Appends what bytes without references say, which is themselves where they aren't `broken`.
+fn push_piece(
+    out: &mut Vec<u8>,
+    bytes: &[u8],
+    context: Context,
+    broken: bool,
+) -> Result<(), AllocError>
+    requires utf8 { IsUtf8 bytes.now }
+    requires broken { IsKept broken context bytes.now }
+    ensures said { IfOk result (λ done. out.new.items ≡ out.old.items ++ spec.literal context bytes.now) }
+    ensures utf8 { IsUtf8 out.old.items → IfOk result (λ done. IsUtf8 out.new.items) }
+{
+    if broken {
+        push_literal(out, bytes, context)
+    } else {
+        out.extend_from_slice(bytes)
+    }
 }
 
 /// Appends what bytes without references say.
@@ -269,18 +332,13 @@ fn referred(name: &[u8]) -> Result<char, BadText>
 fn predefined(name: &[u8]) -> Option<char>
     ensures { result ≡ spec.predefined name.now }
 {
-    if is_word(name, b"lt") {
-        Some('<')
-    } else if is_word(name, b"gt") {
-        Some('>')
-    } else if is_word(name, b"amp") {
-        Some('&')
-    } else if is_word(name, b"apos") {
-        Some('\'')
-    } else if is_word(name, b"quot") {
-        Some('"')
-    } else {
-        None
+    match name {
+        [b'l', b't'] => Some('<'),
+        [b'g', b't'] => Some('>'),
+        [b'a', b'm', b'p'] => Some('&'),
+        [b'a', b'p', b'o', b's'] => Some('\''),
+        [b'q', b'u', b'o', b't'] => Some('"'),
+        _ => None,
     }
 }
 

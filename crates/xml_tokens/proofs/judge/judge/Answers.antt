@@ -1,16 +1,27 @@
 use Rattle.std.proofs.Common.{sym, ◌∙◌, subst, Ok}
-use Rattle.xml_tokens.specs.Spans.{IsJudged}
+use Rattle.xml_tokens.specs.Spans.{IsEase, IsJudged}
 use Rattle.xml_tokens.specs.declared.lexeme.Body.TheVariants.{Chars}
 use Rattle.xml_tokens.proofs.JudgedLemmas.{judged-fault, judged-sound, sound-utf8}
-use Rattle.xml_tokens.proofs.PlainLemmas.{plain-judged, plain-utf8}
+use Rattle.xml_tokens.proofs.PlainLemmas.{easy-judged, easy-unbroken, easy-utf8, literal-judged}
 use Rattle.xml_tokens.proofs.judge.judge.Goals as goal
 
 pub text_of-requires : goal.text_of-requires
-text_of-requires c = plain-utf8 c.args.bytes.now (sym c.if-is_plain.ensures)
+text_of-requires c = easy-utf8 c.args.bytes.now (subst (IsEase c.args.bytes.now) c.in-Literal.is c.ease_of.ensures).0
 
-pub returns-then-is_plain : goal.returns-then-is_plain
-returns-then-is_plain c =
-    plain-judged c.args.bytes.now (sym c.if-is_plain.ensures) c.args.first ∙ sym (λ i. Ok (Chars (c.in_ok-text.ensures i) (c.is_blank-blank.ensures i)))
+pub returns-in_ok-text-in-Literal : goal.returns-in_ok-text-in-Literal
+returns-in_ok-text-in-Literal c =
+    let ease = subst (IsEase c.args.bytes.now) c.in-Literal.is c.ease_of.ensures in
+    literal-judged c.args.bytes.now ease.0 ease.1 c.args.first ∙ sym (λ i. Ok (Chars (c.in_ok-text-in-Literal.ensures i) (c.is_blank-blank.ensures i)))
+
+pub referring-requires-clause-utf8 : goal.referring-requires-clause-utf8
+referring-requires-clause-utf8 c = easy-utf8 c.args.bytes.now (subst (IsEase c.args.bytes.now) c.in-Referring.is c.ease_of.ensures)
+
+pub referring-requires-clause-unbroken : goal.referring-requires-clause-unbroken
+referring-requires-clause-unbroken c = easy-unbroken c.args.bytes.now (subst (IsEase c.args.bytes.now) c.in-Referring.is c.ease_of.ensures)
+
+pub returns-in-Referring : goal.returns-in-Referring
+returns-in-Referring c =
+    subst (λ j. IsJudged j c.referring.result) (sym (easy-judged c.args.bytes.now (subst (IsEase c.args.bytes.now) c.in-Referring.is c.ease_of.ensures) c.args.first)) c.referring.ensures
 
 pub by_form-requires : goal.by_form-requires
 by_form-requires c = sound-utf8 c.args.bytes.now (sym c.in-None.ensures)

@@ -1,8 +1,14 @@
-use Rattle.std.proofs.Common.{◌≡◌, ℕ, List, ◌++◌, Result, Ok, Err, IfOk, IsUtf8, cond, sym, subst}
+use Rattle.std.proofs.Common.{◌≡◌, ℕ, List, [], ◌∷◌, ◌++◌, Result, Ok, Err, IfOk, IsUtf8, cond, sym, subst, ◌∙◌}
 use Rattle.std.specs.Prelude.{is_ok}
 use Rattle.std.specs.declared.alloc.AllocError.{AllocError}
 use Rattle.std.proofs.lemmas.Str.{IsUtf8-append}
+use Rattle.xml_tokens.proofs.PlainLemmas.{less}
+use Rattle.xml_tokens.proofs.Utf8Lemmas.{utf8-one}
 use Rattle.xml_tokens.proofs.text.push_char.Goals as goal
+
+pub returns-then-is_ascii-clause-utf8 : goal.returns-then-is_ascii-clause-utf8
+returns-then-is_ascii-clause-utf8 c = λ u.
+    subst IsUtf8 (sym c.in_ok-push.ensures.items) (IsUtf8-append c.args.out.now.items (c.args.c ∷ []) u (utf8-one c.args.c (less (sym c.is_ascii.ensures ∙ c.if-is_ascii.true))))
 
 pub returns-clause-utf8 : goal.returns-clause-utf8
 returns-clause-utf8 c = λ u.

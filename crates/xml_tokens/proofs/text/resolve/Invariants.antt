@@ -1,7 +1,7 @@
 use Rattle.std.proofs.Common.{◌≡◌, ◌+◌, ◌++◌, IsUtf8, IfSome, length}
 use Rattle.std.specs.Option.{option_copied, option_map_or}
 use Rattle.xml_tokens.specs.Texts.{all_of, both, said}
-use Rattle.xml_tokens.specs.Spans.{parts_of}
+use Rattle.xml_tokens.specs.Spans.{parts_of, IsKept}
 use Rattle.xml_tokens.proofs.PartLemmas.{so_far}
 use Rattle.xml_tokens.proofs.text.resolve.Given as goal
 
@@ -11,6 +11,7 @@ invariant-loop-next l = record {
   said : both (λ front rest. front ++ rest) (so_far l.is_known l.out.items) (all_of l.context (parts_of (option_copied l.next))) ≡ said l.context l.bytes;
   out : IsUtf8 l.out.items;
   next : IfSome l.next (λ later. IsUtf8 later.now);
+  kept : IfSome l.next (λ later. IsKept l.broken l.context later.now);
 }
 
 abbrev pub decreases-loop-next : goal.decreases-loop-next
