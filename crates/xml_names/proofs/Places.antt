@@ -1,13 +1,14 @@
 -- Where the last declaration of a prefix stands.
-use Rattle.std.proofs.Common.{◌≡◌, ℕ, suc, ◌+◌, ◌<◌, Bool, true, false, List, [], ◌∷◌, ◌++◌, Option, Some, None, length, refl, sym, ap, ◌∙◌, arith, add-zero, append_assoc, subst}
+use Rattle.std.proofs.Common.{◌≡◌, ℕ, suc, ◌+◌, ◌<◌, Bool, true, false, List, [], ◌∷◌, ◌++◌, Option, Some, None, length, refl, sym, ap, ◌∙◌, arith, add-zero, append_assoc, subst, map}
 use Rattle.std.specs.Prelude.{slice_get, if◌then◌else◌, MatchOption}
 use Rattle.std.specs.Option.{option_or}
 use Rattle.std.proofs.Math.Seq.{get_or-append_seam}
-use Rattle.std.proofs.lemmas.List.{append-nil, length-append}
+use Rattle.std.proofs.lemmas.List.{append-nil, length-append, map_push}
 use Rattle.std.proofs.lemmas.Option.{slice_get-get_or}
 use Rattle.stx_base.specs.declared.name.Binding.{Binding}
 use Rattle.xml_names.specs.Scope.{same, last_uri}
 use Rattle.xml_names.specs.InForce.{last_place, hidden_by}
+use Rattle.xml_names.specs.declared.in_force.Declared.{Declared}
 
 or-assoc : {X : Type 0} (a b c : Option X) → option_or a (option_or b c) ≡ option_or (option_or a b) c
 or-assoc (Some x) b c = refl
@@ -23,6 +24,23 @@ last_uri-append [] ys p = sym (or-none (last_uri ys p))
 last_uri-append (x ∷ xs) ys p =
     let mine = if same x.prefix p then Some x.uri else None in
     ap (λ o. option_or o mine) (last_uri-append xs ys p) ∙ sym (or-assoc (last_uri ys p) (last_uri xs p) mine)
+
+-- the last declaration decides where it is of the prefix
+last_uri-more : (xs : List Binding) (b : Binding) (p : List ℕ) → last_uri (xs ++ b ∷ []) p ≡ (if same b.prefix p then Some b.uri else last_uri xs p)
+last_uri-more xs b p = last_uri-append xs (b ∷ []) p ∙ by_test (same b.prefix p) where
+  by_test : (t : Bool) → option_or (option_or None (if t then Some b.uri else None)) (last_uri xs p) ≡ (if t then Some b.uri else last_uri xs p)
+  by_test true = refl
+  by_test false = refl
+
+bindings-more : (ds : List Declared) (d : Declared) (p : List ℕ) → last_uri (map (λ x. x.binding) (ds ++ d ∷ [])) p ≡ (if same d.binding.prefix p then Some d.binding.uri else last_uri (map (λ x. x.binding) ds) p)
+bindings-more ds d p = ap (λ l. last_uri l p) (map_push (λ x. x.binding) ds d) ∙ last_uri-more (map (λ x. x.binding) ds) d.binding p
+
+module _ (ds others : List Declared) (d : Declared) (p : List ℕ) (e : ds ≡ others ++ d ∷ []) where
+  pub uri-last : same d.binding.prefix p ≡ true → last_uri (map (λ x. x.binding) ds) p ≡ Some d.binding.uri
+  uri-last s = ap (λ l. last_uri (map (λ x. x.binding) l) p) e ∙ bindings-more others d p ∙ ap (λ t. if t then Some d.binding.uri else last_uri (map (λ x. x.binding) others) p) s
+
+  pub uri-before : same d.binding.prefix p ≡ false → last_uri (map (λ x. x.binding) ds) p ≡ last_uri (map (λ x. x.binding) others) p
+  uri-before s = ap (λ l. last_uri (map (λ x. x.binding) l) p) e ∙ bindings-more others d p ∙ ap (λ t. if t then Some d.binding.uri else last_uri (map (λ x. x.binding) others) p) s
 
 -- one declaration more
 pub last_place-more : (n : ℕ) (xs : List Binding) (b : Binding) (p : List ℕ) → last_place n (xs ++ b ∷ []) p ≡ (if same b.prefix p then Some (n + length xs) else last_place n xs p)

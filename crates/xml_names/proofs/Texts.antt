@@ -17,6 +17,9 @@ same-encoded a b =
     let e = bytes_eq-Decides a b in
     same_from_decides (bytes_eq (encode_utf8_all a) (encode_utf8_all b)) (same a b) d ((λ h. ap encode_utf8_all (e.0 h)), (λ h. e.1 (encodes_same a b h)))
 
+pub same-spelled : (bs text other : List ℕ) → bs ≡ encode_utf8_all text → IsUtf8 other → bytes_eq bs other ≡ same text (chars other)
+same-spelled bs text other e utf8 = ap (λ l. bytes_eq l other) e ∙ ap (bytes_eq (encode_utf8_all text)) (sym (encodes-chars other utf8)) ∙ same-encoded text (chars other)
+
 -- a text is compared with a word of ASCII
 pub same-word : (bs w : List ℕ) → IsUtf8 bs → IsAscii w → bytes_eq bs w ≡ same (chars bs) w
 same-word bs w utf8 ascii =

@@ -3,10 +3,14 @@ ghost use Rattle.std.specs.Option.{option_copied};
 ghost use Rattle.std.specs.Str.{chars};
 ghost use Rattle.xml_names.specs.Scope.{last_uri};
 
+use crate::words::is_spelled;
 use std::alloc::Global;
 use std::collections::BTreeMap;
 use std::marker::Model;
 use stx_base::{Binding, Copied, List, Memory, Text};
+
+// Up to so many declarations it takes less time to compare each than to look a prefix up.
+const FEW: usize = 16;
 
 /// A declaration of an entered element.
 #[derive(Debug, Drop)]
@@ -59,9 +63,32 @@ impl InForce {
     pub fn uri(&self, prefix: &str) -> Option<&Text>
         ensures { option_copied result ≡ last_uri self.now (chars prefix.now) }
     {
-        if self.declared.is_empty() {
-            return None;
+        if self.declared.len() <= FEW {
+            self.searched_uri(prefix)
+        } else {
+            self.indexed_uri(prefix)
         }
+    }
+
+    /// The same by a search among the declarations, the innermost first.
+    fn searched_uri(&self, prefix: &str) -> Option<&Text>
+        ensures { option_copied result ≡ last_uri self.now (chars prefix.now) }
+    {
+        let mut rest = self.declared.as_slice();
+        while let Some((last, others)) = rest.split_last() {
+            if is_spelled(&last.binding.prefix, prefix) {
+                return Some(&last.binding.uri);
+            }
+            rest = others;
+        }
+        None
+    }
+
+    /// The same by the places.
+    #[inline(never)]
+    fn indexed_uri(&self, prefix: &str) -> Option<&Text>
+        ensures { option_copied result ≡ last_uri self.now (chars prefix.now) }
+    {
         let place = self.places.get(prefix)?;
         let declared = self.declared.get(*place)?;
         Some(&declared.binding.uri)

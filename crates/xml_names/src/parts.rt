@@ -36,12 +36,8 @@ pub fn parts_of(name: &str) -> Parts<'_>
 pub fn is_qname(name: &str) -> bool
     ensures { result ≡ spec.is_qname (chars name.now) }
 {
-    // Most names are NCNames, in which no colon has to be looked for.
-    if is_ncname(name) {
-        return true;
-    }
     match name.split_once(':') {
         Some((prefix, local)) => is_ncname(prefix) && is_ncname(local),
-        None => false,
+        None => is_ncname(name),
     }
 }

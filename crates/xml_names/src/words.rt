@@ -4,12 +4,21 @@ ghost use Rattle.std.specs.Str.{chars};
 ghost use Rattle.xml_names.specs.Scope.{is_empty, same};
 ghost use Rattle.xml_names.specs.Tag.{agree};
 
+use stx_base::Text;
+
 /// Whether a text is a word of ASCII.
 pub fn is_word(text: &str, word: &str) -> bool
     requires { list_all (λ b. nat_lt b 128) word.now ≡ true }
     ensures { result ≡ same (chars text.now) word.now }
 {
     text == word
+}
+
+/// Whether a text has the characters of another.
+pub fn is_spelled(text: &Text, other: &str) -> bool
+    ensures { result ≡ same text.now (chars other.now) }
+{
+    text.as_str() == other
 }
 
 pub fn is_empty(text: &str) -> bool

@@ -3,7 +3,7 @@ use Rattle.std.specs.Option.{option_map, option_copied}
 use Rattle.std.specs.Str.{chars}
 use Rattle.xml_names.specs.Scope.{last_uri}
 use Rattle.xml_names.proofs.Index.{absent, present}
-use Rattle.xml_names.proofs.in_force.InForce.uri.Goals as goal
+use Rattle.xml_names.proofs.in_force.InForce.indexed_uri.Goals as goal
 
 pub returns-in_err-place : goal.returns-in_err-place
 returns-in_err-place c =
