@@ -10,9 +10,9 @@ use Rattle.stx_base.specs.declared.name.Name.{Name}
 use Rattle.stx_base.specs.declared.part.Part.{Part}
 use Rattle.stx_base.specs.declared.part.Part.TheVariants as part
 use Rattle.result_writer.specs.Allowed.{is_empty, is_good_attribute, is_good_name, is_qname, same}
-use Rattle.result_writer.specs.Laws.{AreApart, AreDistinct, DeclaresOnce, HoldsGoodTags, WritesOnce}
+use Rattle.result_writer.specs.Laws.{AreApart, DeclaresOnce, HoldsGoodTags, WritesOnce}
 use Rattle.result_writer.specs.Table.{attribute_prefix, entered, free_prefix, has_prefix, in_order, is_new, is_taken, placed, precedes, prefixes, with_attributes, with_element, with_name, with_scope}
-use Rattle.result_writer.specs.Target.{Left, added, fault, first_fault, left_by, next, nothing, or_else, same_name, unless, with_attribute}
+use Rattle.result_writer.specs.Target.{AreDistinct, Left, added, fault, first_fault, left_by, next, nothing, or_else, same_name, unless, with_attribute}
 use Rattle.result_writer.specs.declared.fault.ResultFault.{ResultFault}
 use Rattle.result_writer.specs.declared.fault.ResultFault.TheVariants.{BadName}
 use Rattle.result_writer.specs.declared.tag.HeldTag.{HeldTag}
@@ -31,11 +31,11 @@ true_or_false : (t : Bool) → (t ≡ true) ⊎ (t ≡ false)
 true_or_false true = inl refl
 true_or_false false = inr refl
 
-or_none : (s t : Bool) → (s || t) ≡ false → (s ≡ false) × (t ≡ false)
+pub or_none : (s t : Bool) → (s || t) ≡ false → (s ≡ false) × (t ≡ false)
 or_none true t h = absurd cc
 or_none false t h = (refl, h)
 
-none_or : (s t : Bool) → s ≡ false → t ≡ false → (s || t) ≡ false
+pub none_or : (s t : Bool) → s ≡ false → t ≡ false → (s || t) ≡ false
 none_or true t h k = absurd cc
 none_or false t h k = k
 
@@ -53,7 +53,7 @@ names_same m n h = let both = and_parts (same m.uri n.uri) (same m.local n.local
 names_of : (m n : Name) → m.uri ≡ n.uri → m.local ≡ n.local → same_name m n ≡ true
 names_of m n u l = and_from (same m.uri n.uri) (same m.local n.local) (same-of m.uri n.uri u) (same-of m.local n.local l)
 
-names_other : (m n : Name) → same_name m n ≡ false → same_name n m ≡ false
+pub names_other : (m n : Name) → same_name m n ≡ false → same_name n m ≡ false
 names_other m n h = ⊎_elim
     (λ k. let e = names_same n m k in absurd (both_ways (same_name m n) (names_of m n (sym e.0) (sym e.1)) h))
     (λ k. k) (true_or_false (same_name n m))

@@ -23,7 +23,7 @@ or-assoc : (a b c : Fault) → or_else (or_else a b) c ≡ or_else a (or_else b 
 or-assoc None b c = refl
 or-assoc (Some f) b c = refl
 
-or-none : (a : Fault) → or_else a None ≡ a
+pub or-none : (a : Fault) → or_else a None ≡ a
 or-none None = refl
 or-none (Some f) = refl
 
@@ -38,7 +38,7 @@ ended false n rest a k next = refl
 ended true n rest a k next =
     ap (λ v. or_else rest (or_else a (or_else k (or_else (unless v WrongEnd None) next)))) (same_name-self n)
 
-attributes : (limit : ℕ) (es : List Element) (tag : HeldTag) (attrs : List Attr) (ps : List Part) →
+pub attributes : (limit : ℕ) (es : List Element) (tag : HeldTag) (attrs : List Attr) (ps : List Part) →
     first_fault limit (within es tag) (map attribute_part attrs ++ ps)
     ≡ or_else (attributes_fault attrs) (first_fault limit (within es (record tag { attrs = collected tag.attrs attrs })) ps)
 attributes limit es tag [] ps = refl
@@ -94,7 +94,7 @@ judged limit es (Nested tag kids next) ps =
     ∙ ap (or_else (attributes_fault tag.attrs)) (or-assoc inner behind more)))
 
 -- nodes leave nothing open
-attributes-left : (es : List Element) (tag : HeldTag) (attrs : List Attr) (ps : List Part) →
+pub attributes-left : (es : List Element) (tag : HeldTag) (attrs : List Attr) (ps : List Part) →
     left_by (within es tag) (map attribute_part attrs ++ ps) ≡ left_by (within es (record tag { attrs = collected tag.attrs attrs })) ps
 attributes-left es tag [] ps = refl
 attributes-left es tag (a ∷ attrs) ps = attributes-left es (record tag { attrs = with_attribute tag.attrs a.name a.value }) attrs ps

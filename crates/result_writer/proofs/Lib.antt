@@ -11,4 +11,5 @@ mod Prefixing
 mod Steadying
 mod Tabling
 mod Texts
+mod Together
 mod Trees

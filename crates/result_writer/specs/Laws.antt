@@ -10,7 +10,7 @@ use Rattle.result_writer.specs.Allowed.{is_good_attribute, is_good_name, is_pref
 use Rattle.result_writer.specs.Nodes.{Nodes, End, Chars, Comment, Instruction, Nested, forest, inside, nodes_fault, parts_of, plain, unprefixed, written}
 use Rattle.result_writer.specs.Table.{bound, has_prefix, with_attributes, with_element}
 use Rattle.result_writer.specs.Tag.{dressed}
-use Rattle.result_writer.specs.Target.{first_fault, left_by, nothing, same_name, text, text_from, whole_fault, with_attribute}
+use Rattle.result_writer.specs.Target.{first_fault, left_by, nothing, same_name, text, text_from, whole_fault, with_attribute, AreDistinct}
 use Rattle.result_writer.specs.declared.tag.HeldTag.{HeldTag}
 
 -- More parts only append to the text.
@@ -91,11 +91,6 @@ abbrev pub TextsJoin : Type 0
 TextsJoin =
     (ps qs : List Part) (a b : List ℕ)
     → forest (ps ++ part.Chars a ∷ part.Chars b ∷ qs) ≡ forest (ps ++ part.Chars (a ++ b) ∷ qs)
-
--- no two attributes have one name
-abbrev pub AreDistinct : List Attr → Type 0
-AreDistinct [] = Unit {0}
-AreDistinct (a ∷ attrs) = (list_any (λ b. same_name b.name a.name) attrs ≡ false) × AreDistinct attrs
 
 -- What is held back of accepted parts is a tag of good names, in which each name has one attribute.
 abbrev pub HoldsGoodTags : Type 0

@@ -1,5 +1,6 @@
 -- What parts leave of a target, which parts it accepts, and what it writes of them.
-use Rattle.std.specs.Prelude.{◌≡◌, ℕ, ◌+◌, Bool, true, false, ◌&&◌, nat_lt, if◌then◌else◌, List, [], ◌∷◌, ◌++◌, Option, Some, None, is_some, length, codes, encode_utf8_all}
+use Rattle.std.specs.Prelude.{◌≡◌, ◌≤◌, ℕ, ◌+◌, Bool, true, false, ◌&&◌, nat_lt, if◌then◌else◌, List, [], ◌∷◌, ◌++◌, Option, Some, None, is_some, length, codes, encode_utf8_all}
+use Rattle.std.specs.List.{list_any}
 use Rattle.stx_base.specs.declared.name.Attr.{Attr}
 use Rattle.stx_base.specs.declared.name.Binding.{Binding}
 use Rattle.stx_base.specs.declared.name.Name.{Name}
@@ -75,6 +76,11 @@ abbrev pub with_attribute : List Attr → Name → List ℕ → List Attr
 with_attribute [] name value = record { name = name; value = value } ∷ []
 with_attribute (a ∷ attrs) name value =
     if same_name a.name name then record a { value = value } ∷ attrs else a ∷ with_attribute attrs name value
+
+-- no two attributes have one name
+abbrev pub AreDistinct : List Attr → Type 0
+AreDistinct [] = Unit {0}
+AreDistinct (a ∷ attrs) = (list_any (λ b. same_name b.name a.name) attrs ≡ false) × AreDistinct attrs
 
 abbrev pub added : Option HeldTag → Name → List ℕ → Option HeldTag
 added None name value = None
@@ -208,6 +214,12 @@ abbrev pub whole_fault : (limit : ℕ) → List Part → Option ResultFault
 whole_fault limit ps =
     let l = left_by nothing ps in
     or_else (first_fault limit nothing ps) (if is_closed l.elements l.held then None else Some UnclosedResult)
+
+-- Attributes can be taken at once: a start tag is held back that has none, and they are few, each of another name.
+pub record TakesAtOnce (l : Left) (attrs : List Attr) : Type 0 where
+  pub bare : (tag : HeldTag) × (l.held ≡ Some tag) × (tag.attrs ≡ [])
+  pub few : length attrs ≤ 16
+  pub distinct : AreDistinct attrs
 
 -- a refusal is for the fault that there is, or for want of memory, which no fault tells
 abbrev pub IsCause : Option ResultFault → WriteStop → Type 0

@@ -1,10 +1,10 @@
 //! The attributes of a start tag that is held back.
 
-ghost use Rattle.std.specs.Prelude.{◌≡◌, ◌<◌, ◌++◌, ◌∷◌, [], ℕ, false, IfOk, MatchOption, OnOk, OnErr, drop, encode_utf8_all, length, map, slice_get, slice_set, string_bytes};
+ghost use Rattle.std.specs.Prelude.{◌≡◌, ◌<◌, ◌≤◌, true, ◌++◌, ◌∷◌, [], ℕ, false, IfOk, MatchOption, OnOk, OnErr, drop, encode_utf8_all, length, map, slice_get, slice_set, string_bytes};
 ghost use Rattle.std.specs.List.{list_any};
 ghost use Rattle.stx_base.specs.declared.name.Attr.{Attr};
 ghost use Rattle.result_writer.specs.Attributes.{place_of, IsFirst};
-ghost use Rattle.result_writer.specs.Target.{same_name, with_attribute};
+ghost use Rattle.result_writer.specs.Target.{same_name, with_attribute, AreDistinct};
 
 use crate::words::same_name;
 use std::alloc::Global;
@@ -65,6 +65,24 @@ impl Attributes {
             Some(at) => self.replace(at, value),
             None => self.append(Attr { name, value }),
         }
+    }
+
+    /// Whether all attributes of a list can be taken as they are: there are none yet, and they are few, each of another name.
+    pub fn can_fill(&self, attrs: &[Attr]) -> bool
+        ensures none { result ≡ true → self.now ≡ [] }
+        ensures few { result ≡ true → length attrs.now ≤ 16 }
+        ensures distinct { result ≡ true → AreDistinct attrs.now }
+    {
+        self.list.is_empty() && attrs.len() <= FEW && are_distinct(attrs)
+    }
+
+    /// Takes all attributes of a list as they are. Allocates nothing.
+    pub fn fill(&mut self, list: List<Attr>)
+        requires none { self.old ≡ [] }
+        requires few { length list ≤ 16 }
+        ensures { self.new ≡ list }
+    {
+        self.list = list;
     }
 
     /// Drops all attributes. Allocates nothing.
@@ -132,6 +150,26 @@ impl Attributes {
             }
         }
     }
+}
+
+/// Whether no two attributes have one name.
+fn are_distinct(attrs: &[Attr]) -> bool
+    ensures { result ≡ true → AreDistinct attrs.now }
+{
+    let mut rest = attrs;
+    while let Some((attr, others)) = rest.split_first() {
+        if has_name(others, &attr.name) {
+            return false;
+        }
+        rest = others;
+    }
+    true
+}
+
+fn has_name(attrs: &[Attr], name: &Name) -> bool
+    ensures { result ≡ list_any (λ a. same_name a.name name.now) attrs.now }
+{
+    attrs.iter().any(|attr| same_name(&attr.name, name))
 }
 
 fn key_of(alloc: Global, name: &Name) -> Result<(String, String), Memory>

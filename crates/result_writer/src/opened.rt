@@ -1,14 +1,16 @@
-ghost use Rattle.std.specs.Prelude.{◌≡◌, ◌<◌, ◌+◌, ◌++◌, ◌∷◌, [], ℕ, None, Some, false, true, List as Items, codes, IfOk, IfErr, IfSome, MatchOption, OnOk, OnErr, is_some, length, slice_get, slice_set, unwrap_or, vec_capacity, vec_len, ◌≤◌};
+ghost use Rattle.std.specs.Prelude.{◌≡◌, ◌<◌, ◌+◌, ◌++◌, ◌∷◌, [], ℕ, None, Some, false, true, List as Items, codes, IfOk, IfErr, IfSome, MatchOption, OnOk, OnErr, is_some, length, map, slice_get, slice_set, unwrap_or, vec_capacity, vec_len, ◌≤◌};
 ghost use Rattle.std.specs.Option.{option_copied};
 ghost use Rattle.stx_base.specs.declared.name.Attr.{Attr};
 ghost use Rattle.stx_base.specs.declared.name.Name.{Name};
 ghost use Rattle.stx_base.specs.declared.part.Part.TheVariants.{Start, Attribute, End, Chars};
 ghost use Rattle.result_writer.specs.Allowed.{is_good_name};
 ghost use Rattle.result_writer.specs.Bytes.{Begins};
+ghost use Rattle.result_writer.specs.Nodes as nodes;
+ghost use Rattle.result_writer.specs.Nodes.{attribute_part};
 ghost use Rattle.result_writer.specs.Opened.{dressing, held, SameAround, Settles};
 ghost use Rattle.result_writer.specs.Steady.{keep_bindings};
 ghost use Rattle.result_writer.specs.Target as spec;
-ghost use Rattle.result_writer.specs.Target.{behind, comment_text, depth, dressed_in, end_text, fresh, innermost, instruction_text, is_closed, tag_text, with_attribute, IsCause};
+ghost use Rattle.result_writer.specs.Target.{behind, comment_text, depth, dressed_in, end_text, fresh, innermost, instruction_text, is_closed, left_by, tag_text, with_attribute, IsCause, TakesAtOnce};
 
 use crate::allowed::{
     are_chars, is_good_attribute, is_good_comment, is_good_data, is_good_name, is_good_target,
@@ -22,7 +24,7 @@ use crate::words::{is_empty, same_name};
 use std::alloc::Global;
 use std::marker::Model;
 use std::mem;
-use stx_base::{Binding, Copied, List, Memory, Name, Part, Text};
+use stx_base::{Attr, Binding, Copied, List, Memory, Name, Part, Text};
 
 /// An element whose start tag is settled, and whose end is still to come.
 #[derive(Debug, Drop)]
@@ -332,6 +334,21 @@ impl Opened {
         }
     }
 
+    /// Whether attributes can be taken at once.
+    pub(crate) fn takes_at_once(&self, attrs: &[Attr]) -> bool
+        ensures { result ≡ true → TakesAtOnce self.now.left attrs.now }
+    {
+        self.around.holds && self.around.tag.attrs.can_fill(attrs)
+    }
+
+    /// Takes attributes at once. Allocates nothing.
+    pub(crate) fn add_attributes(&mut self, attrs: List<Attr>)
+        requires { TakesAtOnce self.old.left attrs }
+        ensures { self.new ≡ record self.old { left = left_by self.old.left (map attribute_part attrs) } }
+    {
+        self.around.tag.attrs.fill(attrs);
+    }
+
     pub(crate) fn end(&mut self)
         ensures { (name : Name) → self.new ≡ behind self.old (End name) }
     {
@@ -462,6 +479,21 @@ fn is_name(innermost: Option<&Name>, name: &Name) -> bool
         None => false,
         Some(innermost) => innermost.same(name) && innermost.prefix.same(&name.prefix),
     }
+}
+
+/// The first fault of attributes of a tag that is held back.
+pub fn attributes_fault(attrs: &[Attr]) -> Option<ResultFault>
+    ensures { result ≡ nodes.attributes_fault attrs.now }
+{
+    for attr in attrs {
+        if !is_good_attribute(&attr.name) {
+            return Some(ResultFault::BadName);
+        }
+        if !are_chars(&attr.value) {
+            return Some(ResultFault::BadChar);
+        }
+    }
+    None
 }
 
 pub fn chars_fault(text: &Text) -> Option<ResultFault>

@@ -1,21 +1,23 @@
-ghost use Rattle.std.specs.Prelude.{◌≡◌, ◌++◌, [], true, false, None, Some, Err, IfOk, IfErr, MatchResult, OnOk, OnErr};
+ghost use Rattle.std.specs.Prelude.{◌≡◌, ◌++◌, [], true, false, None, Some, Err, IfOk, IfErr, MatchResult, OnOk, OnErr, map};
 ghost use Rattle.stx_base.specs.declared.part.Part.TheVariants.{Start, Attribute, End, Chars, Comment, Pi};
 ghost use Rattle.stx_base.specs.declared.name.Name.{Name as Spelled};
 ghost use Rattle.result_writer.specs.Allowed.{is_good_name};
 ghost use Rattle.result_writer.specs.Bytes.{Begins};
+ghost use Rattle.result_writer.specs.Nodes.{attribute_part};
 ghost use Rattle.result_writer.specs.Opened.{dressing};
 ghost use Rattle.result_writer.specs.Target as spec;
-ghost use Rattle.result_writer.specs.Target.{behind, dressed_in, end_text, fresh, innermost, is_closed, settles, text, whole_fault, IsCause};
+ghost use Rattle.result_writer.specs.Target.{behind, dressed_in, end_text, first_fault, fresh, innermost, is_closed, left_by, settles, text, whole_fault, IsCause, TakesAtOnce};
 
 use crate::escape::{Context, append_escaped};
 use crate::fault::{ResultFault, WriteStop};
 use crate::opened::{
-    Opened, append_comment, append_instruction, chars_fault, comment_fault, instruction_fault,
+    Opened, append_comment, append_instruction, attributes_fault, chars_fault, comment_fault,
+    instruction_fault,
 };
 use crate::tag::Dressed;
 use std::alloc::Global;
 use std::marker::Model;
-use stx_base::{Binding, Copied, List, Memory, Name, Part, Text};
+use stx_base::{Attr, Binding, Copied, List, Memory, Name, Part, Text};
 
 /// Writes the parts of a result.
 #[derive(Debug, Drop)]
@@ -127,6 +129,29 @@ impl Writer {
             return Err(WriteStop::Fault(fault));
         }
         self.opened.add_attribute(name, value)?;
+        Ok(())
+    }
+
+    /// Whether attributes can be put at once.
+    pub fn takes_at_once(&self, attrs: &[Attr]) -> bool
+        ensures { result ≡ true → TakesAtOnce self.now.left attrs.now }
+    {
+        self.opened.takes_at_once(attrs)
+    }
+
+    /// The same of all attributes of a tag, without moving each of them. Allocates nothing. After a refusal they are dropped,
+    /// and all else is unchanged.
+    pub fn put_attributes(&mut self, attrs: List<Attr>) -> Result<(), ResultFault>
+        requires { TakesAtOnce self.old.left attrs }
+        ensures taken { OnOk result (first_fault self.old.limit self.old.left (map attribute_part attrs) ≡ None) }
+        ensures fault { IfErr result (λ fault. first_fault self.old.limit self.old.left (map attribute_part attrs) ≡ Some fault) }
+        ensures ok { OnOk result (self.new ≡ record self.old { left = left_by self.old.left (map attribute_part attrs) }) }
+        ensures err { OnErr result (self.new ≡ self.old) }
+    {
+        if let Some(fault) = attributes_fault(attrs.as_slice()) {
+            return Err(fault);
+        }
+        self.opened.add_attributes(attrs);
         Ok(())
     }
 
