@@ -1,17 +1,18 @@
 -- Names that are taken apart at their first colon.
-use Rattle.std.proofs.Common.{◌≡◌, ◌⊎◌, inl, inr, ℕ, zero, suc, ◌+◌, ◌<◌, Bool, true, false, not, cond, ◌==◌, ◌||◌, ◌&&◌, List, [], ◌∷◌, ◌++◌, length, take, drop, get_or, Option, Some, None, Bor, refl, sym, ap, ◌∙◌, arith, subst, IsUtf8}
-use Rattle.std.specs.Prelude.{if◌then◌else◌, is_some}
-use Rattle.std.specs.List.{list_any, list_all, before_first, after_first, position_or_len}
+use Rattle.std.proofs.Common.{◌≡◌, ◌⊎◌, inl, inr, ℕ, zero, suc, ◌+◌, ◌<◌, ◌≤◌, Bool, true, false, not, cond, ◌||◌, ◌&&◌, List, [], ◌∷◌, ◌++◌, length, take, drop, get_or, Some, None, refl, sym, ap, ◌∙◌, arith, subst, IsUtf8, encode_utf8_all, append_assoc}
+use Rattle.std.specs.Prelude.{if◌then◌else◌, nat_lt, encode_utf8}
+use Rattle.std.specs.List.{list_any, list_all, before_first, after_first, position, position_or_len}
 use Rattle.std.specs.Option.{option_map_or}
 use Rattle.std.specs.Prelude.{slice_get}
-use Rattle.std.specs.Str.{chars, IsAscii, NoCharPasses, NonePass}
-use Rattle.std.proofs.lemmas.Bool.{or_parts, or_right, and_parts, and_from, eqb-true, cases_Bool}
-use Rattle.std.proofs.Math.Seq.{get_or-append_seam}
-use Rattle.std.proofs.lemmas.List.{take_at, length-append}
-use Rattle.std.proofs.lemmas.Str.{encodes_same, encodes-chars, chars-append, chars-IsAscii, IsUtf8-from_ascii, IsUtf8-take, IsCharBoundary-before_ascii}
-use Rattle.std.proofs.lemmas.Str.Pattern.{IsSplitOnceResult, split_parts}
+use Rattle.std.specs.Str.{chars, IsAscii}
+use Rattle.std.proofs.lemmas.Bool.{or_parts, or_right, and_parts, and_from, eqb-true, ltb-false, cases_Bool}
+use Rattle.std.proofs.Math.Seq.{drop-cons, get_or-append_seam}
+use Rattle.std.proofs.lemmas.List.{take_at, take-append-drop, length-append}
+use Rattle.std.proofs.lemmas.List.Quantifiers.{position-Some}
+use Rattle.std.proofs.lemmas.List.Sums.{fails_before_first}
+use Rattle.std.proofs.lemmas.Str.{encode_ascii, encodes-chars, chars-append, chars-IsAscii, IsUtf8-from_ascii, IsUtf8-take, IsCharBoundary-before_ascii}
 use Rattle.stx_base.specs.Character.{is_ncname, is_ncname_char, is_name_char, is_name_start}
-use Rattle.xml_names.specs.QName.{is_colon, has_colon, prefix_of, local_of, is_qname, IsQName}
+use Rattle.xml_names.specs.QName.{is_colon, has_colon, prefix_of, local_of, is_qname, IsCut, IsQName}
 
 -- the first colon stands behind a front without one
 position-first : (front back : List ℕ) → list_any is_colon front ≡ false → position_or_len is_colon (front ++ 0x3A ∷ back) ≡ length front
@@ -116,12 +117,24 @@ read name prefix local h = by_case h.1 where
 
 -- Texts that are cut.
 
--- a text in which no character is a colon
-pub none-passes : (bs : List ℕ) → IsUtf8 bs → NoCharPasses (λ c. c == 0x3A) bs → list_any is_colon (chars bs) ≡ false
-none-passes bs utf8 h = ap (list_any is_colon) (sym (encodes_same h.0 (chars bs) (h.1 ∙ sym (encodes-chars bs utf8)))) ∙ all h.0 h.2 where
-  all : (cs : List ℕ) → NonePass (λ c. c == 0x3A) cs → list_any is_colon cs ≡ false
-  all [] n = refl
-  all (c ∷ cs) n = ap (λ t. t || list_any is_colon cs) n.0 ∙ all cs n.1
+-- bytes among which no colon is spell none
+colon-encoded : encode_utf8 0x3A ≡ 0x3A ∷ []
+colon-encoded = encode_ascii 0x3A (omega arith)
+
+encoded : (xs ys : List ℕ) → encode_utf8_all (xs ++ 0x3A ∷ ys) ≡ encode_utf8_all xs ++ 0x3A ∷ encode_utf8_all ys
+encoded [] ys = ap (λ l. l ++ encode_utf8_all ys) colon-encoded
+encoded (x ∷ xs) ys = ap (λ l. encode_utf8 x ++ l) (encoded xs ys) ∙ sym (append_assoc (encode_utf8 x) (encode_utf8_all xs) (0x3A ∷ encode_utf8_all ys))
+
+none-spelled : (bs : List ℕ) → IsUtf8 bs → list_any is_colon bs ≡ false → has_colon (chars bs) ≡ false
+none-spelled bs utf8 h = by_case (cases_Bool (has_colon (chars bs))) where
+  by_case : (has_colon (chars bs) ≡ true) ⊎ (has_colon (chars bs) ≡ false) → has_colon (chars bs) ≡ false
+  by_case (inr e) = e
+  by_case (inl e) =
+      let cut = split-any (chars bs) e in
+      let whole : bs ≡ encode_utf8_all cut.0 ++ 0x3A ∷ encode_utf8_all cut.1 = sym (encodes-chars bs utf8) ∙ ap encode_utf8_all cut.3 ∙ encoded cut.0 cut.1 in
+      let some : list_any is_colon bs ≡ true = ap (list_any is_colon) whole ∙ any-first (encode_utf8_all cut.0) (encode_utf8_all cut.1) in
+      let never : true ≡ false = sym some ∙ h in
+      absurd (cc)
 
 -- a text that is cut at a colon
 chars-cut : (bs front back : List ℕ) → IsUtf8 front → bs ≡ front ++ 0x3A ∷ back → chars bs ≡ chars front ++ 0x3A ∷ chars back
@@ -141,38 +154,53 @@ front-utf8 bs front back utf8 e =
     subst IsUtf8 (ap (take (length front)) e ∙ take_at front (0x3A ∷ back) (length front) refl)
     (IsUtf8-take bs (length front) utf8 (IsCharBoundary-before_ascii bs (length front) within small))
 
--- What `split_once` gives at a colon.
+-- Names that are cut at the place of their first colon.
 
--- a name as its parts have it
-pub record IsCut (bs front back : List ℕ) : Type 0 where
-  pub some : has_colon (chars bs) ≡ true
-  pub prefix : prefix_of (chars bs) ≡ chars front
-  pub local : local_of (chars bs) ≡ chars back
+all-fail : (xs : List ℕ) → ((j : ℕ) → j < length xs → is_colon (get_or xs j 0) ≡ false) → list_any is_colon xs ≡ false
+all-fail [] h = refl
+all-fail (x ∷ xs) h = ap (λ t. t || list_any is_colon xs) (h 0 (omega arith)) ∙ all-fail xs (λ j less. h (suc j) (omega arith))
 
-pub split-some : (bs : List ℕ) (x : Bor (List ℕ) × Bor (List ℕ)) → IsUtf8 bs → IsSplitOnceResult 0x3A bs (Some x) → IsCut bs x.0.now x.1.now
-split-some bs x utf8 h =
-    let whole : bs ≡ x.0.now ++ 0x3A ∷ x.1.now = (split_parts 0x3A bs (Some x) h (omega arith)).0 in
-    let front : IsUtf8 x.0.now = front-utf8 bs x.0.now x.1.now utf8 whole in
-    let none : list_any is_colon (chars x.0.now) ≡ false = none-passes x.0.now front (subst (NoCharPasses (λ d. d == 0x3A)) (sym h.3) h.2.0) in
-    let cut = chars-cut bs x.0.now x.1.now front whole in
-    record {
-      some = ap has_colon cut ∙ has_colon-first (chars x.0.now) (chars x.1.now) none;
-      prefix = ap prefix_of cut ∙ prefix_of-first (chars x.0.now) (chars x.1.now) none;
-      local = ap local_of cut ∙ local_of-first (chars x.0.now) (chars x.1.now) none;
-    }
+pub no-place : (bs : List ℕ) → IsUtf8 bs → None ≡ position is_colon bs → has_colon (chars bs) ≡ false
+no-place bs utf8 e = none-spelled bs utf8 (all-fail bs (λ j less. fails_before_first is_colon bs j 0 (omega (arith, less, behind)))) where
+  by_test : (t : Bool) (k : ℕ) → None ≡ cond t (Some k) None → t ≡ false
+  by_test true k h = absurd (cc)
+  by_test false k h = refl
 
-pub split-none : (bs : List ℕ) → IsUtf8 bs → NoCharPasses (λ d. d == 0x3A) bs → has_colon (chars bs) ≡ false
-split-none bs utf8 h = none-passes bs utf8 h
+  behind : length bs ≤ position_or_len is_colon bs
+  behind = ltb-false (position_or_len is_colon bs) (length bs) (by_test (nat_lt (position_or_len is_colon bs) (length bs)) (position_or_len is_colon bs) e)
 
-pub split-is_none : (bs : List ℕ) (o : Option (Bor (List ℕ) × Bor (List ℕ))) (none : Bool) → IsUtf8 bs → IsSplitOnceResult 0x3A bs o → is_some o ≡ not none → none ≡ not (has_colon (chars bs))
-split-is_none bs o none utf8 h e = flip none (has_colon (chars bs)) (sym e ∙ by_case o h) where
-  by_case : (o : Option (Bor (List ℕ) × Bor (List ℕ))) → IsSplitOnceResult 0x3A bs o → is_some o ≡ has_colon (chars bs)
-  by_case None h = sym (split-none bs utf8 h)
-  by_case (Some x) h = sym (split-some bs x utf8 h).some
+none-before : (xs : List ℕ) (k : ℕ) → ((j : ℕ) → j < k → is_colon (get_or xs j 0) ≡ false) → list_any is_colon (take k xs) ≡ false
+none-before xs zero h = refl
+none-before [] (suc k) h = refl
+none-before (x ∷ xs) (suc k) h = ap (λ t. t || list_any is_colon (take k xs)) (h 0 (omega arith)) ∙ none-before xs k (λ j less. h (suc j) (omega arith))
 
-  flip : (a b : Bool) → not a ≡ b → a ≡ not b
-  flip true b e = ap not e
-  flip false b e = ap not e
+module _ (bs : List ℕ) (k : ℕ) (e : Some k ≡ position is_colon bs) where
+  found : (k < length bs) × (is_colon (get_or bs k 0) ≡ true) × ((j : ℕ) → j < k → is_colon (get_or bs j 0) ≡ false)
+  found = position-Some is_colon bs k 0 (sym e)
+
+  pub place-within : k < length bs
+  place-within = found.0
+
+  colon-there : get_or bs k 0 ≡ 0x3A
+  colon-there = eqb-true (get_or bs k 0) 0x3A found.1
+
+  pub place-ascii : get_or bs k 0 < 128
+  place-ascii = omega (arith, colon-there)
+
+  pub cut-there : IsUtf8 bs → IsCut bs (take k bs) (drop (k + 1) bs)
+  cut-there utf8 =
+      let n : suc k ≡ k + 1 = omega arith in
+      let whole : bs ≡ take k bs ++ 0x3A ∷ drop (k + 1) bs =
+      sym (take-append-drop k bs) ∙ ap (λ l. take k bs ++ l) (drop-cons bs k 0 found.0)
+      ∙ ap (λ c. take k bs ++ c ∷ drop (suc k) bs) colon-there ∙ ap (λ m. take k bs ++ 0x3A ∷ drop m bs) n in
+      let front : IsUtf8 (take k bs) = front-utf8 bs (take k bs) (drop (k + 1) bs) utf8 whole in
+      let none : has_colon (chars (take k bs)) ≡ false = none-spelled (take k bs) front (none-before bs k found.2) in
+      let cut = chars-cut bs (take k bs) (drop (k + 1) bs) front whole in
+      record {
+        some = ap has_colon cut ∙ has_colon-first (chars (take k bs)) (chars (drop (k + 1) bs)) none;
+        prefix = ap prefix_of cut ∙ prefix_of-first (chars (take k bs)) (chars (drop (k + 1) bs)) none;
+        local = ap local_of cut ∙ local_of-first (chars (take k bs)) (chars (drop (k + 1) bs)) none;
+      }
 
 pub cut-qname : (bs front back : List ℕ) → IsCut bs front back → is_qname (chars bs) ≡ (is_ncname (chars front) && is_ncname (chars back))
 cut-qname bs front back cut =

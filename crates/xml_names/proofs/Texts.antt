@@ -1,9 +1,9 @@
 -- Texts as characters and as bytes.
-use Rattle.std.proofs.Common.{◌≡◌, ◌≢◌, ℕ, true, ◌==◌, List, [], ◌∷◌, length, refl, sym, ap, ◌∙◌, IsUtf8, encode_utf8_all, zero, suc, arith}
-use Rattle.std.specs.Prelude.{bytes_eq, nat_lt, encode_utf8}
+use Rattle.std.proofs.Common.{◌≡◌, ◌≢◌, ◌⊎◌, inl, inr, ℕ, true, false, ◌==◌, List, [], ◌∷◌, length, refl, sym, ap, ◌∙◌, IsUtf8, encode_utf8_all, zero, suc, arith}
+use Rattle.std.specs.Prelude.{bytes_eq, nat_eq, nat_lt, encode_utf8}
 use Rattle.std.specs.List.{list_all}
 use Rattle.std.specs.Str.{chars, IsAscii}
-use Rattle.std.proofs.lemmas.Bool.{and_parts, ltb-true, ne_eqb}
+use Rattle.std.proofs.lemmas.Bool.{and_parts, cases_Bool, ltb-true, ne_eqb}
 use Rattle.std.proofs.lemmas.Bool.Decides.{same_from_decides}
 use Rattle.std.proofs.lemmas.List.{length-append}
 use Rattle.std.proofs.lemmas.Slice.Eq.{bytes_eq-Decides}
@@ -27,6 +27,13 @@ same-word bs w utf8 ascii =
     let e = bytes_eq-Decides (chars bs) w in
     same_from_decides (bytes_eq bs w) (same (chars bs) w) d
     ((λ h. sym (encodes-chars bs utf8) ∙ ap encode_utf8_all (e.0 h) ∙ encodes-IsAscii w ascii), (λ h. e.1 (ap chars h ∙ chars-IsAscii w ascii)))
+
+-- texts of other lengths differ
+pub other-length : (a b : List ℕ) → length a ≢ length b → nat_eq (length a) (length b) ≡ bytes_eq a b
+other-length a b ne = ne_eqb (length a) (length b) ne ∙ sym (by_case (cases_Bool (bytes_eq a b))) where
+  by_case : (bytes_eq a b ≡ true) ⊎ (bytes_eq a b ≡ false) → bytes_eq a b ≡ false
+  by_case (inr e) = e
+  by_case (inl e) = absurd (ne (ap length ((bytes_eq-Decides a b).0 e)))
 
 pub same-true : (a b : List ℕ) → same a b ≡ true → a ≡ b
 same-true a b h = (bytes_eq-Decides a b).0 h

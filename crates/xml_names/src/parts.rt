@@ -1,6 +1,8 @@
-ghost use Rattle.std.specs.Prelude.{◌≡◌, not};
+ghost use Rattle.std.specs.Prelude.{◌≡◌, false, MatchOption};
+ghost use Rattle.std.specs.List.{position};
 ghost use Rattle.std.specs.Str.{chars};
 ghost use Rattle.xml_names.specs.QName as spec;
+ghost use Rattle.xml_names.specs.QName.{IsCut};
 
 use stx_base::is_ncname;
 
@@ -12,19 +14,31 @@ pub struct Parts<'a> {
     pub local: &'a str,
 }
 
-/// Whether a name has no colon.
-pub fn is_unprefixed(name: &str) -> bool
-    ensures { result ≡ not (spec.has_colon (chars name.now)) }
+/// Where the first colon stands.
+fn colon(bytes: &[u8]) -> Option<usize>
+    ensures { result ≡ position spec.is_colon bytes.now }
 {
-    name.split_once(':').is_none()
+    // Names are short, so that a loop over their bytes is faster than a search for a character.
+    bytes.iter().position(|b| *b == b':')
+}
+
+/// The parts of a name that has a colon.
+pub fn cut(name: &str) -> Option<Parts<'_>>
+    ensures { MatchOption result (spec.has_colon (chars name.now) ≡ false) (λ parts. IsCut name.now parts.prefix.now parts.local.now) }
+{
+    let at = colon(name.as_bytes())?;
+    Some(Parts {
+        prefix: &name[..at],
+        local: &name[at + 1..],
+    })
 }
 
 pub fn parts_of(name: &str) -> Parts<'_>
     ensures prefix { chars result.prefix.now ≡ spec.prefix_of (chars name.now) }
     ensures local { chars result.local.now ≡ spec.local_of (chars name.now) }
 {
-    match name.split_once(':') {
-        Some((prefix, local)) => Parts { prefix, local },
+    match cut(name) {
+        Some(parts) => parts,
         None => Parts {
             prefix: "",
             local: name,
@@ -36,8 +50,8 @@ pub fn parts_of(name: &str) -> Parts<'_>
 pub fn is_qname(name: &str) -> bool
     ensures { result ≡ spec.is_qname (chars name.now) }
 {
-    match name.split_once(':') {
-        Some((prefix, local)) => is_ncname(prefix) && is_ncname(local),
+    match cut(name) {
+        Some(parts) => is_ncname(parts.prefix) && is_ncname(parts.local),
         None => is_ncname(name),
     }
 }

@@ -10,7 +10,7 @@ ghost use Rattle.xml_names.specs.Tag.{declarations, name_fault, resolved, scope_
 
 use crate::declaration::{XML_URI, declarations, declared_prefix, has_bad_binding};
 use crate::in_force::InForce;
-use crate::parts::{Parts, is_qname, is_unprefixed, parts_of};
+use crate::parts::{Parts, cut, is_qname, parts_of};
 use crate::resolved::{NameFault, Resolved};
 use crate::twins::{has_expanded_twins, has_written_twins};
 use crate::words::{is_empty, is_word};
@@ -268,15 +268,14 @@ impl Scopes {
     fn attribute_name(&self, name: Text) -> Result<Name, Memory>
         ensures { IfOk result (λ made. made ≡ scope.attribute_name self.now name) }
     {
-        if is_unprefixed(name.as_str()) {
-            return Ok(Name {
+        match cut(name.as_str()) {
+            Some(parts) => self.name(self.attribute_uri(parts.prefix), parts),
+            None => Ok(Name {
                 uri: Text::new(self.alloc),
                 local: name,
                 prefix: Text::new(self.alloc),
-            });
+            }),
         }
-        let parts = parts_of(name.as_str());
-        self.name(self.attribute_uri(parts.prefix), parts)
     }
 
     #[inline(always)]

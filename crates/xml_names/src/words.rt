@@ -11,14 +11,15 @@ pub fn is_word(text: &str, word: &str) -> bool
     requires { list_all (λ b. nat_lt b 128) word.now ≡ true }
     ensures { result ≡ same (chars text.now) word.now }
 {
-    text == word
+    // Most words differ in length, and that is seen without a call.
+    text.len() == word.len() && text == word
 }
 
 /// Whether a text has the characters of another.
 pub fn is_spelled(text: &Text, other: &str) -> bool
     ensures { result ≡ same text.now (chars other.now) }
 {
-    text.as_str() == other
+    text.as_str().len() == other.len() && text.as_str() == other
 }
 
 pub fn is_empty(text: &str) -> bool
