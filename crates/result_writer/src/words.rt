@@ -8,14 +8,15 @@ use stx_base::{Name, Text};
 pub fn same(a: &Text, b: &Text) -> bool
     ensures { result ≡ same a.now b.now }
 {
-    a.same(b)
+    // Most texts that are compared differ in length, and that is seen without a call.
+    a.as_str().len() == b.as_str().len() && a.same(b)
 }
 
 /// Whether a text is spelled as `word` is.
 pub fn is_word(text: &Text, word: &str) -> bool
     ensures { result ≡ is_word text.now word.now }
 {
-    text.as_str() == word
+    text.as_str().len() == word.len() && text.as_str() == word
 }
 
 pub fn is_empty(text: &Text) -> bool
