@@ -55,7 +55,7 @@ pub fn are_chars(text: &Text) -> bool
     holds_chars(text.as_str())
 }
 
-fn holds_chars(text: &str) -> bool
+pub fn holds_chars(text: &str) -> bool
     ensures { result ≡ list_all is_char (chars text.now) }
 {
     are_ascii_chars(text.as_bytes()) || text.chars().all(|c| is_char(c))

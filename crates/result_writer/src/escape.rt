@@ -128,7 +128,7 @@ fn few_plain_len(context: Context, bytes: &[u8]) -> usize
 }
 
 #[tactic(auto, using(crate::proofs::Growing::begins_trans, crate::proofs::Growing::begins_self))]
-fn append_written(context: Context, byte: u8, out: &mut Vec<u8>) -> Result<(), Memory>
+pub fn append_written(context: Context, byte: u8, out: &mut Vec<u8>) -> Result<(), Memory>
     ensures ok { OnOk result (out.new.items ≡ out.old.items ++ written context byte) }
     ensures kept { Begins out.old.items out.new.items }
 {

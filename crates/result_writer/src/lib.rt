@@ -4,6 +4,7 @@
 mod allowed;
 mod attributes;
 mod bytes;
+mod chars;
 mod escape;
 mod fault;
 pub mod law;

@@ -6,13 +6,12 @@ ghost use Rattle.result_writer.specs.Bytes.{Begins};
 ghost use Rattle.result_writer.specs.Nodes.{attribute_part};
 ghost use Rattle.result_writer.specs.Opened.{dressing};
 ghost use Rattle.result_writer.specs.Target as spec;
-ghost use Rattle.result_writer.specs.Target.{behind, dressed_in, end_text, first_fault, fresh, innermost, is_closed, left_by, settles, text, whole_fault, IsCause, TakesAtOnce};
+ghost use Rattle.result_writer.specs.Target.{behind, chars_fault, dressed_in, end_text, first_fault, fresh, innermost, is_closed, left_by, settles, text, whole_fault, IsCause, TakesAtOnce};
 
-use crate::escape::{Context, append_escaped};
+use crate::chars::append_chars;
 use crate::fault::{ResultFault, WriteStop};
 use crate::opened::{
-    Opened, append_comment, append_instruction, attributes_fault, chars_fault, comment_fault,
-    instruction_fault,
+    Opened, append_comment, append_instruction, attributes_fault, comment_fault, instruction_fault,
 };
 use crate::tag::Dressed;
 use std::alloc::Global;
@@ -205,13 +204,10 @@ impl Writer {
         ensures written { OnOk result (out.new.items ≡ out.old.items ++ settles self.old.left (Chars text.now)) }
         ensures unwritten { OnErr result (out.new.items ≡ out.old.items) }
     {
-        if let Some(fault) = chars_fault(text) {
-            return Err(WriteStop::Fault(fault));
-        }
         let len = out.len();
-        if chars(&mut self.opened, text, out).is_err() {
+        if let Err(stop) = chars(&mut self.opened, text, out) {
             out.truncate(len);
-            return Err(WriteStop::Memory);
+            return Err(stop);
         }
         Ok(())
     }
@@ -334,7 +330,9 @@ fn end(opened: &mut Opened, out: &mut Vec<u8>) -> Result<(), Memory>
 
 /// The same of characters.
 #[tactic(auto, using(crate::proofs::Growing::begins_trans, crate::proofs::Growing::begins_self))]
-fn chars(opened: &mut Opened, text: &Text, out: &mut Vec<u8>) -> Result<(), Memory>
+fn chars(opened: &mut Opened, text: &Text, out: &mut Vec<u8>) -> Result<(), WriteStop>
+    ensures taken { OnOk result (chars_fault text.now ≡ None) }
+    ensures fault { IfErr result (IsCause (chars_fault text.now)) }
     ensures ok { OnOk result (opened.new ≡ behind opened.old (Chars text.now)) }
     ensures err { OnErr result (opened.new ≡ opened.old) }
     ensures written { OnOk result (out.new.items ≡ out.old.items ++ settles opened.old.left (Chars text.now)) }
@@ -355,16 +353,19 @@ fn chars_dressed(
     text: &Text,
     dressed: Option<Dressed>,
     out: &mut Vec<u8>,
-) -> Result<(), Memory>
+) -> Result<(), WriteStop>
     requires { dressing opened.old.left.held dressed ≡ dressed_in opened.old.left.elements opened.old.left.held }
+    ensures taken { OnOk result (chars_fault text.now ≡ None) }
+    ensures fault { IfErr result (IsCause (chars_fault text.now)) }
     ensures ok { OnOk result (opened.new ≡ behind opened.old (Chars text.now)) }
     ensures err { OnErr result (opened.new ≡ opened.old) }
     ensures written { OnOk result (out.new.items ≡ out.old.items ++ settles opened.old.left (Chars text.now)) }
     ensures kept { Begins out.old.items out.new.items }
 {
     opened.append_tag(&dressed, out)?;
-    append_escaped(Context::Content, text.as_str().as_bytes(), out)?;
-    opened.settle(dressed)
+    append_chars(text.as_str(), out)?;
+    opened.settle(dressed)?;
+    Ok(())
 }
 
 /// The same of a comment.
