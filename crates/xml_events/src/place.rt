@@ -1,5 +1,5 @@
 ghost use Rattle.std.specs.Prelude.{◌≡◌, ◌≤◌, ◌<◌, ◌^◌, ◌+◌, ◌&&◌, ℕ, List, [], ◌∷◌, nat_lt, nat_le, true, false, length, IfOk, IfErr, MatchOption};
-ghost use Rattle.std.specs.Str.{chars};
+ghost use Rattle.std.specs.Str.{chars, IsAscii};
 ghost use Rattle.xml_events.specs.Before as spec;
 ghost use Rattle.xml_events.specs.Document.{text_items};
 ghost use Rattle.xml_tokens.specs.declared.lexeme.Body.TheVariants as body;
@@ -251,10 +251,21 @@ fn char_count(text: &Text) -> usize
     ensures small { result < 2 ^ 63 }
 {
     let text = text.as_str();
-    if text.is_ascii() {
+    if is_ascii(text.as_bytes()) {
         // Each byte is a character; to find that out takes less than to count characters.
         text.len()
     } else {
         text.chars().count()
     }
+}
+
+fn is_ascii(bytes: &[u8]) -> bool
+    ensures { result ≡ true → IsAscii bytes.now }
+{
+    // No byte ends the loop, so that many bytes are compared at once.
+    let mut ascii = true;
+    for b in bytes {
+        ascii = ascii & (*b < 0x80);
+    }
+    ascii
 }
