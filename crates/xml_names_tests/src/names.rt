@@ -183,3 +183,24 @@ fn many_attributes(rt: HostRuntime) -> Result<(), Fail> {
     }
     Ok(())
 }
+
+// Few declarations are searched, and more are found by their prefixes. Both answer the same.
+#[test]
+fn many_declarations(rt: HostRuntime) -> Result<(), Fail> {
+    let alloc = rt.alloc();
+    for count in [2, 14, 15, 16, 17, 40] {
+        let mut scopes = Scopes::new(alloc);
+        let mut out = String::new(alloc);
+        for number in 0..count {
+            let step = format!(in alloc; "a xmlns:p{number}=u{number}")?;
+            answer(alloc, &mut scopes, step.as_str(), &mut out)?;
+        }
+        out.clear();
+        for step in "?p0 | ?p1 | ?p | p0:a xmlns:p0=v | ?p0 | ?p1 | / | ?p0".split(" | ") {
+            answer(alloc, &mut scopes, step, &mut out)?;
+        }
+        let wanted = "p0=u0; p1=u1; p=none; p0{v}a +p0=v; p0=v; p1=u1; p0=u0";
+        assert_eq!(rt; out.as_str(), wanted, "in {count} elements");
+    }
+    Ok(())
+}
