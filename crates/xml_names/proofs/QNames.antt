@@ -4,10 +4,10 @@ use Rattle.std.specs.Prelude.{if◌then◌else◌, nat_lt, encode_utf8}
 use Rattle.std.specs.List.{list_any, list_all, before_first, after_first, position, position_or_len}
 use Rattle.std.specs.Option.{option_map_or}
 use Rattle.std.specs.Prelude.{slice_get}
-use Rattle.std.specs.Str.{chars, IsAscii}
+use Rattle.std.specs.Str.{chars, IsAscii, IsCharBoundary}
 use Rattle.std.proofs.lemmas.Bool.{or_parts, or_right, and_parts, and_from, eqb-true, ltb-false, cases_Bool}
 use Rattle.std.proofs.Math.Seq.{drop-cons, get_or-append_seam}
-use Rattle.std.proofs.lemmas.List.{take_at, take-append-drop, length-append}
+use Rattle.std.proofs.lemmas.List.{take_at, take-append-drop, length-append, length-take-le}
 use Rattle.std.proofs.lemmas.List.Quantifiers.{position-Some}
 use Rattle.std.proofs.lemmas.List.Sums.{fails_before_first}
 use Rattle.std.proofs.lemmas.Str.{encode_ascii, encodes-chars, chars-append, chars-IsAscii, IsUtf8-from_ascii, IsUtf8-take, IsCharBoundary-before_ascii}
@@ -196,7 +196,10 @@ module _ (bs : List ℕ) (k : ℕ) (e : Some k ≡ position is_colon bs) where
       let front : IsUtf8 (take k bs) = front-utf8 bs (take k bs) (drop (k + 1) bs) utf8 whole in
       let none : has_colon (chars (take k bs)) ≡ false = none-spelled (take k bs) front (none-before bs k found.2) in
       let cut = chars-cut bs (take k bs) (drop (k + 1) bs) front whole in
+      let len : length (take k bs) ≡ k = length-take-le k bs (omega (arith, found.0)) in
       record {
+        before = ap (λ m. take m bs) (sym len);
+        place = subst (IsCharBoundary bs) (sym len) (IsCharBoundary-before_ascii bs k found.0 place-ascii);
         some = ap has_colon cut ∙ has_colon-first (chars (take k bs)) (chars (drop (k + 1) bs)) none;
         prefix = ap prefix_of cut ∙ prefix_of-first (chars (take k bs)) (chars (drop (k + 1) bs)) none;
         local = ap local_of cut ∙ local_of-first (chars (take k bs)) (chars (drop (k + 1) bs)) none;

@@ -1,10 +1,10 @@
-ghost use Rattle.std.specs.Prelude.{◌≡◌, false, MatchOption};
+ghost use Rattle.std.specs.Prelude.{◌≡◌, false, MatchOption, encode_utf8_all, take};
 ghost use Rattle.std.specs.List.{position};
-ghost use Rattle.std.specs.Str.{chars};
+ghost use Rattle.std.specs.Str.{chars, IsCharBoundary};
 ghost use Rattle.xml_names.specs.QName as spec;
 ghost use Rattle.xml_names.specs.QName.{IsCut};
 
-use stx_base::is_ncname;
+use stx_base::{Text, is_ncname};
 
 /// A name taken apart at its first colon (Namespaces in XML 1.0, 4).
 #[derive(Clone, Copy, Debug)]
@@ -44,6 +44,16 @@ pub fn parts_of(name: &str) -> Parts<'_>
             local: name,
         },
     }
+}
+
+/// What stands before a place of a text, without a copy.
+pub fn front(text: Text, len: usize) -> Text
+    requires { IsCharBoundary (encode_utf8_all text) len }
+    ensures { result ≡ chars (take len (encode_utf8_all text)) }
+{
+    let mut string = text.into_string();
+    string.truncate(len);
+    Text::from_string(string)
 }
 
 /// Whether a name is an NCName, or two with a colon between them (Namespaces in XML 1.0, 4).

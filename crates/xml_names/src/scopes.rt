@@ -10,7 +10,7 @@ ghost use Rattle.xml_names.specs.Tag.{declarations, name_fault, resolved, scope_
 
 use crate::declaration::{XML_URI, declarations, declared_prefix, has_bad_binding};
 use crate::in_force::InForce;
-use crate::parts::{Parts, cut, is_qname, parts_of};
+use crate::parts::{Parts, cut, front, is_qname, parts_of};
 use crate::resolved::{NameFault, Resolved};
 use crate::twins::{has_expanded_twins, has_written_twins};
 use crate::words::{is_empty, is_word};
@@ -264,18 +264,22 @@ impl Scopes {
         }
     }
 
-    /// Only what a prefix parts from the name is copied.
+    /// Only the local part behind a prefix is copied.
     fn attribute_name(&self, name: Text) -> Result<Name, Memory>
         ensures { IfOk result (λ made. made ≡ scope.attribute_name self.now name) }
     {
-        match cut(name.as_str()) {
-            Some(parts) => self.name(self.attribute_uri(parts.prefix), parts),
-            None => Ok(Name {
+        let Some(parts) = cut(name.as_str()) else {
+            return Ok(Name {
                 uri: Text::new(self.alloc),
                 local: name,
                 prefix: Text::new(self.alloc),
-            }),
-        }
+            });
+        };
+        let uri = self.text(self.attribute_uri(parts.prefix))?;
+        let local = self.text(parts.local)?;
+        let len = parts.prefix.len();
+        let prefix = front(name, len);
+        Ok(Name { uri, local, prefix })
     }
 
     #[inline(always)]
