@@ -389,11 +389,8 @@ fn number(digits: &[u8], radix: u32) -> Option<char>
     requires radix { (2 ≤ radix) × (radix ≤ 36) }
     ensures { SomeIff result (IsScalar (digits_value radix digits.now)) (digits_value radix digits.now) }
 {
-    match std::str::from_utf8(digits) {
-        Ok(text) => match u32::from_str_radix(text, radix) {
-            Ok(number) => char::from_u32(number),
-            Err(_) => None,
-        },
-        Err(_) => unreachable!(),
+    match u32::from_str_radix(str_of(digits), radix) {
+        Ok(number) => char::from_u32(number),
+        Err(_) => None,
     }
 }
