@@ -189,7 +189,7 @@ static ESCAPES: [Row; 10] = [
 
 // Comments and instructions are written as they are.
 // Texts of so many bytes that they are judged and written piece by piece.
-static LONG_TEXTS: [Row; 10] = [
+static LONG_TEXTS: [Row; 12] = [
     (
         &[
             Start("a"),
@@ -264,6 +264,26 @@ static LONG_TEXTS: [Row; 10] = [
         ],
         "<a x=\"0123456789abcdef0123456789abcdef0123456789abcdef0123456789abcde&#10;0123456789abcdef0123456789abcdef0123456789abcdef0123456789abcdef>&#13;\"/>",
         "",
+    ),
+    (
+        &[
+            Start("a"),
+            Chars(
+                "0123456789abcdef0123456789abcdef0123456789abcdef0123456789abcdef&é<0123456789abcdef漢>",
+            ),
+            End("a"),
+        ],
+        "<a>0123456789abcdef0123456789abcdef0123456789abcdef0123456789abcdef&amp;é&lt;0123456789abcdef漢&gt;</a>",
+        "",
+    ),
+    (
+        &[
+            Start("a"),
+            Chars("0123456789abcdef0123456789abcdef<0123456789abcdef0123456789abcdef&\u{FFFE}"),
+            End("a"),
+        ],
+        "<a/>",
+        "BadChar at 1",
     ),
     (
         &[Chars("0123456789abcdef0123456789abcdef0123456789abcdef0123456789abcdef\u{1}")],
