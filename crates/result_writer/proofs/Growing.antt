@@ -1,16 +1,12 @@
 -- Bytes that only grow.
-use Rattle.std.proofs.Common.{◌≤◌, ℕ, List, ◌++◌, length, take, sym, ap, ◌∙◌, arith}
-use Rattle.std.proofs.Math.Seq.{take-append_seam}
-use Rattle.std.proofs.lemmas.List.{length-take, take-take, take_all}
-use Rattle.result_writer.specs.Bytes.{Begins}
+use Rattle.std.proofs.Common.{ℕ, List, [], ◌++◌, refl, sym, ap, ◌∙◌, append_assoc, append-nil}
+use Rattle.stx_base.specs.Course.{Begins}
 
 pub begins_self : (a : List ℕ) → Begins a a
-begins_self a = record { kept = take_all (length a) a (omega arith) }
+begins_self a = ([], append-nil a)
 
 pub begins_append : (a x : List ℕ) → Begins a (a ++ x)
-begins_append a x = record { kept = take-append_seam a x }
+begins_append a x = (x, refl)
 
 pub begins_trans : (a b c : List ℕ) → Begins a b → Begins b c → Begins a c
-begins_trans a b c h k =
-    let within : length a ≤ length b = omega (arith, sym (ap length h.kept) ∙ length-take (length a) b) in
-    record { kept = sym (take-take (length a) (length b) c within) ∙ ap (take (length a)) k.kept ∙ h.kept }
+begins_trans a b c h k = (h.0 ++ k.0, sym (append_assoc a h.0 k.0) ∙ ap (λ l. l ++ k.0) h.1 ∙ k.1)

@@ -1,6 +1,5 @@
 pub mod Allowed
 pub mod Attributes
-pub mod Bytes
 pub mod Escape
 pub mod Laws
 pub mod Nodes

@@ -165,11 +165,11 @@ abbrev pub comment_text : List ℕ → List ℕ
 comment_text text = codes "<!--" ++ encode_utf8_all text ++ codes "-->"
 
 -- the data stands behind a space, where there is some (XML 1.0, 2.6)
+abbrev pub data_text : List ℕ → List ℕ
+data_text text = if is_empty text then [] else codes " " ++ encode_utf8_all text
+
 abbrev pub instruction_text : (target text : List ℕ) → List ℕ
-instruction_text target text =
-    codes "<?" ++ encode_utf8_all target
-    ++ (if is_empty text then [] else codes " " ++ encode_utf8_all text)
-    ++ codes "?>"
+instruction_text target text = codes "<?" ++ encode_utf8_all target ++ data_text text ++ codes "?>"
 
 -- the bytes that a part settles
 abbrev pub settles : Left → Part → List ℕ

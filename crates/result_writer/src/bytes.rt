@@ -1,7 +1,7 @@
 //! Bytes that are appended one after another. Where one step is refused, what was there before all of them is still there.
 
 ghost use Rattle.std.specs.Prelude.{◌≡◌, ◌++◌, ◌∷◌, [], OnOk};
-ghost use Rattle.result_writer.specs.Bytes.{Begins};
+ghost use Rattle.stx_base.specs.Course.{Begins};
 
 use stx_base::Memory;
 

@@ -4,7 +4,7 @@ ghost use Rattle.std.specs.Prelude.{◌≡◌, ◌++◌, ◌≤◌, None, length
 ghost use Rattle.std.specs.List.{list_all};
 ghost use Rattle.std.specs.Str.{chars};
 ghost use Rattle.stx_base.specs.Character.{is_char};
-ghost use Rattle.result_writer.specs.Bytes.{Begins};
+ghost use Rattle.stx_base.specs.Course.{Begins};
 ghost use Rattle.result_writer.specs.Escape.{escaped, is_plain_ascii};
 ghost use Rattle.result_writer.specs.Target.{unless, IsCause};
 ghost use Rattle.result_writer.specs.declared.escape.Context.TheVariants.{Content};

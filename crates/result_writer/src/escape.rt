@@ -1,6 +1,6 @@
 ghost use Rattle.std.specs.Prelude.{◌≡◌, ◌++◌, ◌∷◌, ◌≤◌, [], length, take, true, OnOk};
 ghost use Rattle.std.specs.Option.{option_copied};
-ghost use Rattle.result_writer.specs.Bytes.{Begins};
+ghost use Rattle.stx_base.specs.Course.{Begins};
 ghost use Rattle.result_writer.specs.Escape.{reference_of, written, escaped};
 ghost use Rattle.result_writer.specs.declared.escape.Context.TheVariants.{Content, Value};
 

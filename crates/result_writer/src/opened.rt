@@ -4,13 +4,13 @@ ghost use Rattle.stx_base.specs.declared.name.Attr.{Attr};
 ghost use Rattle.stx_base.specs.declared.name.Name.{Name};
 ghost use Rattle.stx_base.specs.declared.part.Part.TheVariants.{Start, Attribute, End, Chars};
 ghost use Rattle.result_writer.specs.Allowed.{is_good_name};
-ghost use Rattle.result_writer.specs.Bytes.{Begins};
+ghost use Rattle.stx_base.specs.Course.{Begins};
 ghost use Rattle.result_writer.specs.Nodes as nodes;
 ghost use Rattle.result_writer.specs.Nodes.{attribute_part};
 ghost use Rattle.result_writer.specs.Opened.{dressing, held, SameAround, Settles};
 ghost use Rattle.result_writer.specs.Steady.{keep_bindings};
 ghost use Rattle.result_writer.specs.Target as spec;
-ghost use Rattle.result_writer.specs.Target.{behind, comment_text, depth, dressed_in, end_text, fresh, innermost, instruction_text, is_closed, left_by, tag_text, with_attribute, IsCause, TakesAtOnce};
+ghost use Rattle.result_writer.specs.Target.{behind, comment_text, data_text, depth, dressed_in, end_text, fresh, innermost, instruction_text, is_closed, left_by, tag_text, with_attribute, IsCause, TakesAtOnce};
 
 use crate::allowed::{
     are_chars, is_good_attribute, is_good_comment, is_good_data, is_good_name, is_good_target,
@@ -548,10 +548,18 @@ pub fn append_instruction(target: &Text, text: &Text, out: &mut Vec<u8>) -> Resu
 {
     append(b"<?", out)?;
     append(target.as_str().as_bytes(), out)?;
-    if !is_empty(text) {
-        append_byte(b' ', out)?;
-        append(text.as_str().as_bytes(), out)?;
+    append_data(text, out)?;
+    append(b"?>", out)
+}
+
+#[tactic(auto, using(crate::proofs::Growing::begins_trans, crate::proofs::Growing::begins_self))]
+fn append_data(text: &Text, out: &mut Vec<u8>) -> Result<(), Memory>
+    ensures ok { OnOk result (out.new.items ≡ out.old.items ++ data_text text.now) }
+    ensures kept { Begins out.old.items out.new.items }
+{
+    if is_empty(text) {
+        return Ok(());
     }
-    append(b"?>", out)?;
-    Ok(())
+    append_byte(b' ', out)?;
+    append(text.as_str().as_bytes(), out)
 }

@@ -1,7 +1,7 @@
 //! Tags as they are written.
 
 ghost use Rattle.std.specs.Prelude.{◌≡◌, ◌++◌, codes, true, IfOk, OnOk};
-ghost use Rattle.result_writer.specs.Bytes.{Begins};
+ghost use Rattle.stx_base.specs.Course.{Begins};
 ghost use Rattle.result_writer.specs.Steady.{given, keep_bindings, own_prefixes, undressed};
 ghost use Rattle.result_writer.specs.Tag.{attribute, attributes, declaration, dressed, end_tag, open_tag, qname, quoted};
 

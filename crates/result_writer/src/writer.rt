@@ -2,7 +2,7 @@ ghost use Rattle.std.specs.Prelude.{◌≡◌, ◌++◌, [], true, false, None, 
 ghost use Rattle.stx_base.specs.declared.part.Part.TheVariants.{Start, Attribute, End, Chars, Comment, Pi};
 ghost use Rattle.stx_base.specs.declared.name.Name.{Name as Spelled};
 ghost use Rattle.result_writer.specs.Allowed.{is_good_name};
-ghost use Rattle.result_writer.specs.Bytes.{Begins};
+ghost use Rattle.stx_base.specs.Course.{Begins};
 ghost use Rattle.result_writer.specs.Nodes.{attribute_part};
 ghost use Rattle.result_writer.specs.Opened.{dressing};
 ghost use Rattle.result_writer.specs.Target as spec;

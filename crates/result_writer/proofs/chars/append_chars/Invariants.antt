@@ -2,7 +2,7 @@ use Rattle.std.proofs.Common.{◌≡◌, ◌++◌, ◌&&◌, length, true}
 use Rattle.std.specs.Prelude.{nat_lt}
 use Rattle.std.specs.List.{list_all}
 use Rattle.stx_base.specs.Character.{is_char}
-use Rattle.result_writer.specs.Bytes.{Begins}
+use Rattle.stx_base.specs.Course.{Begins}
 use Rattle.result_writer.specs.Escape.{escaped}
 use Rattle.result_writer.specs.declared.escape.Context.TheVariants.{Content}
 use Rattle.result_writer.proofs.chars.append_chars.Given as goal

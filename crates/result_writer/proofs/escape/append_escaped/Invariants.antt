@@ -1,5 +1,5 @@
 use Rattle.std.proofs.Common.{◌≡◌, ◌++◌, length}
-use Rattle.result_writer.specs.Bytes.{Begins}
+use Rattle.stx_base.specs.Course.{Begins}
 use Rattle.result_writer.specs.Escape.{escaped}
 use Rattle.result_writer.proofs.escape.append_escaped.Given as goal
 

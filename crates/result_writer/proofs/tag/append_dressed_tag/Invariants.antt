@@ -1,6 +1,6 @@
 use Rattle.std.proofs.Common.{◌≡◌, ◌++◌, drop}
 use Rattle.std.specs.List.{flat_map}
-use Rattle.result_writer.specs.Bytes.{Begins}
+use Rattle.stx_base.specs.Course.{Begins}
 use Rattle.result_writer.specs.Tag.{attributes, declaration, open_tag}
 use Rattle.result_writer.proofs.tag.append_dressed_tag.Given as goal
 

@@ -1,5 +1,5 @@
 use Rattle.std.proofs.Common.{◌≡◌, ◌++◌, drop}
-use Rattle.result_writer.specs.Bytes.{Begins}
+use Rattle.stx_base.specs.Course.{Begins}
 use Rattle.result_writer.specs.Steady.{own_prefixes}
 use Rattle.result_writer.specs.Tag.{attributes}
 use Rattle.result_writer.proofs.tag.append_own_attributes.Given as goal
