@@ -178,7 +178,7 @@ impl Writer {
     pub fn end_innermost(&mut self, out: &mut Vec<u8>) -> Result<(), WriteStop>
         ensures unmatched { innermost self.old.left.elements self.old.left.held ≡ None → result ≡ Err (WriteStop.Fault ResultFault.UnmatchedEnd) }
         ensures memory { (name : Spelled) → innermost self.old.left.elements self.old.left.held ≡ Some name → IfErr result (λ stop. stop ≡ WriteStop.Memory) }
-        ensures taken { (name : Spelled) → innermost self.old.left.elements self.old.left.held ≡ Some name → spec.fault self.old.limit self.old.left (End name) ≡ None }
+        ensures good { (name : Spelled) → innermost self.old.left.elements self.old.left.held ≡ Some name → spec.fault self.old.limit self.old.left (End name) ≡ None }
         ensures ok { (name : Spelled) → OnOk result (self.new ≡ behind self.old (End name)) }
         ensures err { OnErr result (self.new ≡ self.old) }
         ensures written { (name : Spelled) → OnOk result (out.new.items ≡ out.old.items ++ settles self.old.left (End name)) }

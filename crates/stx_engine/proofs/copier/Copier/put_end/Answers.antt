@@ -15,4 +15,4 @@ returns-in_err-end_innermost-clause-takes c =
 pub returns-clause-takes : goal.returns-clause-takes
 returns-clause-takes c =
     let e = c.in_ok-end_innermost.ensures in
-    end-taken c.args.self.now c.end_innermost.new.self c.args.out.now.items c.end_innermost.new.out.items c.requires (λ h. let k = e.unmatched h in absurd cc) e.taken e.ok e.written
+    end-taken c.args.self.now c.end_innermost.new.self c.args.out.now.items c.end_innermost.new.out.items c.requires (λ h. let k = e.unmatched h in absurd cc) e.good e.ok e.written
