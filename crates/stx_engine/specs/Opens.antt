@@ -36,7 +36,7 @@ names_behind pass.All name l = name ∷ names_of l
 names_behind pass.Chars name l = []
 names_behind pass.None name l = []
 
--- where no name is left any will do: there is no end to put
+-- where no name is left any good one will do: its end is then `UnmatchedEnd`, and not `BadName`
 abbrev pub first_name : List Name → Name
 first_name [] = record { uri = []; local = codes "a"; prefix = [] }
 first_name (n ∷ names) = n
