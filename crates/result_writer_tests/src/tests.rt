@@ -321,3 +321,65 @@ fn bytes_are_appended_as_they_are_settled(rt: HostRuntime) -> Result<(), Fail> {
     assert_eq!(rt; writer.finish(), Ok(()));
     Ok(())
 }
+
+/// Attributes, and the tag that is written of them, or else their fault.
+type AtOnce = (&'static [(&'static str, &'static str)], &'static str);
+
+const AT_ONCE: [AtOnce; 6] = [
+    (&[], "<e/>"),
+    (&[("b", "1"), ("a", "<")], "<e b=\"1\" a=\"&lt;\"/>"),
+    (
+        &[("p:a u", "1"), ("a", "2")],
+        "<e xmlns:p=\"u\" p:a=\"1\" a=\"2\"/>",
+    ),
+    (&[("p:a u", "1"), ("q:a u", "2")], "not at once"),
+    (&[("a", "1"), ("b!", "2")], "BadName"),
+    (&[("a", "1"), ("b", "\u{1}"), ("", "2")], "BadChar"),
+];
+
+fn attributes_of(alloc: Global, given: &[(&str, &str)]) -> Result<List<stx_base::Attr>, Memory> {
+    let mut attrs = List::new(alloc);
+    for (name, value) in given {
+        let name = named(alloc, name)?;
+        let value = Text::of(alloc, value)?;
+        attrs.push(stx_base::Attr { name, value })?;
+    }
+    Ok(attrs)
+}
+
+fn put_at_once(
+    alloc: Global,
+    writer: &mut Writer,
+    attrs: List<stx_base::Attr>,
+) -> Result<String, Fail> {
+    let mut answer = String::new(alloc);
+    if !writer.takes_at_once(attrs.as_slice()) {
+        answer.push_str("not at once")?;
+        return Ok(answer);
+    }
+    told_end(&mut answer, writer.put_attributes(attrs))?;
+    if answer.is_empty() {
+        let mut out = Vec::new(alloc);
+        told(&mut answer, writer.end_innermost(&mut out), 0)?;
+        let found = std::str::from_utf8(out.as_slice()).map_err(|_| "bytes that are no text")?;
+        answer.push_str(found)?;
+    }
+    Ok(answer)
+}
+
+// Attributes that are put at once are written, or refused, as they are one after another. They are put so where a tag is held
+// back.
+#[test]
+fn attributes_at_once(rt: HostRuntime) -> Result<(), Fail> {
+    let alloc = rt.alloc();
+    for (given, wanted) in AT_ONCE {
+        let mut writer = Writer::new(alloc, 4096);
+        let early = put_at_once(alloc, &mut writer, attributes_of(alloc, given)?)?;
+        assert_eq!(rt; early.as_str(), "not at once", "{given:?}");
+        let put = writer.put_start(named(alloc, "e")?, &List::new(alloc), &mut Vec::new(alloc));
+        assert_eq!(rt; put, Ok(()), "{given:?}");
+        let answer = put_at_once(alloc, &mut writer, attributes_of(alloc, given)?)?;
+        assert_eq!(rt; answer.as_str(), wanted, "{given:?}");
+    }
+    Ok(())
+}
