@@ -1,3 +1,4 @@
+pub mod Together
 pub mod Total
 pub mod Passing
 pub mod Rest

@@ -298,6 +298,20 @@ fn put_attributes(
     ensures puts { Puts writer.old writer.new (map attribute_part attrs) out.old.items out.new.items result }
     ensures names { OnOk result (names_of writer.new.left ≡ names_of writer.old.left) }
 {
+    // Most are put at once, which spares to move each of them.
+    if writer.takes_at_once(attrs.as_slice()) {
+        writer.put_attributes(attrs)?;
+        return Ok(());
+    }
+    put_each(writer, attrs, out)
+}
+
+// One attribute after another.
+#[inline(never)]
+fn put_each(writer: &mut Writer, attrs: List<Attr>, out: &mut Vec<u8>) -> Result<(), WriteStop>
+    ensures puts { Puts writer.old writer.new (map attribute_part attrs) out.old.items out.new.items result }
+    ensures names { OnOk result (names_of writer.new.left ≡ names_of writer.old.left) }
+{
     for attr in attrs.into_vec() {
         if let Err(stop) = put_attribute(writer, attr, out) {
             return Err(stop);

@@ -199,6 +199,7 @@ impl Engine {
     }
 
     // Takes the next node, if one is ready.
+    #[inline(always)]
     fn advance(&mut self, out: &mut Vec<u8>) -> Option<Reading>
         requires { IsGoing self.old }
         ensures reads { Reads (more self.old) self.new out.old.items out.new.items result }

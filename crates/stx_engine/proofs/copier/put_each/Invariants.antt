@@ -3,7 +3,7 @@ use Rattle.std.specs.Vec.Iter.{into_iter_items}
 use Rattle.stx_engine.specs.Meaning.{attribute_part}
 use Rattle.stx_engine.specs.Opens.{names_of}
 use Rattle.stx_engine.proofs.Copying.{SoFar}
-use Rattle.stx_engine.proofs.copier.put_attributes.Given as goal
+use Rattle.stx_engine.proofs.copier.put_each.Given as goal
 
 -- some first ones were put, within the same elements
 abbrev pub invariant-loop-attr : goal.invariant-loop-attr
