@@ -62,38 +62,35 @@ impl Scopes {
 
     /// Enters an element by its start tag. After a refusal the scopes are unchanged, and the attributes are dropped.
     #[inline(always)]
-    pub fn enter(&mut self, name: &Text, attrs: List<RawAttr>) -> Result<Resolved, NameFault>
+    pub fn enter(&mut self, name: Text, attrs: List<RawAttr>) -> Result<Resolved, NameFault>
         // It is taken only where it has no fault.
-        ensures taken { OnOk result (name_fault self.old name.now attrs ≡ None) }
-        ensures fault { IfErr result (IsCause (name_fault self.old name.now attrs)) }
-        ensures value { IfOk result (λ tag. tag ≡ resolved self.old name.now attrs) }
+        ensures taken { OnOk result (name_fault self.old name attrs ≡ None) }
+        ensures fault { IfErr result (IsCause (name_fault self.old name attrs)) }
+        ensures value { IfOk result (λ tag. tag ≡ resolved self.old name attrs) }
         ensures ok { OnOk result (self.new ≡ self.old ++ declarations attrs ∷ []) }
         ensures err { OnErr result (self.new ≡ self.old) }
     {
-        if is_plain(name, attrs.as_slice()) {
+        if is_plain(&name, attrs.as_slice()) {
             self.enter_plain(name, attrs)
         } else {
-            self.enter_any(name, attrs)
+            self.enter_any(&name, attrs)
         }
     }
 
     /// Most tags declare nothing and have no prefix, so that nothing has to be looked up in them but the default namespace.
     #[inline(always)]
-    fn enter_plain(&mut self, name: &Text, attrs: List<RawAttr>) -> Result<Resolved, NameFault>
-        requires { spec.is_plain name.now attrs ≡ true }
-        ensures taken { OnOk result (name_fault self.old name.now attrs ≡ None) }
-        ensures fault { IfErr result (IsCause (name_fault self.old name.now attrs)) }
-        ensures value { IfOk result (λ tag. tag ≡ resolved self.old name.now attrs) }
+    fn enter_plain(&mut self, name: Text, attrs: List<RawAttr>) -> Result<Resolved, NameFault>
+        requires { spec.is_plain name attrs ≡ true }
+        ensures taken { OnOk result (name_fault self.old name attrs ≡ None) }
+        ensures fault { IfErr result (IsCause (name_fault self.old name attrs)) }
+        ensures value { IfOk result (λ tag. tag ≡ resolved self.old name attrs) }
         ensures ok { OnOk result (self.new ≡ self.old ++ declarations attrs ∷ []) }
         ensures err { OnErr result (self.new ≡ self.old) }
     {
         if has_written_twins(self.alloc, attrs.as_slice())? {
             return Err(NameFault::Xml(XmlKind::DuplicateAttribute));
         }
-        let name = self.element_name(Parts {
-            prefix: "",
-            local: name.as_str(),
-        })?;
+        let name = self.plain_name(name)?;
         let attrs = plain_attributes(self.alloc, attrs)?;
         let decls = List::new(self.alloc);
         self.declare(&decls)?;
@@ -252,6 +249,19 @@ impl Scopes {
         ensures { IfOk result (λ made. made ≡ record { uri = unwrap_or (bound self.now (chars parts.entry.prefix.now)) []; local = chars parts.entry.local.now; prefix = chars parts.entry.prefix.now }) }
     {
         self.name(self.bound_uri(parts.prefix), parts)
+    }
+
+    /// That of an element without prefix, which takes no copy.
+    #[inline(always)]
+    fn plain_name(&self, name: Text) -> Result<Name, Memory>
+        ensures { IfOk result (λ made. made ≡ record { uri = unwrap_or (bound self.now []) []; local = name; prefix = [] }) }
+    {
+        let uri = self.text(self.bound_uri(""))?;
+        Ok(Name {
+            uri,
+            local: name,
+            prefix: Text::new(self.alloc),
+        })
     }
 
     fn attribute_uri(&self, prefix: &str) -> &str

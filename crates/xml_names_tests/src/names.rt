@@ -112,7 +112,7 @@ fn answer(alloc: Global, scopes: &mut Scopes, step: &str, out: &mut String) -> R
         return Ok(write!(out, "{prefix}={}", uri.unwrap_or("none"))?);
     }
     let Tag { name, attrs } = tag_of(alloc, step)?;
-    tell_tag(&scopes.enter(&name, attrs), out)
+    tell_tag(&scopes.enter(name, attrs), out)
 }
 
 /// The answers to the steps that have one. After a refusal nothing has changed, so the steps go on.
@@ -175,10 +175,10 @@ static MANY: [(&str, &str); 4] = [
 #[test]
 fn many_attributes(rt: HostRuntime) -> Result<(), Fail> {
     let alloc = rt.alloc();
-    let name = Text::of(alloc, "a")?;
     for (others, wanted) in &MANY {
+        let name = Text::of(alloc, "a")?;
         let attrs = many(alloc, 10_000, others)?;
-        let found = count(alloc, &Scopes::new(alloc).enter(&name, attrs))?;
+        let found = count(alloc, &Scopes::new(alloc).enter(name, attrs))?;
         assert_eq!(rt; found.as_str(), *wanted, "with {others}");
     }
     Ok(())
