@@ -17,3 +17,4 @@ pub mod Widths
 pub mod Growing
 pub mod Stopping
 pub mod Elements
+pub mod Cutting

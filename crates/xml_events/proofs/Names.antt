@@ -1,10 +1,11 @@
 -- Laws of the names of the open elements.
-use Rattle.std.proofs.Common.{◌≡◌, ℕ, ◌-◌, Bool, true, false, not, List, [], ◌∷◌, ◌++◌, Option, Some, None, refl, ap, sym, ◌∙◌, reverse, length, inl, inr, ⊎_elim, arith, IsTrue}
-use Rattle.std.specs.Prelude.{◌⊎◌, ◌&&◌, ◌==◌, if◌then◌else◌, slice_get, bytes_eq, MatchOption}
+use Rattle.std.proofs.Common.{◌≡◌, ℕ, ◌-◌, Bool, true, false, not, List, [], ◌∷◌, ◌++◌, Option, Some, None, refl, ap, sym, ◌∙◌, reverse, length, inl, inr, ⊎_elim, ◌+◌, arith, chars, encode_utf8_all, IsTrue, IsUtf8}
+use Rattle.std.specs.Prelude.{◌⊎◌, ◌&&◌, ◌==◌, if◌then◌else◌, nat_le, nat_lt, slice_get, bytes_eq, MatchOption}
 use Rattle.std.specs.List.{list_all}
-use Rattle.std.proofs.lemmas.Bool.Decides.{same_from_decides}
-use Rattle.std.proofs.lemmas.List.{length_push, reverse-append}
+use Rattle.std.proofs.lemmas.Bool.Decides.{nat_tests, same_from_decides}
+use Rattle.std.proofs.lemmas.List.{length_push, length-reverse, reverse-append}
 use Rattle.std.proofs.lemmas.List.Folds.{list_all-append}
+use Rattle.std.proofs.lemmas.Str.{encodes-chars}
 use Rattle.std.proofs.lemmas.Slice.Eq.{bytes_eq-Decides}
 use Rattle.stx_base.specs.Character.{is_name, is_name_char, is_name_start, is_ncname, is_ncname_char}
 use Rattle.stx_base.specs.declared.fault.XmlKind.TheVariants.{BadName}
@@ -41,17 +42,17 @@ pub innermost-head : (name : List ℕ) (names : List (List ℕ)) → is_innermos
 innermost-head name [] h = absurd cc
 innermost-head name (n ∷ ns) h = (ns, ap (λ x. x ∷ ns) ((bytes_eq-Decides n name).0 h))
 
-slice_get-last : (ys : List (List ℕ)) (y : List ℕ) → slice_get (ys ++ y ∷ []) (length ys) ≡ Some y
+slice_get-last : {A : Type 0} (ys : List A) (y : A) → slice_get (ys ++ y ∷ []) (length ys) ≡ Some y
 slice_get-last [] y = refl
 slice_get-last (x ∷ xs) y = slice_get-last xs y
 
 -- the last item of what isn't empty
-pub last-is : (begun : List (List ℕ)) (x : List ℕ) → Some x ≡ slice_get begun (length begun - 1) → (ys : List (List ℕ)) × (begun ≡ ys ++ x ∷ [])
-last-is begun x h = ⊎_elim (λ e. absurd (none e)) (λ v. (v.0, v.2 ∙ ap (λ l. v.0 ++ l ∷ []) (same v.0 v.1 v.2))) (last_view begun) where
+pub last-is : {A : Type 0} (begun : List A) (x : A) → Some x ≡ slice_get begun (length begun - 1) → (ys : List A) × (begun ≡ ys ++ x ∷ [])
+last-is {A} begun x h = ⊎_elim (λ e. absurd (none e)) (λ v. (v.0, v.2 ∙ ap (λ l. v.0 ++ l ∷ []) (same v.0 v.1 v.2))) (last_view begun) where
   none : begun ≡ [] → ⊥
   none e = let f = ap (λ l. slice_get l (length l - 1)) e in absurd cc
 
-  same : (ys : List (List ℕ)) (y : List ℕ) → begun ≡ ys ++ y ∷ [] → y ≡ x
+  same : (ys : List A) (y : A) → begun ≡ ys ++ y ∷ [] → y ≡ x
   same ys y e =
       let n : length (ys ++ y ∷ []) - 1 ≡ length ys = omega (arith, length_push ys y) in
       let f : Some x ≡ Some y = h ∙ ap (λ l. slice_get l (length l - 1)) e ∙ ap (slice_get (ys ++ y ∷ [])) n ∙ slice_get-last ys y in
@@ -148,3 +149,15 @@ none-open begun h = ⊎_elim (λ e. ap reverse e) (λ v. absurd (no-last v.0 v.1
       let n : length (ys ++ y ∷ []) - 1 ≡ length ys = omega (arith, length_push ys y) in
       let f : None ≡ Some y = h ∙ ap (λ l. slice_get l (length l - 1)) e ∙ ap (slice_get (ys ++ y ∷ [])) n ∙ slice_get-last ys y in
       absurd cc
+
+-- an end has the innermost name, where that is the same text
+pub innermost-same : (names front : List (List ℕ)) (x y name : List ℕ) (test : Bool) → names ≡ front ++ chars x ∷ [] → IsUtf8 x → IsUtf8 y → chars y ≡ name → test ≡ bytes_eq x y → test ≡ is_innermost name (reverse names)
+innermost-same names front x y name test e u v same t =
+    t ∙ same_from_decides (bytes_eq x y) (bytes_eq (chars x) name) ((λ b. ap chars ((bytes_eq-Decides x y).0 b) ∙ same), λ q. (bytes_eq-Decides x y).1 (sym (encodes-chars x u) ∙ (ap encode_utf8_all (q ∙ sym same) ∙ encodes-chars y v))) (bytes_eq-Decides (chars x) name)
+    ∙ sym (ap (λ ns. is_innermost name (reverse ns)) e ∙ ap (is_innermost name) (reverse-last front (chars x)))
+
+-- where no more elements are open than may be, one more might be before the last was
+pub room-left : (old new : List (List ℕ)) (name : List ℕ) (depth : ℕ) → new ≡ old ++ name ∷ [] → false ≡ nat_lt depth (length (reverse new)) → nat_le depth (length (reverse old)) ≡ false
+room-left old new name depth e h = fits depth (length (reverse old)) (length (reverse new)) (omega (arith, length-reverse old, length-reverse new, ap length e, length_push old name)) (sym h) where
+  fits : (d n m : ℕ) → m ≡ n + 1 → nat_lt d m ≡ false → nat_le d n ≡ false
+  fits d n m k h = grind (arith, nat_tests)

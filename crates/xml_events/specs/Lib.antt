@@ -12,3 +12,4 @@ pub mod Cores
 pub mod Growing
 pub mod Laws
 pub mod Run
+pub mod Texts

@@ -1,5 +1,5 @@
 -- What a place in a document takes.
-use Rattle.std.specs.Prelude.{◌≡◌, ◌≤◌, ℕ, true, List, [], ◌∷◌, reverse, length, Option, Some, None, if◌then◌else◌}
+use Rattle.std.specs.Prelude.{◌≡◌, ◌≤◌, ℕ, true, List, [], ◌∷◌, ◌++◌, ◌-◌, reverse, length, take, Option, Some, None, if◌then◌else◌}
 use Rattle.std.specs.List.{list_all}
 use Rattle.stx_base.specs.Character.{is_name}
 use Rattle.stx_base.specs.declared.fault.XmlKind.TheVariants.{TextTooLong}
@@ -75,6 +75,13 @@ text_fault p text = if is_too_long p.limits (before_of p) text then Some TextToo
 abbrev pub TakesFitting : Place → Body → Place → Word → Type 0
 TakesFitting old x new word =
     Took (unfit_at old x) (before_next (before_of old) x) (λ offset. items_of (before_of old) offset x) old new word
+
+-- one element less is open
+pub record IsLeft (old new : Place) : Type 0 where
+  pub last : List ℕ
+  pub names : old.names ≡ new.names ++ last ∷ []
+  pub scopes : new.scopes ≡ take (length old.scopes - 1) old.scopes
+  pub others : new ≡ record old { names = new.names; scopes = new.scopes }
 
 -- the end tag of the innermost open element was taken
 abbrev pub IsClosed : (old new : Place) → Type 0

@@ -8,6 +8,7 @@ pub mod laws;
 mod place;
 mod reader;
 mod run;
+mod texts;
 
 pub use event::{Event, Pull};
 pub use reader::EventReader;

@@ -4,6 +4,7 @@ ghost use Rattle.xml_events.specs.Before as spec;
 ghost use Rattle.xml_events.specs.Document.{text_items};
 ghost use Rattle.xml_tokens.specs.declared.lexeme.Body.TheVariants as body;
 
+use crate::texts::Texts;
 use std::alloc::{AllocError, Global};
 use stx_base::{Limits, List, Memory, Text, XmlKind};
 use xml_names::{NameFault, Resolved, Scopes};
@@ -63,7 +64,7 @@ impl From<NameFault> for Refusal {
 pub struct Place {
     limits: Limits,
     // The names of the open elements as written, the innermost last.
-    names: List<Text>,
+    names: Texts,
     scopes: Scopes,
     // The root's start tag was read.
     rooted: bool,
@@ -75,14 +76,14 @@ pub struct Place {
 }
 
 impl Place {
-    ghost use Rattle.xml_events.specs.Taking.{before_of, names_of, IsClosed, IsFit, Refuses, StartsAs, Takes, TakesFitting, Took, text_fault, unfit_at};
+    ghost use Rattle.xml_events.specs.Taking.{before_of, names_of, IsClosed, IsFit, IsLeft, Refuses, StartsAs, Takes, TakesFitting, Took, text_fault, unfit_at};
 
     pub fn new(alloc: Global, limits: Limits) -> Place
         ensures { StartsAs limits result }
     {
         Place {
             limits,
-            names: List::new(alloc),
+            names: Texts::new(alloc),
             scopes: Scopes::new(alloc),
             rooted: false,
             typed: false,
@@ -135,7 +136,7 @@ impl Place {
     fn is_inside(&self) -> bool
         ensures { result ≡ spec.is_inside (names_of self.now) }
     {
-        !self.names.is_empty()
+        self.names.len() > 0
     }
 
     fn is_misplaced(&self, body: &Body) -> bool
@@ -176,26 +177,42 @@ impl Place {
         ensures err { IfErr result (Refuses (unfit_at self.old (body.Start name attrs empty)) self.old self.new) }
         ensures limits { self.new.limits ≡ self.old.limits }
     {
-        let tag = self.scopes.enter(&name, attrs)?;
-        if self.is_full() {
-            self.scopes.leave();
+        self.names.push(name.as_str())?;
+        let tag = match self.scopes.enter(name, attrs) {
+            Ok(tag) => tag,
+            Err(fault) => {
+                self.names.pop();
+                return Err(Refusal::from(fault));
+            }
+        };
+        if self.is_overfull() {
+            self.leave();
             return Err(Refusal::Xml(XmlKind::TooDeep));
         }
         self.rooted = true;
         self.chars = 0;
         if empty {
-            self.scopes.leave();
+            self.leave();
             return Ok(Word::Empty(tag));
         }
-        self.names.push(name)?;
         Ok(Word::Open(tag))
     }
 
-    // As many elements are open as may be.
-    fn is_full(&self) -> bool
-        ensures { result ≡ spec.is_full self.now.limits (before_of self.now) }
+    // More elements are open than may be.
+    fn is_overfull(&self) -> bool
+        ensures { result ≡ nat_lt self.now.limits.depth (length (names_of self.now)) }
     {
-        self.names.len() >= self.limits.depth as usize
+        self.names.len() > self.limits.depth as usize
+    }
+
+    #[inline]
+    fn leave(&mut self)
+        requires names { 0 < length self.old.names }
+        requires scopes { 0 < length self.old.scopes }
+        ensures { IsLeft self.old self.new }
+    {
+        self.names.pop();
+        self.scopes.leave();
     }
 
     fn take_end(&mut self, name: &Text) -> Result<Word, Refusal>
@@ -219,8 +236,7 @@ impl Place {
         ensures closed { IsClosed self.old self.new }
         ensures limits { self.new.limits ≡ self.old.limits }
     {
-        let _ = self.names.pop();
-        self.scopes.leave();
+        self.leave();
         self.chars = 0;
     }
 
@@ -229,10 +245,7 @@ impl Place {
     pub fn innermost(&self) -> Option<&str>
         ensures { MatchOption result (names_of self.now ≡ []) (λ name. (others : List (List ℕ)) × (names_of self.now ≡ chars name.now ∷ others)) }
     {
-        match self.names.last() {
-            Some(name) => Some(name.as_str()),
-            None => None,
-        }
+        self.names.last()
     }
 
     // The innermost open element has this name.
@@ -240,7 +253,7 @@ impl Place {
         ensures { result ≡ spec.is_innermost name.now (names_of self.now) }
     {
         match self.names.last() {
-            Some(innermost) => innermost.same(name),
+            Some(innermost) => innermost == name.as_str(),
             None => false,
         }
     }
