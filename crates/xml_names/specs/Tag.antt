@@ -92,12 +92,6 @@ is_attribute_bound path name = is_some (declared_prefix name) || is_prefix_bound
 abbrev pub has_undeclared_prefix : (path : List (List Binding)) → (name : List ℕ) → List RawAttr → Bool
 has_undeclared_prefix path name attrs = not (is_element_bound path name && list_all (λ a. is_attribute_bound path a.name) attrs)
 
--- the prefixes of a tag are bound, and these are the parts of its name
-pub record IsBound (path : List (List Binding)) (name : List ℕ) (attrs : List RawAttr) (prefix local : List ℕ) : Type 0 where
-  pub bound_all : has_undeclared_prefix path name attrs ≡ false
-  pub prefix_is : prefix ≡ prefix_of name
-  pub local_is : local ≡ local_of name
-
 -- some two items are alike
 abbrev pub has_twins : {X : Type 0} → (X → X → Bool) → List X → Bool
 has_twins alike [] = false

@@ -6,11 +6,11 @@ ghost use Rattle.xml_names.specs.QName.{is_qname};
 ghost use Rattle.xml_names.specs.Scope as scope;
 ghost use Rattle.xml_names.specs.Scope.{bound, same};
 ghost use Rattle.xml_names.specs.Tag as spec;
-ghost use Rattle.xml_names.specs.Tag.{declarations, name_fault, resolved, scope_fault, IsBound, IsCause};
+ghost use Rattle.xml_names.specs.Tag.{declarations, name_fault, resolved, scope_fault, IsCause};
 
 use crate::declaration::{XML_URI, declarations, declared_prefix, has_bad_binding};
 use crate::in_force::InForce;
-use crate::parts::{Parts, cut, front, is_qname, parts_of};
+use crate::parts::{cut, front, is_qname, parts_of};
 use crate::resolved::{NameFault, Resolved};
 use crate::twins::{has_expanded_twins, has_written_twins};
 use crate::words::{is_empty, is_word};
@@ -73,7 +73,7 @@ impl Scopes {
         if is_plain(&name, attrs.as_slice()) {
             self.enter_plain(name, attrs)
         } else {
-            self.enter_any(&name, attrs)
+            self.enter_any(name, attrs)
         }
     }
 
@@ -98,14 +98,14 @@ impl Scopes {
     }
 
     #[inline(never)]
-    fn enter_any(&mut self, name: &Text, attrs: List<RawAttr>) -> Result<Resolved, NameFault>
-        ensures taken { OnOk result (name_fault self.old name.now attrs ≡ None) }
-        ensures fault { IfErr result (IsCause (name_fault self.old name.now attrs)) }
-        ensures value { IfOk result (λ tag. tag ≡ resolved self.old name.now attrs) }
+    fn enter_any(&mut self, name: Text, attrs: List<RawAttr>) -> Result<Resolved, NameFault>
+        ensures taken { OnOk result (name_fault self.old name attrs ≡ None) }
+        ensures fault { IfErr result (IsCause (name_fault self.old name attrs)) }
+        ensures value { IfOk result (λ tag. tag ≡ resolved self.old name attrs) }
         ensures ok { OnOk result (self.new ≡ self.old ++ declarations attrs ∷ []) }
         ensures err { OnErr result (self.new ≡ self.old) }
     {
-        if has_bad_name(name, attrs.as_slice()) {
+        if has_bad_name(&name, attrs.as_slice()) {
             return Err(NameFault::Xml(XmlKind::BadName));
         }
         if has_bad_binding(attrs.as_slice()) {
@@ -174,17 +174,17 @@ impl Scopes {
     /// What the tag of the innermost element says.
     fn resolve(
         &self,
-        name: &Text,
+        name: Text,
         attrs: List<RawAttr>,
         decls: List<Binding>,
     ) -> Result<Resolved, NameFault>
-        ensures taken { OnOk result (scope_fault self.now name.now attrs ≡ None) }
-        ensures fault { IfErr result (IsCause (scope_fault self.now name.now attrs)) }
-        ensures value { IfOk result (λ tag. tag ≡ spec.said self.now name.now attrs decls) }
+        ensures taken { OnOk result (scope_fault self.now name attrs ≡ None) }
+        ensures fault { IfErr result (IsCause (scope_fault self.now name attrs)) }
+        ensures value { IfOk result (λ tag. tag ≡ spec.said self.now name attrs decls) }
     {
-        let Some(parts) = self.bound_parts(name.as_str(), attrs.as_slice()) else {
+        if !self.are_prefixes_bound(name.as_str(), attrs.as_slice()) {
             return Err(NameFault::Xml(XmlKind::UndeclaredPrefix));
-        };
+        }
         if has_written_twins(self.alloc, attrs.as_slice())? {
             return Err(NameFault::Xml(XmlKind::DuplicateAttribute));
         }
@@ -192,7 +192,7 @@ impl Scopes {
         if has_expanded_twins(self.alloc, attrs.as_slice())? {
             return Err(NameFault::Xml(XmlKind::DuplicateAttribute));
         }
-        let name = self.element_name(parts)?;
+        let name = self.element_name(name)?;
         Ok(Resolved { name, attrs, decls })
     }
 
@@ -222,16 +222,10 @@ impl Scopes {
             .all(|attr| self.is_attribute_bound(attr.name.as_str()))
     }
 
-    /// The parts of an element's name, unless a prefix in its tag isn't bound.
-    fn bound_parts<'n>(&self, name: &'n str, attrs: &[RawAttr]) -> Option<Parts<'n>>
-        ensures { MatchOption result (spec.has_undeclared_prefix self.now (chars name.now) attrs.now ≡ true) (λ parts. IsBound self.now (chars name.now) attrs.now (chars parts.prefix.now) (chars parts.local.now)) }
+    fn are_prefixes_bound(&self, name: &str, attrs: &[RawAttr]) -> bool
+        ensures { result ≡ not (spec.has_undeclared_prefix self.now (chars name.now) attrs.now) }
     {
-        let parts = parts_of(name);
-        if self.is_element_bound(parts.prefix) && self.are_attributes_bound(attrs) {
-            Some(parts)
-        } else {
-            None
-        }
+        self.is_element_bound(parts_of(name).prefix) && self.are_attributes_bound(attrs)
     }
 
     /// The URI that a prefix is bound to, and the empty text where it isn't.
@@ -244,14 +238,21 @@ impl Scopes {
         }
     }
 
-    #[inline(always)]
-    fn element_name(&self, parts: Parts<'_>) -> Result<Name, Memory>
-        ensures { IfOk result (λ made. made ≡ record { uri = unwrap_or (bound self.now (chars parts.entry.prefix.now)) []; local = chars parts.entry.local.now; prefix = chars parts.entry.prefix.now }) }
+    /// Only the local part behind a prefix is copied.
+    fn element_name(&self, name: Text) -> Result<Name, Memory>
+        ensures { IfOk result (λ made. made ≡ scope.element_name self.now name) }
     {
-        self.name(self.bound_uri(parts.prefix), parts)
+        let Some(parts) = cut(name.as_str()) else {
+            return self.plain_name(name);
+        };
+        let uri = self.text(self.bound_uri(parts.prefix))?;
+        let local = self.text(parts.local)?;
+        let len = parts.prefix.len();
+        let prefix = front(name, len);
+        Ok(Name { uri, local, prefix })
     }
 
-    /// That of an element without prefix, which takes no copy.
+    /// The name of an element without prefix, which takes no copy.
     #[inline(always)]
     fn plain_name(&self, name: Text) -> Result<Name, Memory>
         ensures { IfOk result (λ made. made ≡ record { uri = unwrap_or (bound self.now []) []; local = name; prefix = [] }) }
@@ -289,16 +290,6 @@ impl Scopes {
         let local = self.text(parts.local)?;
         let len = parts.prefix.len();
         let prefix = front(name, len);
-        Ok(Name { uri, local, prefix })
-    }
-
-    #[inline(always)]
-    fn name(&self, uri: &str, parts: Parts<'_>) -> Result<Name, Memory>
-        ensures { IfOk result (λ made. made ≡ record { uri = chars uri.now; local = chars parts.entry.local.now; prefix = chars parts.entry.prefix.now }) }
-    {
-        let uri = self.text(uri)?;
-        let local = self.text(parts.local)?;
-        let prefix = self.text(parts.prefix)?;
         Ok(Name { uri, local, prefix })
     }
 
