@@ -77,6 +77,11 @@ fn ask(lexer: &mut Lexer, name: &str) -> Answer
     }
 }
 
+fn tell_end(offset: u64, out: &mut String) -> Result<(), Fail> {
+    write!(out, "{offset}! ")?;
+    Ok(())
+}
+
 fn tell(lexeme: &Lexeme, out: &mut String) -> Result<(), Fail> {
     write!(out, "{}", lexeme.offset)?;
     if let Body::End { name } = &lexeme.body {
@@ -91,7 +96,7 @@ fn drain(lexer: &mut Lexer, name: &str, out: &mut String) -> Result<(), Fail>
 {
     for _ in 0..100u32 {
         match ask(lexer, name) {
-            Answer::End(offset) => write!(out, "{offset}! ")?,
+            Answer::End(offset) => tell_end(offset, out)?,
             Answer::Step(Step::Lexeme(lexeme)) => tell(&lexeme, out)?,
             Answer::Step(Step::Need) => {
                 out.push_str("? ")?;
