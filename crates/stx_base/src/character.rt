@@ -1,5 +1,5 @@
-ghost use Rattle.std.specs.Prelude.{◌≡◌, ◌≤◌, ◌&&◌, nat_lt, false, true, slice_get};
-ghost use Rattle.std.specs.List.{list_all};
+ghost use Rattle.std.specs.Prelude.{◌≡◌, ◌≤◌, ◌&&◌, nat_lt, false, true, length, slice_get};
+ghost use Rattle.std.specs.List.{list_all, prefix_len};
 ghost use Rattle.std.specs.Option.{option_map_or};
 ghost use Rattle.std.specs.Str.{chars};
 ghost use Rattle.stx_base.specs.Character as class;
@@ -144,24 +144,34 @@ pub fn is_name(text: &str) -> bool
 pub fn is_ncname(text: &str) -> bool
     ensures { result ≡ class.is_ncname (chars text.now) }
 {
-    // Most names are of ASCII characters alone.
-    is_ascii_ncname(text.as_bytes()) || is_wide_ncname(text)
+    let bytes = text.as_bytes();
+    let (_, rest) = bytes.split_at(ascii_ncname_len(bytes));
+    match rest.first() {
+        // Most names are of ASCII characters alone,
+        None => begins_as_ascii_name(bytes),
+        // and what is none has mostly another one, a colon above all.
+        Some(byte) if *byte < 0x80 => false,
+        Some(_) => is_wide_ncname(text),
+    }
 }
 
-/// Whether bytes are an NCName of ASCII characters.
-fn is_ascii_ncname(bytes: &[u8]) -> bool
-    ensures first { result ≡ true → option_map_or class.is_name_start (slice_get bytes.now 0) false ≡ true }
-    ensures all { result ≡ true → list_all (λ b. nat_lt b 128 && class.is_ncname_char b) bytes.now ≡ true }
+fn ascii_ncname_len(bytes: &[u8]) -> usize
+    ensures value { result ≡ prefix_len (λ b. nat_lt b 128 && class.is_ncname_char b) bytes.now }
+    ensures bound { result ≤ length bytes.now }
 {
-    begins_as_ascii_ncname(bytes) && are_ascii_ncname_chars(bytes)
+    bytes
+        .iter()
+        .take_while(|b| is_ascii_ncname_byte(**b))
+        .count()
 }
 
-fn begins_as_ascii_ncname(bytes: &[u8]) -> bool
-    ensures { result ≡ true → option_map_or class.is_name_start (slice_get bytes.now 0) false ≡ true }
+fn begins_as_ascii_name(bytes: &[u8]) -> bool
+    requires { list_all (λ b. nat_lt b 128 && class.is_ncname_char b) bytes.now ≡ true }
+    ensures { result ≡ option_map_or class.is_name_start (slice_get bytes.now 0) false }
 {
     match bytes.first() {
-        Some(first) => matches!(*first, b'a'..=b'z' | b'A'..=b'Z' | b'_'),
-        _ => false,
+        Some(first) => is_name_start(char::from(*first)),
+        None => false,
     }
 }
 
@@ -197,10 +207,4 @@ fn are_ascii_name_chars(bytes: &[u8]) -> bool
     ensures { result ≡ list_all (λ b. nat_lt b 128 && class.is_name_char b) bytes.now }
 {
     bytes.iter().all(|b| is_ascii_name_byte(*b))
-}
-
-fn are_ascii_ncname_chars(bytes: &[u8]) -> bool
-    ensures { result ≡ list_all (λ b. nat_lt b 128 && class.is_ncname_char b) bytes.now }
-{
-    bytes.iter().all(|b| is_ascii_ncname_byte(*b))
 }
