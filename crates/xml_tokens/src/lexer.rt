@@ -164,6 +164,7 @@ impl Lexer {
         self.scan = Scan::START;
     }
 
+    #[inline(always)]
     fn advance(&mut self) -> Step
         ensures within { self.old.offset ≤ self.old.limits.input }
         ensures answer { IsAnswer self.old result }
