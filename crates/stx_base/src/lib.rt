@@ -13,6 +13,7 @@ mod memory;
 mod name;
 mod node;
 mod part;
+mod spare;
 #[cfg(test)]
 mod tests;
 mod text;
@@ -31,4 +32,5 @@ pub use memory::Memory;
 pub use name::{Attr, Binding, Name};
 pub use node::{First, NodeTest};
 pub use part::Part;
+pub use spare::Spare;
 pub use text::Text;
