@@ -16,7 +16,7 @@ use crate::scan::{Found, Scan, search};
 use crate::simple::{Simple, after_end_of, first_simple};
 use std::alloc::Global;
 use std::marker::Model;
-use stx_base::{Limits, Memory, XmlFault, XmlKind};
+use stx_base::{Limits, Memory, Spare, XmlFault, XmlKind};
 
 /// Cuts a document that comes in pieces into lexemes.
 #[derive(Debug, Drop)]
@@ -95,8 +95,9 @@ impl Lexer {
         self.offset.saturating_add(unread as u64)
     }
 
-    /// The next lexeme, or why there is none. An answer other than a lexeme and `Need` is repeated from then on.
-    pub fn next(&mut self) -> Step
+    /// The next lexeme, or why there is none. An answer other than a lexeme and `Need` is repeated from then on. Texts of
+    /// most lexemes are made of what is spare.
+    pub fn next(&mut self, spare: &mut Spare) -> Step
         ensures answer { IsAnswer self.old result }
         ensures after { self.new ≡ after self.old result }
         ensures ended { self.new.ended ≡ self.old.ended }
@@ -105,7 +106,7 @@ impl Lexer {
         ensures fed { fed self.new ≡ fed self.old }
         ensures limits { self.new.limits ≡ self.old.limits }
     {
-        self.advance()
+        self.advance(spare)
     }
 
     /// Takes the end tag of a name, where that is the next lexeme; says where it begins. It allocates nothing, and leaves
@@ -165,7 +166,7 @@ impl Lexer {
     }
 
     #[inline(always)]
-    fn advance(&mut self) -> Step
+    fn advance(&mut self, spare: &mut Spare) -> Step
         ensures within { self.old.offset ≤ self.old.limits.input }
         ensures answer { IsAnswer self.old result }
         ensures after { self.new ≡ after self.old result }
@@ -181,6 +182,7 @@ impl Lexer {
             self.offset,
             self.ended,
             self.scan,
+            spare,
         );
         match due {
             Due::Lexeme(body, offset, size) => {
@@ -223,7 +225,15 @@ fn drop_front(buffer: &mut Vec<u8>, len: usize)
 }
 
 /// What the unread bytes give, where the search for the first lexeme's end has come as far as `scan` says.
-fn look(alloc: Global, limits: &Limits, unread: &[u8], offset: u64, ended: bool, scan: Scan) -> Due
+fn look(
+    alloc: Global,
+    limits: &Limits,
+    unread: &[u8],
+    offset: u64,
+    ended: bool,
+    scan: Scan,
+    spare: &mut Spare,
+) -> Due
     requires offset { offset ≤ limits.now.input }
     requires scan { GoesOn scan (reader limits.now unread.now offset ended) }
     ensures { IsDue (reader limits.now unread.now offset ended) result }
@@ -235,9 +245,9 @@ fn look(alloc: Global, limits: &Limits, unread: &[u8], offset: u64, ended: bool,
     let bytes = tail(seen, mark);
     let at = offset + mark as u64;
     if let Some(simple) = unsearched(scan, bytes) {
-        return at_simple(alloc, limits, simple, at, mark);
+        return at_simple(alloc, limits, simple, at, mark, spare);
     }
-    match unsearched_tag(alloc, scan, bytes) {
+    match unsearched_tag(alloc, scan, bytes, spare) {
         Ok(None) => {}
         Ok(Some(tag)) => return at_tag(limits, tag, at, mark),
         Err(Memory) => return Due::Over(Ending::Memory),
@@ -269,11 +279,16 @@ fn unsearched(scan: Scan, bytes: &[u8]) -> Option<Simple<'_>>
 
 /// The same of a start tag with attributes.
 #[inline(always)]
-fn unsearched_tag(alloc: Global, scan: Scan, bytes: &[u8]) -> Result<Option<PlainTag>, Memory>
+fn unsearched_tag(
+    alloc: Global,
+    scan: Scan,
+    bytes: &[u8],
+    spare: &mut Spare,
+) -> Result<Option<PlainTag>, Memory>
     ensures { IfOk result (λ found. IfSome found (λ tag. BeginsWithTag tag bytes.now)) }
 {
     if scan.searched == 0 {
-        plain_tag(alloc, bytes)
+        plain_tag(alloc, bytes, spare)
     } else {
         Ok(None)
     }
@@ -295,7 +310,14 @@ fn at_shape(alloc: Global, limits: &Limits, bytes: &[u8], first: bool, at: u64, 
 }
 
 /// What a simple lexeme behind a byte order mark of `mark` bytes gives.
-fn at_simple(alloc: Global, limits: &Limits, simple: Simple<'_>, at: u64, mark: usize) -> Due
+fn at_simple(
+    alloc: Global,
+    limits: &Limits,
+    simple: Simple<'_>,
+    at: u64,
+    mark: usize,
+    spare: &mut Spare,
+) -> Due
     requires simple { IsSimple simple }
     requires within { mark + length (bytes_of simple) < 2 ^ 64 }
     ensures { (first : Bool) → IsShapeDue limits.now first (bytes_of simple.entry) at mark result }
@@ -304,7 +326,7 @@ fn at_simple(alloc: Global, limits: &Limits, simple: Simple<'_>, at: u64, mark: 
     if len as u64 > limits.lexeme {
         return Due::Over(bad(XmlKind::LexemeTooLong, at));
     }
-    match simple.body(alloc) {
+    match simple.body(alloc, spare) {
         Ok(body) => Due::Lexeme(body, at, mark + len),
         Err(Memory) => Due::Over(Ending::Memory),
     }

@@ -8,9 +8,9 @@ ghost use Rattle.xml_tokens.specs.Spelling.{slash};
 
 use crate::lexeme::RawAttr;
 use crate::tag::{after_byte, ascii_name_len, ascii_named};
-use crate::text::text_of;
+use crate::text::text_from_spare;
 use std::alloc::Global;
-use stx_base::{List, Memory, Text};
+use stx_base::{List, Memory, Spare, Text};
 
 /// A start tag, and how many bytes it takes.
 #[derive(Debug, Drop)]
@@ -22,10 +22,10 @@ pub struct PlainTag {
 }
 
 /// The start tag that the bytes begin with, where it is whole, its names are of ASCII, and each attribute stands behind one
-/// space and says itself in double quotes.
+/// space and says itself in double quotes. Its texts are made of what is spare.
 // It stays a function by itself: the lexer's frame would grow by it.
 #[inline(never)]
-pub fn plain_tag(alloc: Global, bytes: &[u8]) -> Result<Option<PlainTag>, Memory>
+pub fn plain_tag(alloc: Global, bytes: &[u8], spare: &mut Spare) -> Result<Option<PlainTag>, Memory>
     ensures { IfOk result (λ found. IfSome found (λ tag. BeginsWithTag tag bytes.now)) }
 {
     let Some(inside) = after_byte(b'<', bytes) else {
@@ -34,13 +34,13 @@ pub fn plain_tag(alloc: Global, bytes: &[u8]) -> Result<Option<PlainTag>, Memory
     let Some((name, behind)) = bare_named(inside) else {
         return Ok(None);
     };
-    let Some((attrs, rest)) = plain_attributes(alloc, behind)? else {
+    let Some((attrs, rest)) = plain_attributes(alloc, behind, spare)? else {
         return Ok(None);
     };
     let Some((empty, rest)) = plain_end(rest) else {
         return Ok(None);
     };
-    let name = text_of(alloc, name)?;
+    let name = text_from_spare(name, spare)?;
     Ok(Some(PlainTag {
         name,
         attrs,
@@ -73,7 +73,11 @@ fn plain_end(bytes: &[u8]) -> Option<(bool, &[u8])>
 
 /// The attributes, and what follows them; `None` where one isn't written so.
 #[inline(always)]
-fn plain_attributes(alloc: Global, bytes: &[u8]) -> Result<Option<(List<RawAttr>, &[u8])>, Memory>
+fn plain_attributes<'b>(
+    alloc: Global,
+    bytes: &'b [u8],
+    spare: &mut Spare,
+) -> Result<Option<(List<RawAttr>, &'b [u8])>, Memory>
     ensures { IfOk result (λ found. IfSome found (λ given. AreFirst given.0 given.1.now bytes.now)) }
 {
     let mut attrs = List::new(alloc);
@@ -86,8 +90,8 @@ fn plain_attributes(alloc: Global, bytes: &[u8]) -> Result<Option<(List<RawAttr>
             return Ok(None);
         };
         let attr = RawAttr {
-            name: text_of(alloc, name)?,
-            value: text_of(alloc, value)?,
+            name: text_from_spare(name, spare)?,
+            value: text_from_spare(value, spare)?,
         };
         attrs.push(attr)?;
         rest = behind;

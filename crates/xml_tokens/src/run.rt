@@ -7,7 +7,7 @@ ghost use Rattle.xml_tokens.specs.declared.lexeme.Lexeme.{Lexeme as Word};
 use crate::lexeme::{Ending, Lexeme, Step};
 use crate::lexer::Lexer;
 use std::alloc::Global;
-use stx_base::{Limits, List, Memory};
+use stx_base::{Limits, List, Memory, Spare};
 
 /// The lexemes of a document, and what ends them.
 #[derive(Debug, Drop)]
@@ -25,27 +25,32 @@ pub fn lex(alloc: Global, limits: Limits, pieces: &[Vec<u8>]) -> Result<Run, Mem
         Lexes (document limits (flat_map (λ piece. piece.items) pieces.now)) others over → (run.lexemes ≡ others) × (run.ending ≡ over)) }
 {
     let mut lexer = Lexer::new(alloc, limits);
+    let mut spare = Spare::new(alloc);
     let mut lexemes = List::new(alloc);
     for piece in pieces {
         lexer.feed(piece)?;
-        if let Some(ending) = drain(&mut lexer, &mut lexemes)? {
+        if let Some(ending) = drain(&mut lexer, &mut lexemes, &mut spare)? {
             return Ok(Run { lexemes, ending });
         }
     }
     lexer.finish();
-    match drain(&mut lexer, &mut lexemes)? {
+    match drain(&mut lexer, &mut lexemes, &mut spare)? {
         Some(ending) => Ok(Run { lexemes, ending }),
         None => unreachable!(),
     }
 }
 
 /// Appends the lexemes that are whole, and says what ends them if no more bytes must come.
-fn drain(lexer: &mut Lexer, lexemes: &mut List<Lexeme>) -> Result<Option<Ending>, Memory>
+fn drain(
+    lexer: &mut Lexer,
+    lexemes: &mut List<Lexeme>,
+    spare: &mut Spare,
+) -> Result<Option<Ending>, Memory>
     requires { lexer.old.over ≡ None }
     ensures { IfOk result (λ over. IsDrained lexer.old lexemes.old lexer.new lexemes.new over) }
 {
     'taking: loop {
-        match lexer.next() {
+        match lexer.next(spare) {
             Step::Lexeme(lexeme) => lexemes.push(lexeme)?,
             Step::Need => return Ok(None),
             Step::End => return Ok(Some(Ending::End)),

@@ -9,9 +9,9 @@ use crate::form::is_word;
 use crate::judge::{is_blank, is_plain_byte};
 use crate::lexeme::Body;
 use crate::tag::{after_byte, ascii_name_len, ascii_named};
-use crate::text::text_of;
+use crate::text::text_from_spare;
 use std::alloc::Global;
-use stx_base::{List, Memory};
+use stx_base::{List, Memory, Spare};
 
 /// The end of a longer text is sought in bulk.
 const NEAR: usize = 32;
@@ -38,15 +38,15 @@ impl Simple<'_> {
         }
     }
 
-    /// What it says.
+    /// What it says; its text is made of what is spare.
     #[inline]
-    pub fn body(self, alloc: Global) -> Result<Body, Memory>
+    pub fn body(self, alloc: Global, spare: &mut Spare) -> Result<Body, Memory>
         requires { IsSimple self }
         ensures { IfOk result (λ body. body ≡ body_of self.entry) }
     {
         match self {
             Simple::Start(name) => {
-                let name = text_of(alloc, name)?;
+                let name = text_from_spare(name, spare)?;
                 let attrs = List::new(alloc);
                 Ok(Body::Start {
                     name,
@@ -55,11 +55,11 @@ impl Simple<'_> {
                 })
             }
             Simple::End(name) => {
-                let name = text_of(alloc, name)?;
+                let name = text_from_spare(name, spare)?;
                 Ok(Body::End { name })
             }
             Simple::Text(bytes) => {
-                let text = text_of(alloc, bytes)?;
+                let text = text_from_spare(bytes, spare)?;
                 let blank = is_blank(bytes);
                 Ok(Body::Chars { text, blank })
             }

@@ -15,7 +15,7 @@ use crate::cut::{head, place_of, tail};
 use crate::form::{begins, is_word};
 use memchr::{memchr, memchr2, memchr3};
 use std::alloc::{AllocError, Global};
-use stx_base::{Memory, Text, is_ascii_name_byte, is_char, is_name, is_name_start};
+use stx_base::{Memory, Spare, Text, is_ascii_name_byte, is_char, is_name, is_name_start};
 
 /// Where bytes stand that say a text.
 #[derive(Clone, Copy, Debug, PartialEq, Eq)]
@@ -41,6 +41,14 @@ pub fn text_of(alloc: Global, bytes: &[u8]) -> Result<Text, Memory>
     ensures { IfOk result (λ text. text ≡ chars bytes.now) }
 {
     Text::of(alloc, str_of(bytes))
+}
+
+/// The same, made of what is spare.
+pub fn text_from_spare(bytes: &[u8], spare: &mut Spare) -> Result<Text, Memory>
+    requires { IsUtf8 bytes.now }
+    ensures { IfOk result (λ text. text ≡ chars bytes.now) }
+{
+    spare.text(str_of(bytes))
 }
 
 /// UTF-8 as it stands.

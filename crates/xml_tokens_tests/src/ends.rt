@@ -5,7 +5,7 @@ use std::alloc::Global;
 use std::fmt::Write;
 use std::process::Abort;
 use std::test::Fail;
-use stx_base::{Limits, is_name};
+use stx_base::{Limits, Spare, is_name};
 use xml_tokens::{Body, Lexeme, Lexer, Step};
 
 /// The name, pieces, and what is told: the place of each lexeme, with `!` where it is an end tag that was taken so and with the name
@@ -68,12 +68,12 @@ enum Answer {
     Step(Step),
 }
 
-fn ask(lexer: &mut Lexer, name: &str) -> Answer
+fn ask(lexer: &mut Lexer, name: &str, spare: &mut Spare) -> Answer
     ensures { lexer.new.ended ≡ lexer.old.ended }
 {
     match taken(lexer, name) {
         Some(offset) => Answer::End(offset),
-        None => Answer::Step(lexer.next()),
+        None => Answer::Step(lexer.next(spare)),
     }
 }
 
@@ -91,11 +91,11 @@ fn tell(lexeme: &Lexeme, out: &mut String) -> Result<(), Fail> {
     Ok(())
 }
 
-fn drain(lexer: &mut Lexer, name: &str, out: &mut String) -> Result<(), Fail>
+fn drain(lexer: &mut Lexer, name: &str, out: &mut String, spare: &mut Spare) -> Result<(), Fail>
     ensures { lexer.new.ended ≡ lexer.old.ended }
 {
     for _ in 0..100u32 {
-        match ask(lexer, name) {
+        match ask(lexer, name, spare) {
             Answer::End(offset) => tell_end(offset, out)?,
             Answer::Step(Step::Lexeme(lexeme)) => tell(&lexeme, out)?,
             Answer::Step(Step::Need) => {
@@ -124,15 +124,16 @@ fn drain(lexer: &mut Lexer, name: &str, out: &mut String) -> Result<(), Fail>
 fn told(alloc: Global, limits: Limits, name: &str, pieces: &[&[u8]]) -> Result<String, Fail> {
     let mut lexer = Lexer::new(alloc, limits);
     let mut out = String::new(alloc);
+    let mut spare = Spare::new(alloc);
     for piece in pieces {
         lexer.feed(piece)?;
-        drain(&mut lexer, name, &mut out)?;
+        drain(&mut lexer, name, &mut out, &mut spare)?;
         if !out.as_str().ends_with("? ") {
             return Ok(out);
         }
     }
     lexer.finish();
-    drain(&mut lexer, name, &mut out)?;
+    drain(&mut lexer, name, &mut out, &mut spare)?;
     Ok(out)
 }
 
@@ -173,8 +174,9 @@ fn ends_at_the_end(rt: HostRuntime) -> Result<(), Fail> {
     lexer.feed(b"</a></b>")?;
     lexer.finish();
     let mut out = String::new(alloc);
-    drain(&mut lexer, "a", &mut out)?;
-    drain(&mut lexer, "a", &mut out)?;
+    let mut spare = Spare::new(alloc);
+    drain(&mut lexer, "a", &mut out, &mut spare)?;
+    drain(&mut lexer, "a", &mut out, &mut spare)?;
     assert_eq!(rt; out.as_str(), "0! 4</b> endend");
     Ok(())
 }

@@ -9,22 +9,23 @@ use std::alloc::Global;
 use std::fmt::Write;
 use std::process::Abort;
 use std::test::Fail;
-use stx_base::Limits;
-use xml_tokens::{Body, Ending, Lexer, Step, lex};
+use stx_base::{Limits, Spare};
+use xml_tokens::{Body, Ending, Lexer, RawAttr, Step, lex};
 
 /// The lexer's answers up to the first that is repeated, as text, with `?` where more bytes must come.
 fn told(alloc: Global, limits: Limits, pieces: &[&[u8]]) -> Result<String, Fail> {
     let mut lexer = Lexer::new(alloc, limits);
     let mut out = String::new(alloc);
+    let mut spare = Spare::new(alloc);
     for piece in pieces {
         lexer.feed(piece)?;
-        if drain(&mut lexer, &mut out)? {
+        if drain(&mut lexer, &mut out, &mut spare)? {
             return Ok(out);
         }
         out.push_str("? ")?;
     }
     lexer.finish();
-    drain(&mut lexer, &mut out)?;
+    drain(&mut lexer, &mut out, &mut spare)?;
     Ok(out)
 }
 
@@ -38,31 +39,33 @@ fn told_cut(
 ) -> Result<String, Fail> {
     let mut lexer = Lexer::new(alloc, limits);
     let mut out = String::new(alloc);
+    let mut spare = Spare::new(alloc);
     let (head, rest) = document.split_at(first.min(document.len()));
     lexer.feed(head)?;
-    if drain(&mut lexer, &mut out)? {
+    if drain(&mut lexer, &mut out, &mut spare)? {
         return Ok(out);
     }
     for piece in rest.chunks(size.max(1)) {
         lexer.feed(piece)?;
-        if drain(&mut lexer, &mut out)? {
+        if drain(&mut lexer, &mut out, &mut spare)? {
             return Ok(out);
         }
     }
     lexer.finish();
-    drain(&mut lexer, &mut out)?;
+    drain(&mut lexer, &mut out, &mut spare)?;
     Ok(out)
 }
 
 /// Whether the lexer is over.
-fn drain(lexer: &mut Lexer, out: &mut String) -> Result<bool, Fail>
+fn drain(lexer: &mut Lexer, out: &mut String, spare: &mut Spare) -> Result<bool, Fail>
     ensures { lexer.new.ended ≡ lexer.old.ended }
 {
     for _ in 0..100u32 {
-        match lexer.next() {
+        match lexer.next(spare) {
             Step::Lexeme(lexeme) => {
                 write!(out, "{}", lexeme.offset)?;
                 tell(&lexeme.body, out)?;
+                give_back(lexeme.body, spare);
             }
             Step::Need => return Ok(false),
             Step::End => {
@@ -81,6 +84,29 @@ fn drain(lexer: &mut Lexer, out: &mut String) -> Result<bool, Fail>
         }
     }
     Ok(true)
+}
+
+/// Lets the next lexemes be made of this one's texts.
+fn give_back(body: Body, spare: &mut Spare) {
+    match body {
+        Body::Chars { text, .. } | Body::CData { text } | Body::Comment { text } => {
+            spare.keep(text);
+        }
+        Body::End { name } => spare.keep(name),
+        Body::Pi { target, text } => {
+            spare.keep(target);
+            spare.keep(text);
+        }
+        Body::Start { name, attrs, .. } => {
+            spare.keep(name);
+            for attr in attrs.into_vec() {
+                let RawAttr { name, value } = attr;
+                spare.keep(name);
+                spare.keep(value);
+            }
+        }
+        Body::Doctype | Body::Declaration => {}
+    }
 }
 
 fn tell(body: &Body, out: &mut String) -> Result<(), Fail> {
@@ -486,14 +512,15 @@ fn check_last(rt: &impl Abort, alloc: Global, document: &[u8], wanted: &str) -> 
     let mut lexer = Lexer::new(alloc, Limits::standard());
     lexer.feed(document)?;
     let mut out = String::new(alloc);
-    drain(&mut lexer, &mut out)?;
+    let mut spare = Spare::new(alloc);
+    drain(&mut lexer, &mut out, &mut spare)?;
     let mut again = String::new(alloc);
-    drain(&mut lexer, &mut again)?;
+    drain(&mut lexer, &mut again, &mut spare)?;
     assert_eq!(rt; again.as_str(), wanted, "of {document:?} a second time");
     lexer.feed(b"<a/>")?;
     lexer.finish();
     let mut again = String::new(alloc);
-    drain(&mut lexer, &mut again)?;
+    drain(&mut lexer, &mut again, &mut spare)?;
     assert_eq!(rt; again.as_str(), wanted, "of {document:?} at the end");
     Ok(())
 }

@@ -5,8 +5,8 @@ use Rattle.xml_tokens.proofs.SimpleLemmas.{name-utf8}
 use Rattle.xml_tokens.proofs.PlainTagLemmas.{tag_bytes, tag-begins, tag-spelled}
 use Rattle.xml_tokens.proofs.plain_tag.plain_tag.Goals as goal
 
-pub text_of-requires : goal.text_of-requires
-text_of-requires c = name-utf8 c.in-Some-bare_named.name.now c.in-Some-bare_named.ensures.0
+pub text_from_spare-requires : goal.text_from_spare-requires
+text_from_spare-requires c = name-utf8 c.in-Some-bare_named.name.now c.in-Some-bare_named.ensures.0
 
 pub returns : goal.returns
 returns c =
