@@ -16,7 +16,7 @@ use crate::twins::{has_expanded_twins, has_written_twins};
 use crate::words::{is_empty, is_word};
 use std::alloc::Global;
 use std::marker::Model;
-use stx_base::{Attr, Binding, List, Memory, Name, Text, XmlKind, is_ncname};
+use stx_base::{Attr, Binding, List, Memory, Name, Spare, Text, XmlKind, is_ncname};
 use xml_tokens::RawAttr;
 
 /// The elements from the document's root to where it is read, with what each of them declares.
@@ -62,7 +62,12 @@ impl Scopes {
 
     /// Enters an element by its start tag. After a refusal the scopes are unchanged, and the attributes are dropped.
     #[inline(always)]
-    pub fn enter(&mut self, name: Text, attrs: List<RawAttr>) -> Result<Resolved, NameFault>
+    pub fn enter(
+        &mut self,
+        name: Text,
+        attrs: List<RawAttr>,
+        spare: &mut Spare,
+    ) -> Result<Resolved, NameFault>
         // It is taken only where it has no fault.
         ensures taken { OnOk result (name_fault self.old name attrs ≡ None) }
         ensures fault { IfErr result (IsCause (name_fault self.old name attrs)) }
@@ -71,15 +76,20 @@ impl Scopes {
         ensures err { OnErr result (self.new ≡ self.old) }
     {
         if is_plain(&name, attrs.as_slice()) {
-            self.enter_plain(name, attrs)
+            self.enter_plain(name, attrs, spare)
         } else {
-            self.enter_any(name, attrs)
+            self.enter_any(name, attrs, spare)
         }
     }
 
     /// Most tags declare nothing and have no prefix, so that nothing has to be looked up in them but the default namespace.
     #[inline(always)]
-    fn enter_plain(&mut self, name: Text, attrs: List<RawAttr>) -> Result<Resolved, NameFault>
+    fn enter_plain(
+        &mut self,
+        name: Text,
+        attrs: List<RawAttr>,
+        spare: &mut Spare,
+    ) -> Result<Resolved, NameFault>
         requires { spec.is_plain name attrs ≡ true }
         ensures taken { OnOk result (name_fault self.old name attrs ≡ None) }
         ensures fault { IfErr result (IsCause (name_fault self.old name attrs)) }
@@ -90,7 +100,7 @@ impl Scopes {
         if has_written_twins(self.alloc, attrs.as_slice())? {
             return Err(NameFault::Xml(XmlKind::DuplicateAttribute));
         }
-        let name = self.plain_name(name)?;
+        let name = self.plain_name(name, spare)?;
         let attrs = plain_attributes(self.alloc, attrs)?;
         let decls = List::new(self.alloc);
         self.declare(&decls)?;
@@ -98,7 +108,12 @@ impl Scopes {
     }
 
     #[inline(never)]
-    fn enter_any(&mut self, name: Text, attrs: List<RawAttr>) -> Result<Resolved, NameFault>
+    fn enter_any(
+        &mut self,
+        name: Text,
+        attrs: List<RawAttr>,
+        spare: &mut Spare,
+    ) -> Result<Resolved, NameFault>
         ensures taken { OnOk result (name_fault self.old name attrs ≡ None) }
         ensures fault { IfErr result (IsCause (name_fault self.old name attrs)) }
         ensures value { IfOk result (λ tag. tag ≡ resolved self.old name attrs) }
@@ -113,7 +128,7 @@ impl Scopes {
         }
         let decls = declarations(self.alloc, attrs.as_slice())?;
         self.declare(&decls)?;
-        match self.resolve(name, attrs, decls) {
+        match self.resolve(name, attrs, decls, spare) {
             Ok(tag) => Ok(tag),
             Err(fault) => {
                 self.leave();
@@ -177,6 +192,7 @@ impl Scopes {
         name: Text,
         attrs: List<RawAttr>,
         decls: List<Binding>,
+        spare: &mut Spare,
     ) -> Result<Resolved, NameFault>
         ensures taken { OnOk result (scope_fault self.now name attrs ≡ None) }
         ensures fault { IfErr result (IsCause (scope_fault self.now name attrs)) }
@@ -188,11 +204,11 @@ impl Scopes {
         if has_written_twins(self.alloc, attrs.as_slice())? {
             return Err(NameFault::Xml(XmlKind::DuplicateAttribute));
         }
-        let attrs = self.attributes(attrs)?;
+        let attrs = self.attributes(attrs, spare)?;
         if has_expanded_twins(self.alloc, attrs.as_slice())? {
             return Err(NameFault::Xml(XmlKind::DuplicateAttribute));
         }
-        let name = self.element_name(name)?;
+        let name = self.element_name(name, spare)?;
         Ok(Resolved { name, attrs, decls })
     }
 
@@ -239,14 +255,14 @@ impl Scopes {
     }
 
     /// Only the local part behind a prefix is copied.
-    fn element_name(&self, name: Text) -> Result<Name, Memory>
+    fn element_name(&self, name: Text, spare: &mut Spare) -> Result<Name, Memory>
         ensures { IfOk result (λ made. made ≡ scope.element_name self.now name) }
     {
         let Some(parts) = cut(name.as_str()) else {
-            return self.plain_name(name);
+            return self.plain_name(name, spare);
         };
-        let uri = self.text(self.bound_uri(parts.prefix))?;
-        let local = self.text(parts.local)?;
+        let uri = self.text(self.bound_uri(parts.prefix), spare)?;
+        let local = self.text(parts.local, spare)?;
         let len = parts.prefix.len();
         let prefix = front(name, len);
         Ok(Name { uri, local, prefix })
@@ -254,10 +270,10 @@ impl Scopes {
 
     /// The name of an element without prefix, which takes no copy.
     #[inline(always)]
-    fn plain_name(&self, name: Text) -> Result<Name, Memory>
+    fn plain_name(&self, name: Text, spare: &mut Spare) -> Result<Name, Memory>
         ensures { IfOk result (λ made. made ≡ record { uri = unwrap_or (bound self.now []) []; local = name; prefix = [] }) }
     {
-        let uri = self.text(self.bound_uri(""))?;
+        let uri = self.text(self.bound_uri(""), spare)?;
         Ok(Name {
             uri,
             local: name,
@@ -276,7 +292,7 @@ impl Scopes {
     }
 
     /// Only the local part behind a prefix is copied.
-    fn attribute_name(&self, name: Text) -> Result<Name, Memory>
+    fn attribute_name(&self, name: Text, spare: &mut Spare) -> Result<Name, Memory>
         ensures { IfOk result (λ made. made ≡ scope.attribute_name self.now name) }
     {
         let Some(parts) = cut(name.as_str()) else {
@@ -286,8 +302,8 @@ impl Scopes {
                 prefix: Text::new(self.alloc),
             });
         };
-        let uri = self.text(self.attribute_uri(parts.prefix))?;
-        let local = self.text(parts.local)?;
+        let uri = self.text(self.attribute_uri(parts.prefix), spare)?;
+        let local = self.text(parts.local, spare)?;
         let len = parts.prefix.len();
         let prefix = front(name, len);
         Ok(Name { uri, local, prefix })
@@ -295,25 +311,25 @@ impl Scopes {
 
     /// The same characters. Most names have neither URI nor prefix, and the empty text is made without a copy.
     #[inline(always)]
-    fn text(&self, text: &str) -> Result<Text, Memory>
+    fn text(&self, text: &str, spare: &mut Spare) -> Result<Text, Memory>
         ensures { IfOk result (λ made. made ≡ chars text.now) }
     {
         if is_empty(text) {
             Ok(Text::new(self.alloc))
         } else {
-            Text::of(self.alloc, text)
+            spare.text(text)
         }
     }
 
     #[inline(always)]
-    fn attributes(&self, attrs: List<RawAttr>) -> Result<List<Attr>, Memory>
+    fn attributes(&self, attrs: List<RawAttr>, spare: &mut Spare) -> Result<List<Attr>, Memory>
         ensures { IfOk result (λ made. made ≡ spec.attributes self.now attrs) }
     {
         let mut made = List::from_vec(Vec::with_capacity(self.alloc, attrs.len())?);
         for attr in attrs.into_vec() {
             let RawAttr { name, value } = attr;
             if declared_prefix(name.as_str()).is_none() {
-                let name = self.attribute_name(name)?;
+                let name = self.attribute_name(name, spare)?;
                 made.push(Attr { name, value })?;
             }
         }

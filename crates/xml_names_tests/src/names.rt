@@ -5,7 +5,7 @@ use std::alloc::Global;
 use std::fmt::Write;
 use std::process::Abort;
 use std::test::Fail;
-use stx_base::{List, Memory, Name, Text};
+use stx_base::{List, Memory, Name, Spare, Text};
 use xml_names::{NameFault, Resolved, Scopes};
 use xml_tokens::RawAttr;
 
@@ -100,7 +100,23 @@ fn leave(scopes: &mut Scopes, out: &mut String) -> Result<(), Fail> {
     Ok(())
 }
 
-fn answer(alloc: Global, scopes: &mut Scopes, step: &str, out: &mut String) -> Result<(), Fail> {
+/// Takes back what a tag says, so that the next tag's names are made of it.
+fn keep(entered: Result<Resolved, NameFault>, spare: &mut Spare) {
+    if let Ok(Resolved { name, attrs, .. }) = entered {
+        spare.keep_name(name);
+        for attr in attrs.into_vec() {
+            spare.keep_attr(attr);
+        }
+    }
+}
+
+fn answer(
+    alloc: Global,
+    scopes: &mut Scopes,
+    spare: &mut Spare,
+    step: &str,
+    out: &mut String,
+) -> Result<(), Fail> {
     if step == "/" {
         return leave(scopes, out);
     }
@@ -112,15 +128,19 @@ fn answer(alloc: Global, scopes: &mut Scopes, step: &str, out: &mut String) -> R
         return Ok(write!(out, "{prefix}={}", uri.unwrap_or("none"))?);
     }
     let Tag { name, attrs } = tag_of(alloc, step)?;
-    tell_tag(&scopes.enter(name, attrs), out)
+    let entered = scopes.enter(name, attrs, spare);
+    tell_tag(&entered, out)?;
+    keep(entered, spare);
+    Ok(())
 }
 
 /// The answers to the steps that have one. After a refusal nothing has changed, so the steps go on.
 fn told(alloc: Global, steps: &str) -> Result<String, Fail> {
     let mut scopes = Scopes::new(alloc);
+    let mut spare = Spare::new(alloc);
     let mut out = String::new(alloc);
     for step in steps.split(" | ") {
-        answer(alloc, &mut scopes, step, &mut out)?;
+        answer(alloc, &mut scopes, &mut spare, step, &mut out)?;
     }
     Ok(out)
 }
@@ -178,7 +198,10 @@ fn many_attributes(rt: HostRuntime) -> Result<(), Fail> {
     for (others, wanted) in &MANY {
         let name = Text::of(alloc, "a")?;
         let attrs = many(alloc, 10_000, others)?;
-        let found = count(alloc, &Scopes::new(alloc).enter(name, attrs))?;
+        let found = count(
+            alloc,
+            &Scopes::new(alloc).enter(name, attrs, &mut Spare::new(alloc)),
+        )?;
         assert_eq!(rt; found.as_str(), *wanted, "with {others}");
     }
     Ok(())
@@ -190,14 +213,15 @@ fn many_declarations(rt: HostRuntime) -> Result<(), Fail> {
     let alloc = rt.alloc();
     for count in [2, 14, 15, 16, 17, 40] {
         let mut scopes = Scopes::new(alloc);
+        let mut spare = Spare::new(alloc);
         let mut out = String::new(alloc);
         for number in 0..count {
             let step = format!(in alloc; "a xmlns:p{number}=u{number}")?;
-            answer(alloc, &mut scopes, step.as_str(), &mut out)?;
+            answer(alloc, &mut scopes, &mut spare, step.as_str(), &mut out)?;
         }
         out.clear();
         for step in "?p0 | ?p1 | ?p | p0:a xmlns:p0=v | ?p0 | ?p1 | / | ?p0".split(" | ") {
-            answer(alloc, &mut scopes, step, &mut out)?;
+            answer(alloc, &mut scopes, &mut spare, step, &mut out)?;
         }
         let wanted = "p0=u0; p1=u1; p=none; p0{v}a +p0=v; p0=v; p1=u1; p0=u0";
         assert_eq!(rt; out.as_str(), wanted, "in {count} elements");
