@@ -4,7 +4,7 @@ use crate::copying::{Wanted, compare};
 use crate::table::PASS_ALL;
 use std::alloc::Global;
 use std::test::Fail;
-use stx_base::{Limits, XmlFault, XmlKind};
+use stx_base::{Limits, Spare, XmlFault, XmlKind};
 use xml_events::{Event, EventReader, Pull};
 
 fn tags(alloc: Global, count: u32) -> Result<String, Fail> {
@@ -38,12 +38,23 @@ fn input_too_long(rt: HostRuntime) -> Result<(), Fail> {
     };
     let mut reader = EventReader::new(rt.alloc(), limits, false);
     reader.feed("<a/>x".as_bytes())?;
-    assert!(rt; matches!(reader.next(), Pull::Event(Event::Start { offset: 0, .. })));
-    assert!(rt; matches!(reader.next(), Pull::Event(Event::End { offset: 0 })));
+    let mut spare = Spare::new(rt.alloc());
+    assert!(rt;
+        matches!(
+            reader.next(&mut spare),
+            Pull::Event(Event::Start { offset: 0, .. })
+        )
+    );
+    assert!(rt;
+        matches!(
+            reader.next(&mut spare),
+            Pull::Event(Event::End { offset: 0 })
+        )
+    );
     let wanted = XmlFault {
         kind: XmlKind::InputTooLong,
         offset: 4,
     };
-    assert!(rt; matches!(reader.next(), Pull::Bad(fault) if fault == wanted));
+    assert!(rt; matches!(reader.next(&mut spare), Pull::Bad(fault) if fault == wanted));
     Ok(())
 }

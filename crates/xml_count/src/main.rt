@@ -6,7 +6,7 @@ ghost use Rattle.std.specs.Prelude.{◌≡◌};
 use std::alloc::Global;
 use std::io;
 use std::io::{ErrorKind, Read, Write};
-use stx_base::Limits;
+use stx_base::{First, Limits, Spare};
 use xml_events::{Event, EventReader, Pull};
 
 /// So many events there were.
@@ -32,6 +32,7 @@ fn main(rt: HostRuntime) -> io::Result<()> {
 /// Counts the events of a whole document.
 fn count<R: Read>(alloc: Global, input: &mut R) -> io::Result<Counts> {
     let mut reader = EventReader::new(alloc, Limits::standard(), false);
+    let mut spare = Spare::new(alloc);
     let mut counts = Counts {
         elements: 0,
         texts: 0,
@@ -46,20 +47,23 @@ fn count<R: Read>(alloc: Global, input: &mut R) -> io::Result<Counts> {
         if reader.feed(&room[..len]).is_err() {
             return Err(io::Error::from(ErrorKind::OutOfMemory));
         }
-        drain(&mut reader, &mut counts)?;
+        drain(&mut reader, &mut counts, &mut spare)?;
     }
     reader.finish();
-    drain(&mut reader, &mut counts)?;
+    drain(&mut reader, &mut counts, &mut spare)?;
     Ok(counts)
 }
 
-/// Counts the events that are known.
-fn drain(reader: &mut EventReader, counts: &mut Counts) -> io::Result<()>
+/// Counts the events that are known, and lets the next ones be made of their texts.
+fn drain(reader: &mut EventReader, counts: &mut Counts, spare: &mut Spare) -> io::Result<()>
     ensures { reader.new.lexer.ended ≡ reader.old.lexer.ended }
 {
     'counting: loop {
-        match reader.next() {
-            Pull::Event(event) => counts.add(&event),
+        match reader.next(spare) {
+            Pull::Event(event) => {
+                counts.add(&event);
+                give_back(event, spare);
+            }
             Pull::Need | Pull::End => return Ok(()),
             Pull::Bad(_) => return Err(io::Error::from(ErrorKind::InvalidData)),
             Pull::Memory => return Err(io::Error::from(ErrorKind::OutOfMemory)),
@@ -77,5 +81,32 @@ impl Counts {
             Event::End { .. } => {}
             Event::DocumentEnd { .. } => {}
         }
+    }
+}
+
+fn give_back(event: Event, spare: &mut Spare) {
+    match event {
+        Event::Start {
+            name,
+            attrs,
+            first,
+            ..
+        } => {
+            spare.keep_name(name);
+            for attr in attrs.into_vec() {
+                spare.keep_attr(attr);
+            }
+            if let First::Chars(text) = first {
+                spare.keep(text);
+            }
+        }
+        Event::Chars { text, .. } => spare.keep(text),
+        Event::Comment { text, .. } => spare.keep(text),
+        Event::Pi { target, text, .. } => {
+            spare.keep(target);
+            spare.keep(text);
+        }
+        Event::End { .. } => {}
+        Event::DocumentEnd { .. } => {}
     }
 }

@@ -3,9 +3,8 @@ ghost use Rattle.xml_events.specs.Fronts as spec;
 
 use crate::event::Event;
 use crate::place::Word;
-use std::alloc::Global;
 use std::mem::replace;
-use stx_base::{Copied, First, Memory, Text, is_space};
+use stx_base::{First, Memory, Spare, Text, is_space};
 use xml_names::Resolved;
 
 /// A start tag, and where it begins.
@@ -48,7 +47,6 @@ pub enum After {
 /// What was read and wasn't given yet. It stays where it is until it is given: tags are large, and events larger.
 #[derive(Debug, Drop)]
 pub struct Front {
-    alloc: Global,
     // Texts of white space alone are no nodes.
     strip: bool,
     // The innermost open element, until it is given.
@@ -70,11 +68,10 @@ impl Front {
     ghost use Rattle.xml_events.specs.Fronts.{after_items, run_events, settled, Follows, Gives, IsDry, IsEmpty, IsSettled, Strips, TakesItems};
     ghost use Rattle.xml_events.specs.Taking.{items_at};
 
-    pub fn new(alloc: Global, strip: bool) -> Front
+    pub fn new(strip: bool) -> Front
         ensures { IsEmpty strip result }
     {
         Front {
-            alloc,
             strip,
             held: None,
             run: None,
@@ -148,16 +145,18 @@ impl Front {
 
     /// Takes what a lexeme at a place is in the tree.
     #[inline(always)]
-    pub fn take(&mut self, offset: u64, word: Word) -> Result<(), Memory>
+    pub fn take(&mut self, offset: u64, word: Word, spare: &mut Spare) -> Result<(), Memory>
         requires { self.old.settled ≡ false }
         ensures { OnOk result (TakesItems (items_at offset word) self.old self.new) }
     {
         match word {
-            Word::Open(resolved) => self.open(Tag { offset, resolved }),
-            Word::Empty(resolved) => self.open_and_close(Tag { offset, resolved }),
-            Word::Close => self.follow(First::Nothing, After::End { offset }),
-            Word::Text(text) => self.say(offset, text),
-            Word::Comment(text) => self.follow(First::Other, After::Comment { offset, text }),
+            Word::Open(resolved) => self.open(Tag { offset, resolved }, spare),
+            Word::Empty(resolved) => self.open_and_close(Tag { offset, resolved }, spare),
+            Word::Close => self.follow(First::Nothing, After::End { offset }, spare),
+            Word::Text(text) => self.say(offset, text, spare),
+            Word::Comment(text) => {
+                self.follow(First::Other, After::Comment { offset, text }, spare)
+            }
             Word::Pi { target, text } => self.follow(
                 First::Other,
                 After::Pi {
@@ -165,18 +164,23 @@ impl Front {
                     target,
                     text,
                 },
+                spare,
             ),
             Word::Nothing => Ok(()),
         }
     }
 
     #[inline(always)]
-    fn say(&mut self, offset: u64, text: Text) -> Result<(), Memory>
+    fn say(&mut self, offset: u64, text: Text, spare: &mut Spare) -> Result<(), Memory>
         requires { self.old.settled ≡ false }
         ensures { OnOk result (TakesItems (Says offset text ∷ []) self.old self.new) }
     {
         match &mut self.run {
-            Some(run) => run.text.push_str(text.as_str()),
+            Some(run) => {
+                let said = run.text.push_str(text.as_str());
+                spare.keep(text);
+                said
+            }
             None => {
                 self.run = Some(Run { offset, text });
                 Ok(())
@@ -185,22 +189,22 @@ impl Front {
     }
 
     #[inline(always)]
-    fn open(&mut self, tag: Tag) -> Result<(), Memory>
+    fn open(&mut self, tag: Tag, spare: &mut Spare) -> Result<(), Memory>
         requires { self.old.settled ≡ false }
         ensures { OnOk result (TakesItems (Opens (element_at tag.offset tag.resolved) ∷ []) self.old self.new) }
     {
-        self.settle(First::Other)?;
+        self.settle(First::Other, spare)?;
         self.after = After::Open;
         self.next = Some(tag);
         Ok(())
     }
 
     #[inline(always)]
-    fn open_and_close(&mut self, tag: Tag) -> Result<(), Memory>
+    fn open_and_close(&mut self, tag: Tag, spare: &mut Spare) -> Result<(), Memory>
         requires { self.old.settled ≡ false }
         ensures { OnOk result (TakesItems (Opens (element_at tag.offset tag.resolved) ∷ Closes tag.offset ∷ []) self.old self.new) }
     {
-        self.settle(First::Other)?;
+        self.settle(First::Other, spare)?;
         self.after = After::Empty { offset: tag.offset };
         self.next = Some(tag);
         Ok(())
@@ -208,23 +212,23 @@ impl Front {
 
     // A leaf or an end follows that `first` tells, where it is the first child.
     #[inline(always)]
-    fn follow(&mut self, first: First, after: After) -> Result<(), Memory>
+    fn follow(&mut self, first: First, after: After, spare: &mut Spare) -> Result<(), Memory>
         requires unsettled { self.old.settled ≡ false }
         requires follows { Follows after first }
         ensures { OnOk result (TakesItems (after_items after) self.old self.new) }
     {
-        self.settle(first)?;
+        self.settle(first, spare)?;
         self.after = after;
         Ok(())
     }
 
     // Something else than a text follows: the text is a node, and the element's first child is known.
     #[inline(always)]
-    fn settle(&mut self, next: First) -> Result<(), Memory>
+    fn settle(&mut self, next: First, spare: &mut Spare) -> Result<(), Memory>
         ensures { OnOk result (IsSettled next self.old self.new) }
     {
         self.strip_text();
-        self.first = self.first_child(next)?;
+        self.first = self.first_child(next, spare)?;
         self.settled = true;
         Ok(())
     }
@@ -243,7 +247,7 @@ impl Front {
 
     // The first child of the element, if there is one, where this follows the text.
     #[inline(always)]
-    fn first_child(&self, next: First) -> Result<First, Memory>
+    fn first_child(&self, next: First, spare: &mut Spare) -> Result<First, Memory>
         ensures { IfOk result (λ first. spec.begun self.now.held first ++ run_events self.now.run ≡ settled self.now.held self.now.run next) }
     {
         let Some(run) = &self.run else {
@@ -252,7 +256,7 @@ impl Front {
         if self.held.is_none() {
             return Ok(next);
         }
-        let text = run.text.copy(self.alloc)?;
+        let text = spare.text(run.text.as_str())?;
         Ok(First::Chars(text))
     }
 }

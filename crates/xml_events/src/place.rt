@@ -6,7 +6,7 @@ ghost use Rattle.xml_tokens.specs.declared.lexeme.Body.TheVariants as body;
 
 use crate::texts::Texts;
 use std::alloc::{AllocError, Global};
-use stx_base::{Limits, List, Memory, Text, XmlKind};
+use stx_base::{Limits, List, Memory, Spare, Text, XmlKind};
 use xml_names::{NameFault, Resolved, Scopes};
 use xml_tokens::{Body, RawAttr};
 
@@ -99,7 +99,7 @@ impl Place {
     }
 
     /// Takes a lexeme, unless it has a fault here. Where it has one nothing has changed.
-    pub fn take(&mut self, body: Body) -> Result<Word, Refusal>
+    pub fn take(&mut self, body: Body, spare: &mut Spare) -> Result<Word, Refusal>
         requires { IsFit self.old }
         ensures ok { IfOk result (Takes self.old body self.new) }
         ensures err { IfErr result (Refuses (spec.fault_of self.old.limits (before_of self.old) body) self.old self.new) }
@@ -114,8 +114,12 @@ impl Place {
                 blank: _blank,
             } => self.take_text(text),
             Body::CData { text } => self.take_text(text),
-            Body::Start { name, attrs, empty } => self.take_start(name, attrs, empty),
-            Body::End { name } => self.take_end(&name),
+            Body::Start { name, attrs, empty } => self.take_start(name, attrs, empty, spare),
+            Body::End { name } => {
+                let taken = self.take_end(&name);
+                spare.keep(name);
+                taken
+            }
             Body::Comment { text } => {
                 self.chars = 0;
                 Ok(Word::Comment(text))
@@ -171,14 +175,20 @@ impl Place {
         Ok(Word::Text(text))
     }
 
-    fn take_start(&mut self, name: Text, attrs: List<RawAttr>, empty: bool) -> Result<Word, Refusal>
+    fn take_start(
+        &mut self,
+        name: Text,
+        attrs: List<RawAttr>,
+        empty: bool,
+        spare: &mut Spare,
+    ) -> Result<Word, Refusal>
         requires { IsFit self.old }
         ensures ok { IfOk result (TakesFitting self.old (body.Start name attrs empty) self.new) }
         ensures err { IfErr result (Refuses (unfit_at self.old (body.Start name attrs empty)) self.old self.new) }
         ensures limits { self.new.limits ≡ self.old.limits }
     {
         self.names.push(name.as_str())?;
-        let tag = match self.scopes.enter(name, attrs) {
+        let tag = match self.scopes.enter(name, attrs, spare) {
             Ok(tag) => tag,
             Err(fault) => {
                 self.names.pop();

@@ -13,7 +13,7 @@ use crate::front::Front;
 use crate::place::{Place, Refusal, Word};
 use std::alloc::Global;
 use std::marker::Model;
-use stx_base::{Limits, Memory, XmlFault, XmlKind};
+use stx_base::{Limits, Memory, Spare, XmlFault, XmlKind};
 use xml_tokens::{Ending, Lexeme, Lexer, Step};
 
 /// Reads a document that comes in pieces, and tells its tree in events.
@@ -53,7 +53,7 @@ impl EventReader {
             core: Core {
                 lexer: Lexer::new(alloc, limits),
                 place: Place::new(alloc, limits),
-                front: Front::new(alloc, strip),
+                front: Front::new(strip),
                 over: None,
             },
         }
@@ -78,8 +78,9 @@ impl EventReader {
         self.core.lexer.finish();
     }
 
-    /// The next event, or why there is none. An answer other than an event and `Need` is repeated from then on.
-    pub fn next(&mut self) -> Pull
+    /// The next event, or why there is none. An answer other than an event and `Need` is repeated from then on. Most of
+    /// its texts are made of what is spare.
+    pub fn next(&mut self, spare: &mut Spare) -> Pull
         ensures answer { IsAnswer self.old result }
         ensures leaves { Leaves self.old result self.new }
         ensures shrinks { Shrinks self.old result self.new }
@@ -97,7 +98,7 @@ impl EventReader {
         if let Some(over) = self.core.over {
             return pull_of(over);
         }
-        self.core.pull()
+        self.core.pull(spare)
     }
 }
 
@@ -120,7 +121,7 @@ impl Core {
 
     // No answer is repeated yet. What is read stays in the front until it is given, since events are large to move.
     #[inline(always)]
-    fn pull(&mut self) -> Pull
+    fn pull(&mut self, spare: &mut Spare) -> Pull
         requires reads { IsReading self.old }
         requires going { self.old.over ≡ None }
         ensures answers { Answers self.old result self.new }
@@ -129,7 +130,7 @@ impl Core {
             if let Some(event) = self.front.give() {
                 return Pull::Event(event);
             }
-            match self.read() {
+            match self.read(spare) {
                 Turn::Taken => {}
                 Turn::Need => return Pull::Need,
                 Turn::End(offset) => return Pull::Event(Event::DocumentEnd { offset }),
@@ -144,7 +145,7 @@ impl Core {
 
     // Reads a lexeme. It stays a function by itself, so that an event that is known is given without its frame.
     #[inline(never)]
-    fn read(&mut self) -> Turn
+    fn read(&mut self, spare: &mut Spare) -> Turn
         requires reads { IsReading self.old }
         requires going { self.old.over ≡ None }
         requires none { self.old.front.settled ≡ false }
@@ -153,8 +154,8 @@ impl Core {
         ensures limits { self.new.place.limits ≡ self.old.place.limits }
     {
         match self.take_end() {
-            Some(offset) => self.close(offset),
-            None => self.read_any(),
+            Some(offset) => self.close(offset, spare),
+            None => self.read_any(spare),
         }
     }
 
@@ -169,7 +170,7 @@ impl Core {
     }
 
     #[inline(always)]
-    fn read_any(&mut self) -> Turn
+    fn read_any(&mut self, spare: &mut Spare) -> Turn
         requires reads { IsReading self.old }
         requires going { self.old.over ≡ None }
         requires none { self.old.front.settled ≡ false }
@@ -177,8 +178,8 @@ impl Core {
         ensures same { IsSame self.old.lexer self.new.lexer }
         ensures limits { self.new.place.limits ≡ self.old.place.limits }
     {
-        match self.lexer.next() {
-            Step::Lexeme(lexeme) => self.take(lexeme),
+        match self.lexer.next(spare) {
+            Step::Lexeme(lexeme) => self.take(lexeme, spare),
             Step::Need => Turn::Need,
             Step::End => self.end(),
             Step::Bad(fault) => self.fail(fault),
@@ -188,7 +189,7 @@ impl Core {
 
     // The innermost open element ends.
     #[inline(always)]
-    fn close(&mut self, offset: u64) -> Turn
+    fn close(&mut self, offset: u64, spare: &mut Spare) -> Turn
         requires fit { IsFit self.old.place }
         requires inside { spec.is_inside (names_of self.old.place) ≡ true }
         requires none { self.old.front.settled ≡ false }
@@ -197,13 +198,13 @@ impl Core {
         ensures limits { self.new.place.limits ≡ self.old.place.limits }
     {
         self.place.close();
-        match self.front.take(offset, Word::Close) {
+        match self.front.take(offset, Word::Close, spare) {
             Ok(()) => Turn::Taken,
             Err(Memory) => Turn::Memory,
         }
     }
 
-    fn take(&mut self, lexeme: Lexeme) -> Turn
+    fn take(&mut self, lexeme: Lexeme, spare: &mut Spare) -> Turn
         requires fit { IsFit self.old.place }
         requires none { self.old.front.settled ≡ false }
         ensures receives { Receives self.old lexeme result self.new }
@@ -211,8 +212,8 @@ impl Core {
         ensures limits { self.new.place.limits ≡ self.old.place.limits }
     {
         let Lexeme { offset, body } = lexeme;
-        match self.place.take(body) {
-            Ok(word) => match self.front.take(offset, word) {
+        match self.place.take(body, spare) {
+            Ok(word) => match self.front.take(offset, word, spare) {
                 Ok(()) => Turn::Taken,
                 Err(Memory) => Turn::Memory,
             },

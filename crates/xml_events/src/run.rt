@@ -8,7 +8,7 @@ ghost use Rattle.xml_events.specs.Telling.{events_of, stop_in};
 use crate::event::{Event, Pull};
 use crate::reader::EventReader;
 use std::alloc::Global;
-use stx_base::{Limits, List, Memory};
+use stx_base::{Limits, List, Memory, Spare};
 use xml_tokens::Ending;
 
 /// The events of a document, and what ends them.
@@ -34,26 +34,31 @@ fn read_pieces(alloc: Global, reader: &mut EventReader, pieces: &[Vec<u8>]) -> R
     requires { reader.old ≡ source reader.old.limits reader.old.strip }
     ensures { IfOk result (λ run. Tells (doc reader.old.limits reader.old.strip (flat_map (λ piece. piece.items) pieces.now) true ∷ []) run.events run.ending) }
 {
+    let mut spare = Spare::new(alloc);
     let mut events = List::new(alloc);
     for piece in pieces {
         reader.feed(piece)?;
-        if let Some(ending) = drain(reader, &mut events)? {
+        if let Some(ending) = drain(reader, &mut events, &mut spare)? {
             return Ok(Run { events, ending });
         }
     }
     reader.finish();
-    match drain(reader, &mut events)? {
+    match drain(reader, &mut events, &mut spare)? {
         Some(ending) => Ok(Run { events, ending }),
         None => unreachable!(),
     }
 }
 
 /// Appends the events that are known, and says what ends them if no more bytes must come.
-fn drain(reader: &mut EventReader, events: &mut List<Event>) -> Result<Option<Ending>, Memory>
+fn drain(
+    reader: &mut EventReader,
+    events: &mut List<Event>,
+    spare: &mut Spare,
+) -> Result<Option<Ending>, Memory>
     ensures { IfOk result (IsDrained reader.old events.old reader.new events.new) }
 {
     'giving: loop {
-        match reader.next() {
+        match reader.next(spare) {
             Pull::Event(event) => events.push(event)?,
             Pull::Need => return Ok(None),
             Pull::End => return Ok(Some(Ending::End)),

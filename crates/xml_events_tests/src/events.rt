@@ -7,26 +7,42 @@ use std::alloc::Global;
 use std::fmt::Write;
 use std::process::Abort;
 use std::test::Fail;
-use stx_base::{Attr, Binding, First, Limits, List, Name};
+use stx_base::{Attr, Binding, First, Limits, List, Name, Spare};
 use xml_events::{Event, EventReader, Pull};
+
+/// What was told, and texts of events that were told, which the next ones are made of.
+#[derive(Drop)]
+struct Telling {
+    text: String,
+    spare: Spare,
+}
+
+impl Telling {
+    fn new(alloc: Global) -> Telling {
+        Telling {
+            text: String::new(alloc),
+            spare: Spare::new(alloc),
+        }
+    }
+}
 
 /// The reader's answers up to the first that is repeated, as text, with `?` where more bytes must come. The pieces of the document
 /// stand between bars.
 fn told(alloc: Global, strip: bool, pieces: &str) -> Result<String, Fail> {
     let mut reader = begun(alloc, Limits::standard(), strip);
-    let mut out = String::new(alloc);
+    let mut out = Telling::new(alloc);
     tell_pieces(&mut reader, pieces, &mut out)?;
-    Ok(out)
+    Ok(out.text)
 }
 
-fn tell_pieces(reader: &mut EventReader, pieces: &str, out: &mut String) -> Result<(), Fail>
+fn tell_pieces(reader: &mut EventReader, pieces: &str, out: &mut Telling) -> Result<(), Fail>
     requires { reader.old.lexer.ended ≡ false }
 {
     for piece in pieces.split('|') {
         if take(reader, piece.as_bytes(), out)? {
             return Ok(());
         }
-        out.push_str("? ")?;
+        out.text.push_str("? ")?;
     }
     end(reader, out)
 }
@@ -40,10 +56,10 @@ fn told_cut(
     size: usize,
 ) -> Result<String, Fail> {
     let mut reader = begun(alloc, limits, strip);
-    let mut out = String::new(alloc);
+    let mut out = Telling::new(alloc);
     let (head, rest) = document.split_at(first.min(document.len()));
     tell_cut(&mut reader, head, rest, size, &mut out)?;
-    Ok(out)
+    Ok(out.text)
 }
 
 fn tell_cut(
@@ -51,7 +67,7 @@ fn tell_cut(
     head: &[u8],
     rest: &[u8],
     size: usize,
-    out: &mut String,
+    out: &mut Telling,
 ) -> Result<(), Fail>
     requires { reader.old.lexer.ended ≡ false }
 {
@@ -66,7 +82,7 @@ fn take_all(
     reader: &mut EventReader,
     bytes: &[u8],
     size: usize,
-    out: &mut String,
+    out: &mut Telling,
 ) -> Result<bool, Fail>
     requires { reader.old.lexer.ended ≡ false }
     ensures { reader.new.lexer.ended ≡ false }
@@ -87,14 +103,14 @@ fn begun(alloc: Global, limits: Limits, strip: bool) -> EventReader
     EventReader::new(alloc, limits, strip)
 }
 
-fn answer(reader: &mut EventReader) -> Pull
+fn answer(reader: &mut EventReader, spare: &mut Spare) -> Pull
     ensures { reader.new.lexer.ended ≡ reader.old.lexer.ended }
 {
-    reader.next()
+    reader.next(spare)
 }
 
 /// Tells the answers behind a document's next bytes. Whether the reader is over.
-fn take(reader: &mut EventReader, piece: &[u8], out: &mut String) -> Result<bool, Fail>
+fn take(reader: &mut EventReader, piece: &[u8], out: &mut Telling) -> Result<bool, Fail>
     requires { reader.old.lexer.ended ≡ false }
     ensures { reader.new.lexer.ended ≡ false }
 {
@@ -103,26 +119,51 @@ fn take(reader: &mut EventReader, piece: &[u8], out: &mut String) -> Result<bool
 }
 
 /// Tells the answers at a document's end.
-fn end(reader: &mut EventReader, out: &mut String) -> Result<(), Fail> {
+fn end(reader: &mut EventReader, out: &mut Telling) -> Result<(), Fail> {
     reader.finish();
     drain(reader, out)?;
     Ok(())
 }
 
 /// Whether the reader is over.
-fn drain(reader: &mut EventReader, out: &mut String) -> Result<bool, Fail>
+fn drain(reader: &mut EventReader, out: &mut Telling) -> Result<bool, Fail>
     ensures { reader.new.lexer.ended ≡ reader.old.lexer.ended }
 {
     for _ in 0..1000u32 {
-        let pull = answer(reader);
-        tell_answer(&pull, out)?;
+        let pull = answer(reader, &mut out.spare);
+        tell_answer(&pull, &mut out.text)?;
         match pull {
-            Pull::Event(_) => {}
+            Pull::Event(event) => give_back(event, &mut out.spare),
             Pull::Need => return Ok(false),
             Pull::End | Pull::Bad(_) | Pull::Memory => return Ok(true),
         }
     }
     Ok(true)
+}
+
+fn give_back(event: Event, spare: &mut Spare) {
+    match event {
+        Event::Start {
+            name,
+            attrs,
+            first,
+            ..
+        } => {
+            spare.keep_name(name);
+            for attr in attrs.into_vec() {
+                spare.keep_attr(attr);
+            }
+            if let First::Chars(text) = first {
+                spare.keep(text);
+            }
+        }
+        Event::Chars { text, .. } | Event::Comment { text, .. } => spare.keep(text),
+        Event::Pi { target, text, .. } => {
+            spare.keep(target);
+            spare.keep(text);
+        }
+        Event::End { .. } | Event::DocumentEnd { .. } => {}
+    }
 }
 
 fn tell_answer(pull: &Pull, out: &mut String) -> Result<(), Fail> {
@@ -392,20 +433,20 @@ fn last_answers(rt: HostRuntime) -> Result<(), Fail> {
 /// The answers on a document, then the last one again, behind more bytes, and at the end.
 fn told_again(alloc: Global, document: &str) -> Result<String, Fail> {
     let mut reader = begun(alloc, Limits::standard(), false);
-    let mut out = String::new(alloc);
+    let mut out = Telling::new(alloc);
     tell_again(&mut reader, document, &mut out)?;
-    Ok(out)
+    Ok(out.text)
 }
 
-fn tell_again(reader: &mut EventReader, document: &str, out: &mut String) -> Result<(), Fail>
+fn tell_again(reader: &mut EventReader, document: &str, out: &mut Telling) -> Result<(), Fail>
     requires { reader.old.lexer.ended ≡ false }
 {
     take(reader, document.as_bytes(), out)?;
-    out.push_str("; ")?;
+    out.text.push_str("; ")?;
     drain(reader, out)?;
-    out.push_str("; ")?;
+    out.text.push_str("; ")?;
     take(reader, b"<a/>", out)?;
-    out.push_str("; ")?;
+    out.text.push_str("; ")?;
     end(reader, out)
 }
 
@@ -419,7 +460,7 @@ fn end_of_the_document(rt: HostRuntime) -> Result<(), Fail> {
 
 fn ends_again(alloc: Global, document: &[u8]) -> Result<bool, Fail> {
     let mut reader = begun(alloc, Limits::standard(), false);
-    let mut out = String::new(alloc);
+    let mut out = Telling::new(alloc);
     tell_cut(&mut reader, document, b"", 1, &mut out)?;
-    Ok(matches!(answer(&mut reader), Pull::End))
+    Ok(matches!(answer(&mut reader, &mut out.spare), Pull::End))
 }
