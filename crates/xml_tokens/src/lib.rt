@@ -7,6 +7,7 @@ mod judge;
 pub mod laws;
 mod lexeme;
 mod lexer;
+mod name_byte;
 mod plain_tag;
 mod prolog;
 mod run;
