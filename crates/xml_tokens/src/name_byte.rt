@@ -15,7 +15,7 @@ static NAME_BYTES: [u8; 256] = *b"\
 
 /// Whether a byte is an ASCII character and a NameChar (XML 1.0, 2.3).
 ///
-/// One load does for all bytes, where names mix letters, digits and colons.
+/// The table answers by one load, where the ranges take several comparisons.
 #[inline(always)]
 pub fn is_ascii_name_byte(byte: u8) -> bool
     ensures { result ≡ span.is_ascii_name_byte byte }
