@@ -116,7 +116,7 @@ declared-same : (path : List (List Binding)) → declared_on (path ++ [] ∷ [])
 declared-same [] = refl
 declared-same (tag ∷ path) = ap (λ l. tag ++ l) (declared-same path)
 
-bound-same : (path : List (List Binding)) (p : List ℕ) → bound (path ++ [] ∷ []) p ≡ bound path p
+pub bound-same : (path : List (List Binding)) (p : List ℕ) → bound (path ++ [] ∷ []) p ≡ bound path p
 bound-same path p = ap (λ l. if same p (codes "xml") then Some xml_uri else unless_empty (last_uri l p)) (declared-same path)
 
 module _ (path : List (List Binding)) (name : List ℕ) (attrs : List RawAttr) (plain : is_plain name attrs ≡ true) where

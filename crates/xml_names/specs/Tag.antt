@@ -92,6 +92,14 @@ is_attribute_bound path name = is_some (declared_prefix name) || is_prefix_bound
 abbrev pub has_undeclared_prefix : (path : List (List Binding)) → (name : List ℕ) → List RawAttr → Bool
 has_undeclared_prefix path name attrs = not (is_element_bound path name && list_all (λ a. is_attribute_bound path a.name) attrs)
 
+-- a name of no declaration that has a bound prefix or none
+abbrev pub is_settled_name : (path : List (List Binding)) → (name : List ℕ) → Bool
+is_settled_name path name = is_qname name && (not (same name (codes "xmlns")) && is_element_bound path name)
+
+-- each name of a tag is one
+abbrev pub is_settled : (path : List (List Binding)) → (name : List ℕ) → List RawAttr → Bool
+is_settled path name attrs = is_settled_name path name && list_all (λ a. is_settled_name path a.name) attrs
+
 -- some two items are alike
 abbrev pub has_twins : {X : Type 0} → (X → X → Bool) → List X → Bool
 has_twins alike [] = false

@@ -1,7 +1,8 @@
-ghost use Rattle.std.specs.Prelude.{◌≡◌, ◌<◌, ◌-◌, ◌++◌, ◌∷◌, [], None, true, not, ◌&&◌, codes, IfOk, IfErr, MatchOption, OnOk, OnErr, length, map, take, unwrap_or};
+ghost use Rattle.std.specs.Prelude.{◌≡◌, ◌<◌, ◌-◌, ◌++◌, ◌∷◌, [], None, true, false, not, ◌&&◌, codes, IfOk, IfErr, MatchOption, OnOk, OnErr, length, map, take, unwrap_or};
 ghost use Rattle.std.specs.List.{list_all};
 ghost use Rattle.std.specs.Option.{option_map};
 ghost use Rattle.std.specs.Str.{chars};
+ghost use Rattle.stx_base.specs.Character as class;
 ghost use Rattle.xml_names.specs.QName.{is_qname};
 ghost use Rattle.xml_names.specs.Scope as scope;
 ghost use Rattle.xml_names.specs.Scope.{bound, same};
@@ -120,6 +121,47 @@ impl Scopes {
         ensures ok { OnOk result (self.new ≡ self.old ++ declarations attrs ∷ []) }
         ensures err { OnErr result (self.new ≡ self.old) }
     {
+        if self.is_settled(name.as_str(), attrs.as_slice()) {
+            self.enter_settled(name, attrs, spare)
+        } else {
+            self.enter_judged(name, attrs, spare)
+        }
+    }
+
+    /// Most tags with prefixes declare nothing either, and where these are bound no fault is left but an attribute that stands twice.
+    #[inline(always)]
+    fn enter_settled(
+        &mut self,
+        name: Text,
+        attrs: List<RawAttr>,
+        spare: &mut Spare,
+    ) -> Result<Resolved, NameFault>
+        requires { spec.is_settled self.old name attrs ≡ true }
+        ensures taken { OnOk result (name_fault self.old name attrs ≡ None) }
+        ensures fault { IfErr result (IsCause (name_fault self.old name attrs)) }
+        ensures value { IfOk result (λ tag. tag ≡ resolved self.old name attrs) }
+        ensures ok { OnOk result (self.new ≡ self.old ++ declarations attrs ∷ []) }
+        ensures err { OnErr result (self.new ≡ self.old) }
+    {
+        let tag = self.expand(name, attrs, List::new(self.alloc), spare)?;
+        self.declare(&tag.decls)?;
+        Ok(tag)
+    }
+
+    /// Asks a tag for its faults one by one.
+    #[inline(never)]
+    fn enter_judged(
+        &mut self,
+        name: Text,
+        attrs: List<RawAttr>,
+        spare: &mut Spare,
+    ) -> Result<Resolved, NameFault>
+        ensures taken { OnOk result (name_fault self.old name attrs ≡ None) }
+        ensures fault { IfErr result (IsCause (name_fault self.old name attrs)) }
+        ensures value { IfOk result (λ tag. tag ≡ resolved self.old name attrs) }
+        ensures ok { OnOk result (self.new ≡ self.old ++ declarations attrs ∷ []) }
+        ensures err { OnErr result (self.new ≡ self.old) }
+    {
         if has_bad_name(&name, attrs.as_slice()) {
             return Err(NameFault::Xml(XmlKind::BadName));
         }
@@ -201,6 +243,23 @@ impl Scopes {
         if !self.are_prefixes_bound(name.as_str(), attrs.as_slice()) {
             return Err(NameFault::Xml(XmlKind::UndeclaredPrefix));
         }
+        self.expand(name, attrs, decls, spare)
+    }
+
+    /// The same of a tag whose prefixes are bound.
+    #[inline(always)]
+    fn expand(
+        &self,
+        name: Text,
+        attrs: List<RawAttr>,
+        decls: List<Binding>,
+        spare: &mut Spare,
+    ) -> Result<Resolved, NameFault>
+        requires { spec.has_undeclared_prefix self.now name attrs ≡ false }
+        ensures taken { OnOk result (scope_fault self.now name attrs ≡ None) }
+        ensures fault { IfErr result (IsCause (scope_fault self.now name attrs)) }
+        ensures value { IfOk result (λ tag. tag ≡ spec.said self.now name attrs decls) }
+    {
         if has_written_twins(self.alloc, attrs.as_slice())? {
             return Err(NameFault::Xml(XmlKind::DuplicateAttribute));
         }
@@ -212,12 +271,48 @@ impl Scopes {
         Ok(Resolved { name, attrs, decls })
     }
 
+    /// Whether each name of a tag is of no declaration, and has a bound prefix or none.
+    #[inline(always)]
+    fn is_settled(&self, name: &str, attrs: &[RawAttr]) -> bool
+        ensures { result ≡ spec.is_settled self.now (chars name.now) attrs.now }
+    {
+        self.is_settled_name(name) && self.are_attributes_settled(attrs)
+    }
+
+    #[inline(always)]
+    fn are_attributes_settled(&self, attrs: &[RawAttr]) -> bool
+        ensures { result ≡ list_all (λ a. spec.is_settled_name self.now a.name) attrs.now }
+    {
+        attrs
+            .iter()
+            .all(|attr| self.is_settled_name(attr.name.as_str()))
+    }
+
+    #[inline(always)]
+    fn is_settled_name(&self, name: &str) -> bool
+        ensures { result ≡ spec.is_settled_name self.now (chars name.now) }
+    {
+        match cut(name) {
+            Some(parts) => self.are_settled(parts.prefix, parts.local),
+            None => is_plain_name(name),
+        }
+    }
+
+    #[inline(always)]
+    fn are_settled(&self, prefix: &str, local: &str) -> bool
+        ensures { result ≡ ((class.is_ncname (chars prefix.now) && class.is_ncname (chars local.now)) && (not (same (chars prefix.now) (codes "xmlns")) && spec.is_prefix_bound self.now (chars prefix.now))) }
+    {
+        is_ncname(prefix) && is_ncname(local) && self.is_element_bound(prefix)
+    }
+
+    #[inline(always)]
     fn is_prefix_bound(&self, prefix: &str) -> bool
         ensures { result ≡ spec.is_prefix_bound self.now (chars prefix.now) }
     {
         is_empty(prefix) || self.uri(prefix).is_some()
     }
 
+    #[inline(always)]
     fn is_element_bound(&self, prefix: &str) -> bool
         ensures { result ≡ (not (same (chars prefix.now) (codes "xmlns")) && spec.is_prefix_bound self.now (chars prefix.now)) }
     {
@@ -255,6 +350,7 @@ impl Scopes {
     }
 
     /// Only the local part behind a prefix is copied.
+    #[inline(always)]
     fn element_name(&self, name: Text, spare: &mut Spare) -> Result<Name, Memory>
         ensures { IfOk result (λ made. made ≡ scope.element_name self.now name) }
     {
@@ -292,6 +388,7 @@ impl Scopes {
     }
 
     /// Only the local part behind a prefix is copied.
+    #[inline(always)]
     fn attribute_name(&self, name: Text, spare: &mut Spare) -> Result<Name, Memory>
         ensures { IfOk result (λ made. made ≡ scope.attribute_name self.now name) }
     {
