@@ -104,7 +104,7 @@ impl Scopes {
         let name = self.plain_name(name, spare)?;
         let attrs = plain_attributes(self.alloc, attrs)?;
         let decls = List::new(self.alloc);
-        self.declare(&decls)?;
+        self.declare_nothing()?;
         Ok(Resolved { name, attrs, decls })
     }
 
@@ -144,7 +144,7 @@ impl Scopes {
         ensures err { OnErr result (self.new ≡ self.old) }
     {
         let tag = self.expand(name, attrs, List::new(self.alloc), spare)?;
-        self.declare(&tag.decls)?;
+        self.declare_nothing()?;
         Ok(tag)
     }
 
@@ -226,6 +226,16 @@ impl Scopes {
                 Err(Memory)
             }
         }
+    }
+
+    /// Enters an element that declares nothing. After a refusal all is unchanged.
+    #[inline(always)]
+    fn declare_nothing(&mut self) -> Result<(), Memory>
+        ensures ok { OnOk result (self.new ≡ self.old ++ [] ∷ []) }
+        ensures err { OnErr result (self.new ≡ self.old) }
+    {
+        self.counts.push(0)?;
+        Ok(())
     }
 
     /// What the tag of the innermost element says.

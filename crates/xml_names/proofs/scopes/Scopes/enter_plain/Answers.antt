@@ -1,4 +1,4 @@
-use Rattle.std.proofs.Common.{◌∙◌, sym, ap, ◌++◌, ◌∷◌, [], true, false}
+use Rattle.std.proofs.Common.{◌∙◌, sym, ap, true, false}
 use Rattle.xml_names.specs.Tag.{has_twins, same_written}
 use Rattle.xml_names.proofs.Plain.{plain-fault, plain-said, plain-into}
 use Rattle.xml_names.proofs.scopes.Scopes.enter_plain.Goals as goal
@@ -17,7 +17,4 @@ returns-clause-value c =
     c.in_ok-name.ensures c.in_ok-attrs.ensures c.new-decls.ensures
 
 pub returns-clause-ok : goal.returns-clause-ok
-returns-clause-ok c =
-    c.in_ok-declare.ensures.ok
-    ∙ ap (λ d. c.args.self.now ++ d ∷ []) c.new-decls.ensures
-    ∙ plain-into c.args.self.now c.args.name c.args.attrs c.requires
+returns-clause-ok c = c.in_ok-declare_nothing.ensures.ok ∙ plain-into c.args.self.now c.args.name c.args.attrs c.requires

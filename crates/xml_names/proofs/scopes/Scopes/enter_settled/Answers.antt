@@ -1,4 +1,4 @@
-use Rattle.std.proofs.Common.{◌∙◌, sym, ap, subst, ◌++◌, ◌∷◌, []}
+use Rattle.std.proofs.Common.{◌∙◌, sym, ap, subst}
 use Rattle.std.specs.Prelude.{IfErr, Err}
 use Rattle.std.proofs.lemmas.Result.{err_from_is_err_and}
 use Rattle.xml_names.specs.Tag as spec
@@ -25,7 +25,4 @@ returns-clause-value c =
     ∙ settled-said c.args.self.now c.args.name c.args.attrs c.requires
 
 pub returns-clause-ok : goal.returns-clause-ok
-returns-clause-ok c =
-    c.in_ok-declare.ensures.ok
-    ∙ ap (λ d. c.args.self.now ++ d ∷ []) (ap (λ tag. tag.decls) c.in_ok-tag.ensures.value ∙ c.new.ensures)
-    ∙ settled-into c.args.self.now c.args.name c.args.attrs c.requires
+returns-clause-ok c = c.in_ok-declare_nothing.ensures.ok ∙ settled-into c.args.self.now c.args.name c.args.attrs c.requires
