@@ -1,5 +1,5 @@
 -- Items that are alike.
-use Rattle.std.proofs.Common.{◌≡◌, ℕ, ◌+◌, ◌<◌, Bool, true, false, ◌||◌, ◌&&◌, cond, List, [], ◌∷◌, ◌++◌, refl, ap, sym, ◌∙◌, take, drop, length, get_or, encode_utf8_all, Ordering, Less, Equal, Greater, ◌⊎◌, inl, inr}
+use Rattle.std.proofs.Common.{◌≡◌, ℕ, ◌+◌, ◌<◌, Bool, true, false, ◌||◌, ◌&&◌, cond, List, [], ◌∷◌, ◌++◌, refl, ap, sym, ◌∙◌, take, drop, length, get_or, encode_utf8_all, Ordering, Less, Equal, Greater, ◌⊎◌, inl, inr, arith}
 use Rattle.std.specs.Prelude.{bytes_eq}
 use Rattle.std.specs.List.{list_any}
 use Rattle.std.specs.Cmp.Lexicographic.{slice_cmp}
@@ -24,6 +24,12 @@ or-swap false true false d = refl
 or-swap false false c d = refl
 
 module _ {X : Type 0} where
+  -- fewer than two items have no twins
+  pub no-twins : (alike : X → X → Bool) (xs : List X) → length xs < 2 → false ≡ has_twins alike xs
+  no-twins alike [] h = refl
+  no-twins alike (x ∷ []) h = refl
+  no-twins alike (x ∷ y ∷ xs) h = absurd (omega (arith, h))
+
   pub any-more : (p : X → Bool) (xs : List X) (x : X) → list_any p (xs ++ x ∷ []) ≡ (list_any p xs || p x)
   any-more p [] x = by_test (p x) where
     by_test : (t : Bool) → (t || false) ≡ t

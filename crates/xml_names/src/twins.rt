@@ -16,7 +16,9 @@ const FEW: usize = 8;
 pub fn has_written_twins(alloc: Global, attrs: &[RawAttr]) -> Result<bool, Memory>
     ensures { IfOk result (λ found. found ≡ has_twins same_written attrs.now) }
 {
-    if attrs.len() <= FEW {
+    if attrs.len() < 2 {
+        Ok(false)
+    } else if attrs.len() <= FEW {
         Ok(has_equal_pair(attrs))
     } else {
         has_repeated(alloc, attrs)
@@ -27,7 +29,9 @@ pub fn has_written_twins(alloc: Global, attrs: &[RawAttr]) -> Result<bool, Memor
 pub fn has_expanded_twins(alloc: Global, attrs: &[Attr]) -> Result<bool, Memory>
     ensures { IfOk result (λ found. found ≡ has_twins same_expanded attrs.now) }
 {
-    if attrs.len() <= FEW {
+    if attrs.len() < 2 {
+        Ok(false)
+    } else if attrs.len() <= FEW {
         Ok(has_equal_names(attrs))
     } else {
         has_repeated_names(alloc, attrs)

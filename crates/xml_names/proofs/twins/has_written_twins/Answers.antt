@@ -1,0 +1,7 @@
+use Rattle.std.proofs.Common.{arith}
+use Rattle.xml_names.specs.Tag.{same_written}
+use Rattle.xml_names.proofs.Alike.{no-twins}
+use Rattle.xml_names.proofs.twins.has_written_twins.Goals as goal
+
+pub returns-then-attrs-lt2 : goal.returns-then-attrs-lt2
+returns-then-attrs-lt2 c = no-twins same_written c.args.attrs.now (omega (arith, c.if-attrs-lt2.true))
