@@ -30,6 +30,7 @@ abbrev pub target_of : Inside → Target
 target_of t = record {
   limit = t.limit;
   left = record { elements = elements (reverse t.around.elements.items) t.around.bindings.items; held = held t.around };
+  last = t.around.tag.scope;
 }
 
 -- how many bindings elements declared

@@ -27,17 +27,18 @@ pub record Left : Type 0 where
   pub elements : List Element
   pub held : Option HeldTag
 
--- a target, with the number of elements that may be open in it at once
+-- a target, with the number of elements that may be open in it at once, and the scope of its last start
 pub record Target : Type 0 where
   pub limit : ℕ
   pub left : Left
+  pub last : List Binding
 
 -- no parts leave nothing
 abbrev pub nothing : Left
 nothing = record { elements = []; held = None }
 
 abbrev pub fresh : (limit : ℕ) → Target
-fresh limit = record { limit = limit; left = nothing }
+fresh limit = record { limit = limit; left = nothing; last = [] }
 
 -- what the open elements declared, the innermost last
 abbrev pub in_force : List Element → List Binding
@@ -95,9 +96,14 @@ next l (part.Chars text) = record { elements = settled l.elements l.held; held =
 next l (part.Comment text) = record { elements = settled l.elements l.held; held = None }
 next l (part.Pi target text) = record { elements = settled l.elements l.held; held = None }
 
+-- the scope of the last start, where there was one before
+abbrev pub last_start : (before : List Binding) → Part → List Binding
+last_start before (part.Start name scope) = scope
+last_start before p = before
+
 -- the target, with what is left behind a part
 abbrev pub behind : Target → Part → Target
-behind t p = record t { left = next t.left p }
+behind t p = record t { left = next t.left p; last = last_start t.last p }
 
 -- Which parts are accepted.
 

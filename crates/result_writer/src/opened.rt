@@ -290,7 +290,7 @@ impl Opened {
         ensures err { OnErr result (self.new ≡ self.old) }
     {
         match part {
-            Part::Start { name, scope } => self.start(name, &scope, dressed),
+            Part::Start { name, scope } => self.start(name, Some(scope), dressed),
             Part::Attribute { name, value } => self.add_attribute(name, value),
             Part::End { name: _name } => {
                 self.end();
@@ -304,20 +304,27 @@ impl Opened {
         }
     }
 
-    /// Takes the start of an element that is accepted. After a refusal all is unchanged.
+    /// A copy of a scope, unless it is that of the start before.
+    pub(crate) fn other_scope(&self, scope: &List<Binding>) -> Result<Option<List<Binding>>, Memory>
+        ensures { IfOk result (λ other. unwrap_or other self.now.last ≡ scope.now) }
+    {
+        copy_unless_same(self.alloc, scope, &self.around.tag.scope)
+    }
+
+    /// Takes the start of an element that is accepted, in the scope of the start before unless it is in another. After a
+    /// refusal all is unchanged.
     #[inline(always)]
     pub(crate) fn start(
         &mut self,
         name: Name,
-        scope: &List<Binding>,
+        other: Option<List<Binding>>,
         dressed: Option<Dressed>,
     ) -> Result<(), Memory>
         requires dressed { dressing self.old.left.held dressed ≡ dressed_in self.old.left.elements self.old.left.held }
         requires good { is_good_name name ≡ true }
-        ensures ok { OnOk result (self.new ≡ behind self.old (Start name scope.now)) }
+        ensures ok { OnOk result (self.new ≡ behind self.old (Start name (unwrap_or other self.old.last))) }
         ensures err { OnErr result (self.new ≡ self.old) }
     {
-        let other = copy_unless_same(self.alloc, scope, &self.around.tag.scope)?;
         self.around.settle(self.alloc, dressed)?;
         self.around.hold(name, other);
         Ok(())

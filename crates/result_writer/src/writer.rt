@@ -1,4 +1,4 @@
-ghost use Rattle.std.specs.Prelude.{◌≡◌, ◌++◌, [], true, false, None, Some, Err, IfOk, IfErr, MatchResult, OnOk, OnErr, map};
+ghost use Rattle.std.specs.Prelude.{◌≡◌, ◌++◌, [], true, false, None, Some, Err, IfOk, IfErr, MatchResult, OnOk, OnErr, map, unwrap_or};
 ghost use Rattle.stx_base.specs.declared.part.Part.TheVariants.{Start, Attribute, End, Chars, Comment, Pi};
 ghost use Rattle.stx_base.specs.declared.name.Name.{Name as Spelled};
 ghost use Rattle.result_writer.specs.Allowed.{is_good_name};
@@ -109,11 +109,24 @@ impl Writer {
         if let Some(fault) = self.opened.start_fault(&name) {
             return Err(WriteStop::Fault(fault));
         }
-        let len = out.len();
-        if start(&mut self.opened, name, scope, out).is_err() {
-            out.truncate(len);
-            return Err(WriteStop::Memory);
+        let other = self.opened.other_scope(scope)?;
+        put_good_start(&mut self.opened, name, other, out)?;
+        Ok(())
+    }
+
+    /// The same of a start in the scope of the start before, or in one without bindings where there was none.
+    pub fn put_start_again(&mut self, name: Name, out: &mut Vec<u8>) -> Result<(), WriteStop>
+        ensures taken { OnOk result (spec.fault self.old.limit self.old.left (Start name self.old.last) ≡ None) }
+        ensures fault { IfErr result (IsCause (spec.fault self.old.limit self.old.left (Start name self.old.last))) }
+        ensures ok { OnOk result (self.new ≡ behind self.old (Start name self.old.last)) }
+        ensures err { OnErr result (self.new ≡ self.old) }
+        ensures written { OnOk result (out.new.items ≡ out.old.items ++ settles self.old.left (Start name self.old.last)) }
+        ensures unwritten { OnErr result (out.new.items ≡ out.old.items) }
+    {
+        if let Some(fault) = self.opened.start_fault(&name) {
+            return Err(WriteStop::Fault(fault));
         }
+        put_good_start(&mut self.opened, name, None, out)?;
         Ok(())
     }
 
@@ -272,25 +285,46 @@ impl Writer {
     }
 }
 
-/// Settles what a start does, and takes it. After a refusal some bytes may be appended.
+/// Puts a start that has no fault, in the scope of the start before unless it is in another. After a refusal all is unchanged.
+fn put_good_start(
+    opened: &mut Opened,
+    name: Name,
+    other: Option<List<Binding>>,
+    out: &mut Vec<u8>,
+) -> Result<(), Memory>
+    requires { is_good_name name ≡ true }
+    ensures ok { OnOk result (opened.new ≡ behind opened.old (Start name (unwrap_or other opened.old.last))) }
+    ensures err { OnErr result (opened.new ≡ opened.old) }
+    ensures written { OnOk result (out.new.items ≡ out.old.items ++ settles opened.old.left (Start name (unwrap_or other opened.old.last))) }
+    ensures unwritten { OnErr result (out.new.items ≡ out.old.items) }
+{
+    let len = out.len();
+    if start(opened, name, other, out).is_err() {
+        out.truncate(len);
+        return Err(Memory);
+    }
+    Ok(())
+}
+
+/// The same, but that after a refusal some bytes may be appended.
 #[tactic(auto, using(crate::proofs::Growing::begins_trans, crate::proofs::Growing::begins_self))]
 fn start(
     opened: &mut Opened,
     name: Name,
-    scope: &List<Binding>,
+    other: Option<List<Binding>>,
     out: &mut Vec<u8>,
 ) -> Result<(), Memory>
     requires { is_good_name name ≡ true }
-    ensures ok { OnOk result (opened.new ≡ behind opened.old (Start name scope.now)) }
+    ensures ok { OnOk result (opened.new ≡ behind opened.old (Start name (unwrap_or other opened.old.last))) }
     ensures err { OnErr result (opened.new ≡ opened.old) }
-    ensures written { OnOk result (out.new.items ≡ out.old.items ++ settles opened.old.left (Start name scope.now)) }
+    ensures written { OnOk result (out.new.items ≡ out.old.items ++ settles opened.old.left (Start name (unwrap_or other opened.old.last))) }
     ensures kept { Begins out.old.items out.new.items }
 {
     if opened.is_undressed() {
-        return start_dressed(opened, name, scope, None, out);
+        return start_dressed(opened, name, other, None, out);
     }
     let dressed = opened.dressed()?;
-    start_dressed(opened, name, scope, dressed, out)
+    start_dressed(opened, name, other, dressed, out)
 }
 
 /// The same, where the tag that is held back is written so.
@@ -299,19 +333,19 @@ fn start(
 fn start_dressed(
     opened: &mut Opened,
     name: Name,
-    scope: &List<Binding>,
+    other: Option<List<Binding>>,
     dressed: Option<Dressed>,
     out: &mut Vec<u8>,
 ) -> Result<(), Memory>
     requires dressed { dressing opened.old.left.held dressed ≡ dressed_in opened.old.left.elements opened.old.left.held }
     requires good { is_good_name name ≡ true }
-    ensures ok { OnOk result (opened.new ≡ behind opened.old (Start name scope.now)) }
+    ensures ok { OnOk result (opened.new ≡ behind opened.old (Start name (unwrap_or other opened.old.last))) }
     ensures err { OnErr result (opened.new ≡ opened.old) }
-    ensures written { OnOk result (out.new.items ≡ out.old.items ++ settles opened.old.left (Start name scope.now)) }
+    ensures written { OnOk result (out.new.items ≡ out.old.items ++ settles opened.old.left (Start name (unwrap_or other opened.old.last))) }
     ensures kept { Begins out.old.items out.new.items }
 {
     opened.append_tag(&dressed, out)?;
-    opened.start(name, scope, dressed)
+    opened.start(name, other, dressed)
 }
 
 /// The same of the end of the innermost element.

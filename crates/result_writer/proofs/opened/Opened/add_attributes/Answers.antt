@@ -15,8 +15,8 @@ returns c =
     let bare = c.requires.bare in
     let back = held_back t.around.holds tag bare.0 (ap (λ (t : Target). t.left.held) c.self.view_is ∙ bare.1) in
     let none : tag.attrs ≡ [] = ap (λ (g : HeldTag). g.attrs) back.1 ∙ bare.2 in
-    ap (λ h. record { limit = t.limit; left = record { elements = es; held = held_if h (record tag { attrs = c.fill.new.self }) } }) back.0
-    ∙ ap (λ l. record { limit = t.limit; left = record { elements = es; held = Some (record tag { attrs = l }) } }) c.fill.ensures
-    ∙ ap (λ (l : Left). record { limit = t.limit; left = l }) (sym (left-together es tag c.args.attrs none c.requires.distinct))
-    ∙ ap (λ h. record { limit = t.limit; left = left_by (record { elements = es; held = held_if h tag }) parts }) (sym back.0)
-    ∙ ap (λ (t : Target). record { limit = t.limit; left = left_by t.left parts }) c.self.view_is
+    ap (λ h. record { limit = t.limit; left = record { elements = es; held = held_if h (record tag { attrs = c.fill.new.self }) }; last = tag.scope }) back.0
+    ∙ ap (λ l. record { limit = t.limit; left = record { elements = es; held = Some (record tag { attrs = l }) }; last = tag.scope }) c.fill.ensures
+    ∙ ap (λ (l : Left). record { limit = t.limit; left = l; last = tag.scope }) (sym (left-together es tag c.args.attrs none c.requires.distinct))
+    ∙ ap (λ h. record { limit = t.limit; left = left_by (record { elements = es; held = held_if h tag }) parts; last = tag.scope }) (sym back.0)
+    ∙ ap (λ (t : Target). record { limit = t.limit; left = left_by t.left parts; last = t.last }) c.self.view_is
