@@ -10,7 +10,8 @@ use crate::words::same_name;
 use std::alloc::Global;
 use std::collections::BTreeMap;
 use std::marker::Model;
-use stx_base::{Attr, Copied, List, Memory, Name, Text};
+use std::mem;
+use stx_base::{Attr, Copied, List, Memory, Name, Spare, Text};
 
 // Up to so many attributes it takes less time to compare each than to look a name up.
 const FEW: usize = 16;
@@ -95,6 +96,20 @@ impl Attributes {
         self.list.truncate(0);
     }
 
+    /// Drops all attributes, but for their texts.
+    #[inline(always)]
+    pub fn give_back(&mut self, spare: &mut Spare)
+        ensures { self.new ≡ [] }
+    {
+        if self.list.is_empty() {
+            return;
+        }
+        if self.list.len() > FEW {
+            self.places.clear();
+        }
+        keep_attrs(mem::replace(&mut self.list, List::new(self.alloc)), spare);
+    }
+
     /// Where the first attribute of the name stands.
     fn place(&self, name: &Name) -> Result<Option<usize>, Memory>
         ensures { IfOk result (λ place. MatchOption place (list_any (λ a. same_name a.name name.now) self.now ≡ false) (IsFirst self.now name.now)) }
@@ -149,6 +164,12 @@ impl Attributes {
                 Err(Memory)
             }
         }
+    }
+}
+
+fn keep_attrs(attrs: List<Attr>, spare: &mut Spare) {
+    for attr in attrs.into_vec() {
+        spare.keep_attr(attr);
     }
 }
 

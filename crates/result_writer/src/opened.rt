@@ -24,7 +24,7 @@ use crate::words::{is_empty, same_name};
 use std::alloc::Global;
 use std::marker::Model;
 use std::mem;
-use stx_base::{Attr, Binding, Copied, List, Memory, Name, Part, Text};
+use stx_base::{Attr, Binding, Copied, List, Memory, Name, Part, Spare, Text};
 
 /// An element whose start tag is settled, and whose end is still to come.
 #[derive(Debug, Drop)]
@@ -293,7 +293,7 @@ impl Opened {
             Part::Start { name, scope } => self.start(name, Some(scope), dressed),
             Part::Attribute { name, value } => self.add_attribute(name, value),
             Part::End { name: _name } => {
-                self.end();
+                let _ended = self.end();
                 Ok(())
             }
             Part::Chars { text: _text } | Part::Comment { text: _text } => self.settle(dressed),
@@ -330,6 +330,25 @@ impl Opened {
         Ok(())
     }
 
+    /// The same of a start in the scope of the start before. The texts of the tag before are kept for others.
+    #[inline(always)]
+    pub(crate) fn start_again(
+        &mut self,
+        name: Name,
+        dressed: Option<Dressed>,
+        spare: &mut Spare,
+    ) -> Result<(), Memory>
+        requires dressed { dressing self.old.left.held dressed ≡ dressed_in self.old.left.elements self.old.left.held }
+        requires good { is_good_name name ≡ true }
+        ensures ok { OnOk result (self.new ≡ behind self.old (Start name self.old.last)) }
+        ensures err { OnErr result (self.new ≡ self.old) }
+    {
+        self.around.settle(self.alloc, dressed)?;
+        self.around.tag.attrs.give_back(spare);
+        self.around.hold(name, None);
+        Ok(())
+    }
+
     pub(crate) fn add_attribute(&mut self, name: Name, value: Text) -> Result<(), Memory>
         ensures ok { OnOk result (self.new ≡ behind self.old (Attribute name value)) }
         ensures err { OnErr result (self.new ≡ self.old) }
@@ -356,16 +375,20 @@ impl Opened {
         self.around.tag.attrs.fill(attrs);
     }
 
-    pub(crate) fn end(&mut self)
+    /// Ends the innermost element, and gives its name back where its tag was settled.
+    #[inline(always)]
+    pub(crate) fn end(&mut self) -> Option<Name>
         ensures { (name : Name) → self.new ≡ behind self.old (End name) }
     {
         if self.around.holds {
             self.around.holds = false;
-        } else if let Some(element) = self.around.elements.pop() {
-            let outer = self.around.bindings.len() - element.declared;
-            self.around.bindings.truncate(outer);
-            self.around.keeps = self.around.keeps && element.declared == 0;
+            return None;
         }
+        let OpenElement { name, declared } = self.around.elements.pop()?;
+        let outer = self.around.bindings.len() - declared;
+        self.around.bindings.truncate(outer);
+        self.around.keeps = self.around.keeps && declared == 0;
+        Some(name)
     }
 
     /// The tag that is held back is settled: its element is open. After a refusal all is unchanged.

@@ -16,7 +16,7 @@ use crate::opened::{
 use crate::tag::Dressed;
 use std::alloc::Global;
 use std::marker::Model;
-use stx_base::{Attr, Binding, Copied, List, Memory, Name, Part, Text};
+use stx_base::{Attr, Binding, Copied, List, Memory, Name, Part, Spare, Text};
 
 /// Writes the parts of a result.
 #[derive(Debug, Drop)]
@@ -110,12 +110,22 @@ impl Writer {
             return Err(WriteStop::Fault(fault));
         }
         let other = self.opened.other_scope(scope)?;
-        put_good_start(&mut self.opened, name, other, out)?;
+        let len = out.len();
+        if start(&mut self.opened, name, other, out).is_err() {
+            out.truncate(len);
+            return Err(WriteStop::Memory);
+        }
         Ok(())
     }
 
-    /// The same of a start in the scope of the start before, or in one without bindings where there was none.
-    pub fn put_start_again(&mut self, name: Name, out: &mut Vec<u8>) -> Result<(), WriteStop>
+    /// The same of a start in the scope of the start before, or in one without bindings where there was none. The texts of the
+    /// tag before are kept in `spare`.
+    pub fn put_start_again(
+        &mut self,
+        name: Name,
+        spare: &mut Spare,
+        out: &mut Vec<u8>,
+    ) -> Result<(), WriteStop>
         ensures taken { OnOk result (spec.fault self.old.limit self.old.left (Start name self.old.last) ≡ None) }
         ensures fault { IfErr result (IsCause (spec.fault self.old.limit self.old.left (Start name self.old.last))) }
         ensures ok { OnOk result (self.new ≡ behind self.old (Start name self.old.last)) }
@@ -126,7 +136,11 @@ impl Writer {
         if let Some(fault) = self.opened.start_fault(&name) {
             return Err(WriteStop::Fault(fault));
         }
-        put_good_start(&mut self.opened, name, None, out)?;
+        let len = out.len();
+        if start_again(&mut self.opened, name, spare, out).is_err() {
+            out.truncate(len);
+            return Err(WriteStop::Memory);
+        }
         Ok(())
     }
 
@@ -187,8 +201,9 @@ impl Writer {
         Ok(())
     }
 
-    /// Ends the innermost element as `put_end` does, whose name needn't be known. After a refusal all is unchanged.
-    pub fn end_innermost(&mut self, out: &mut Vec<u8>) -> Result<(), WriteStop>
+    /// Ends the innermost element as `put_end` does, whose name needn't be known, and is kept in `spare`. After a refusal all is
+    /// unchanged.
+    pub fn end_innermost(&mut self, spare: &mut Spare, out: &mut Vec<u8>) -> Result<(), WriteStop>
         ensures unmatched { innermost self.old.left.elements self.old.left.held ≡ None → result ≡ Err (WriteStop.Fault ResultFault.UnmatchedEnd) }
         ensures memory { (name : Spelled) → innermost self.old.left.elements self.old.left.held ≡ Some name → IfErr result (λ stop. stop ≡ WriteStop.Memory) }
         ensures good { (name : Spelled) → innermost self.old.left.elements self.old.left.held ≡ Some name → spec.fault self.old.limit self.old.left (End name) ≡ None }
@@ -201,9 +216,12 @@ impl Writer {
             return Err(WriteStop::Fault(ResultFault::UnmatchedEnd));
         }
         let len = out.len();
-        if end(&mut self.opened, out).is_err() {
+        let Ok(ended) = end(&mut self.opened, out) else {
             out.truncate(len);
             return Err(WriteStop::Memory);
+        };
+        if let Some(name) = ended {
+            spare.keep_name(name);
         }
         Ok(())
     }
@@ -285,28 +303,8 @@ impl Writer {
     }
 }
 
-/// Puts a start that has no fault, in the scope of the start before unless it is in another. After a refusal all is unchanged.
-fn put_good_start(
-    opened: &mut Opened,
-    name: Name,
-    other: Option<List<Binding>>,
-    out: &mut Vec<u8>,
-) -> Result<(), Memory>
-    requires { is_good_name name ≡ true }
-    ensures ok { OnOk result (opened.new ≡ behind opened.old (Start name (unwrap_or other opened.old.last))) }
-    ensures err { OnErr result (opened.new ≡ opened.old) }
-    ensures written { OnOk result (out.new.items ≡ out.old.items ++ settles opened.old.left (Start name (unwrap_or other opened.old.last))) }
-    ensures unwritten { OnErr result (out.new.items ≡ out.old.items) }
-{
-    let len = out.len();
-    if start(opened, name, other, out).is_err() {
-        out.truncate(len);
-        return Err(Memory);
-    }
-    Ok(())
-}
-
-/// The same, but that after a refusal some bytes may be appended.
+/// Settles what a start does, and takes it, in the scope of the start before unless it is in another. After a refusal some
+/// bytes may be appended.
 #[tactic(auto, using(crate::proofs::Growing::begins_trans, crate::proofs::Growing::begins_self))]
 fn start(
     opened: &mut Opened,
@@ -348,9 +346,52 @@ fn start_dressed(
     opened.start(name, other, dressed)
 }
 
-/// The same of the end of the innermost element.
+/// The same of a start in the scope of the start before.
 #[tactic(auto, using(crate::proofs::Growing::begins_trans, crate::proofs::Growing::begins_self))]
-fn end(opened: &mut Opened, out: &mut Vec<u8>) -> Result<(), Memory>
+fn start_again(
+    opened: &mut Opened,
+    name: Name,
+    spare: &mut Spare,
+    out: &mut Vec<u8>,
+) -> Result<(), Memory>
+    requires { is_good_name name ≡ true }
+    ensures ok { OnOk result (opened.new ≡ behind opened.old (Start name opened.old.last)) }
+    ensures err { OnErr result (opened.new ≡ opened.old) }
+    ensures written { OnOk result (out.new.items ≡ out.old.items ++ settles opened.old.left (Start name opened.old.last)) }
+    ensures kept { Begins out.old.items out.new.items }
+{
+    if opened.is_undressed() {
+        return start_again_dressed(opened, name, None, spare, out);
+    }
+    let dressed = opened.dressed()?;
+    start_again_dressed(opened, name, dressed, spare, out)
+}
+
+/// The same, where the tag that is held back is written so.
+#[inline(always)]
+#[tactic(auto, using(crate::proofs::Growing::begins_trans, crate::proofs::Growing::begins_self))]
+fn start_again_dressed(
+    opened: &mut Opened,
+    name: Name,
+    dressed: Option<Dressed>,
+    spare: &mut Spare,
+    out: &mut Vec<u8>,
+) -> Result<(), Memory>
+    requires dressed { dressing opened.old.left.held dressed ≡ dressed_in opened.old.left.elements opened.old.left.held }
+    requires good { is_good_name name ≡ true }
+    ensures ok { OnOk result (opened.new ≡ behind opened.old (Start name opened.old.last)) }
+    ensures err { OnErr result (opened.new ≡ opened.old) }
+    ensures written { OnOk result (out.new.items ≡ out.old.items ++ settles opened.old.left (Start name opened.old.last)) }
+    ensures kept { Begins out.old.items out.new.items }
+{
+    opened.append_tag(&dressed, out)?;
+    opened.start_again(name, dressed, spare)
+}
+
+/// The same of the end of the innermost element, whose name is given back where its tag was settled.
+#[inline(always)]
+#[tactic(auto, using(crate::proofs::Growing::begins_trans, crate::proofs::Growing::begins_self))]
+fn end(opened: &mut Opened, out: &mut Vec<u8>) -> Result<Option<Name>, Memory>
     ensures ok { (name : Spelled) → OnOk result (opened.new ≡ behind opened.old (End name)) }
     ensures err { OnErr result (opened.new ≡ opened.old) }
     ensures written { OnOk result (out.new.items ≡ out.old.items ++ end_text opened.old.left.elements opened.old.left.held) }
@@ -358,8 +399,7 @@ fn end(opened: &mut Opened, out: &mut Vec<u8>) -> Result<(), Memory>
 {
     let dressed = opened.dressed()?;
     opened.append_end(&dressed, out)?;
-    opened.end();
-    Ok(())
+    Ok(opened.end())
 }
 
 /// The same of characters.

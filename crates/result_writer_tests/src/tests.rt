@@ -7,7 +7,7 @@ use std::alloc::Global;
 use std::fmt::Write;
 use std::process::Abort;
 use std::test::Fail;
-use stx_base::{Binding, List, Memory, Name, Part, Text};
+use stx_base::{Binding, List, Memory, Name, Part, Spare, Text};
 
 /// A part of a row. A name is written `prefix:local URI`: without a colon it has no prefix, and without a space no
 /// namespace.
@@ -124,12 +124,18 @@ enum Handed {
 }
 
 impl Handed {
-    fn put(&self, writer: &mut Writer, part: Part, out: &mut Vec<u8>) -> Result<(), WriteStop> {
+    fn put(
+        &self,
+        writer: &mut Writer,
+        part: Part,
+        spare: &mut Spare,
+        out: &mut Vec<u8>,
+    ) -> Result<(), WriteStop> {
         match self {
             Handed::Lent => put_lent(writer, part, out),
             Handed::Over => writer.put_owned(part, out),
             Handed::ByKind => put_by_kind(writer, part, out),
-            Handed::Unnamed => put_unnamed(writer, part, out),
+            Handed::Unnamed => put_unnamed(writer, part, spare, out),
         }
     }
 }
@@ -149,9 +155,14 @@ fn put_by_kind(writer: &mut Writer, part: Part, out: &mut Vec<u8>) -> Result<(),
     }
 }
 
-fn put_unnamed(writer: &mut Writer, part: Part, out: &mut Vec<u8>) -> Result<(), WriteStop> {
+fn put_unnamed(
+    writer: &mut Writer,
+    part: Part,
+    spare: &mut Spare,
+    out: &mut Vec<u8>,
+) -> Result<(), WriteStop> {
     match part {
-        Part::End { name: _name } => writer.end_innermost(out),
+        Part::End { name: _name } => writer.end_innermost(spare, out),
         part => put_by_kind(writer, part, out),
     }
 }
@@ -166,10 +177,15 @@ fn written(
     faults: &mut String,
 ) -> Result<Vec<u8>, Fail> {
     let mut writer = Writer::new(alloc, limit);
+    let mut spare = Spare::new(alloc);
     let mut out = Vec::new(alloc);
     for (place, given) in parts.iter().enumerate() {
         let part = given.part(alloc)?;
-        told(faults, handed.put(&mut writer, part, &mut out), place)?;
+        told(
+            faults,
+            handed.put(&mut writer, part, &mut spare, &mut out),
+            place,
+        )?;
     }
     told_end(faults, writer.finish())?;
     Ok(out)
@@ -360,7 +376,8 @@ fn put_at_once(
     told_end(&mut answer, writer.put_attributes(attrs))?;
     if answer.is_empty() {
         let mut out = Vec::new(alloc);
-        told(&mut answer, writer.end_innermost(&mut out), 0)?;
+        let mut spare = Spare::new(alloc);
+        told(&mut answer, writer.end_innermost(&mut spare, &mut out), 0)?;
         let found = std::str::from_utf8(out.as_slice()).map_err(|_| "bytes that are no text")?;
         answer.push_str(found)?;
     }
@@ -381,5 +398,31 @@ fn attributes_at_once(rt: HostRuntime) -> Result<(), Fail> {
         let answer = put_at_once(alloc, &mut writer, attributes_of(alloc, given)?)?;
         assert_eq!(rt; answer.as_str(), wanted, "{given:?}");
     }
+    Ok(())
+}
+
+// A start that is put again has the bindings of the start before, also behind the end of that element; before the first start
+// there are none.
+#[test]
+fn starts_again(rt: HostRuntime) -> Result<(), Fail> {
+    let alloc = rt.alloc();
+    let mut writer = Writer::new(alloc, 4096);
+    let mut spare = Spare::new(alloc);
+    let mut out = Vec::new(alloc);
+    writer.put_start_again(named(alloc, "a")?, &mut spare, &mut out)?;
+    writer.end_innermost(&mut spare, &mut out)?;
+    let scope = bindings(alloc, &[("p", "u")])?;
+    writer.put_start(named(alloc, "b")?, &scope, &mut out)?;
+    writer.put_attribute(named(alloc, "x")?, Text::of(alloc, "1")?)?;
+    writer.put_start_again(named(alloc, "p:c u")?, &mut spare, &mut out)?;
+    writer.end_innermost(&mut spare, &mut out)?;
+    writer.end_innermost(&mut spare, &mut out)?;
+    writer.put_start_again(named(alloc, "d")?, &mut spare, &mut out)?;
+    writer.end_innermost(&mut spare, &mut out)?;
+    let again = writer.put_start_again(named(alloc, "1")?, &mut spare, &mut out);
+    assert_eq!(rt; again, Err(WriteStop::Fault(ResultFault::BadName)));
+    let found = std::str::from_utf8(out.as_slice()).unwrap_or("bytes that are no text");
+    let wanted = "<a/><b xmlns:p=\"u\" x=\"1\"><p:c/></b><d xmlns:p=\"u\"/>";
+    assert_eq!(rt; found, wanted);
     Ok(())
 }

@@ -9,4 +9,4 @@ start-requires-clause-good c =
     good_start t.limit t.left c.in-Start.name (ap (fault t.limit t.left) (sym c.in-Start.is) ∙ c.requires.accepted)
 
 pub returns-in-End-clause-ok : goal.returns-in-End-clause-ok
-returns-in-End-clause-ok c = c.end.ensures c.in-End._name ∙ ap (behind c.args.self.now) (sym c.in-End.is)
+returns-in-End-clause-ok c = c.end-ended.ensures c.in-End._name ∙ ap (behind c.args.self.now) (sym c.in-End.is)
