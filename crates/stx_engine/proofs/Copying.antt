@@ -25,7 +25,7 @@ use Rattle.stx_base.specs.declared.node.First.{First}
 use Rattle.stx_base.specs.declared.part.Part.TheVariants as part
 use Rattle.stx_engine.specs.declared.pass.Pass.TheVariants as pass
 use Rattle.stx_engine.proofs.Rest.{rest-end, rest-leaf, rest-start}
-use Rattle.stx_engine.specs.declared.copier.Copier.{Copier}
+use Rattle.stx_engine.specs.Copying.{Copying}
 use Rattle.stx_engine.specs.declared.copier.Turn.{Turn}
 use Rattle.stx_engine.specs.declared.copier.Turn.TheVariants.{More, Over}
 use Rattle.stx_engine.specs.More.{Given, PutsAll, Puts, Takes, ahead, begin_ahead, close_ahead, end_ahead, ended, given, given_after, given_by, given_of, leaf_ahead, opens, rest, start_ahead, still, unless_refused}
@@ -47,6 +47,11 @@ pub puts-one : (old new : Target) (p : Part) (before now : List ℕ) (r : Result
 puts-one old new p before now (Ok done) t f o w u = (settles old.left p, w, subst (λ x. PutsAll (given_after old (p ∷ [])) x (settles old.left p) (Ok tt)) (sym o) (put-taken old p t))
 puts-one old new p before now (Err (Fault x)) t f o w u = ([], u ∙ sym (append-nil before), put-refused old p (Fault x) f)
 puts-one old new p before now (Err Memory) t f o w u = ([], u ∙ sym (append-nil before), put-refused old p Memory tt)
+
+pub one-stopped : (old new : Target) (p : Part) (before now : List ℕ) (e : WriteStop) (r : Result (Unit {0}) WriteStop) → IsErrAnd r (λ stop. stop ≡ e) → IsCause (fault old.limit old.left p) e → now ≡ before
+    → Puts old new (p ∷ []) before now r
+one-stopped old new p before now e (Ok done) k h u = absurd k
+one-stopped old new p before now e (Err stop) k h u = subst (λ s. Puts old new (p ∷ []) before now (Err s)) (sym k) (puts-one old new p before now (Err e) tt h tt tt u)
 
 ahead-ahead : (a b : List ℕ) (g : Given) → ahead a (ahead b g) ≡ ahead (a ++ b) g
 ahead-ahead a b g = ap (λ l. record g { bytes = l }) (sym (append_assoc a b g.bytes))
@@ -112,14 +117,14 @@ lacks-memory (Ok turn) h = absurd h
 lacks-memory (Err stop) h = ap (λ s. Err s) h
 
 -- the same was to come
-pub takes-same : (was also : Future → Given) (new : Copier) (before now : List ℕ) (r : Result Turn WriteStop) → ((f : Future) → also f ≡ was f) → Takes was new before now r → Takes also new before now r
+pub takes-same : (was also : Future → Given) (new : Copying) (before now : List ℕ) (r : Result Turn WriteStop) → ((f : Future) → also f ≡ was f) → Takes was new before now r → Takes also new before now r
 takes-same was also new before now (Ok More) e h = (h.0, h.1, λ f. e f ∙ h.2 f)
 takes-same was also new before now (Ok Over) e h = (h.0, h.1, λ f. e f ∙ h.2 f)
 takes-same was also new before now (Err (Fault x)) e h = (h.0, h.1, λ f. e f ∙ h.2 f)
 takes-same was also new before now (Err Memory) e h = (h.0, h.1, λ f. subst (λ (g : Given). Begins h.0 g.bytes) (sym (e f)) (h.2 f))
 
 -- the start of an element was put, and memory was wanting for what is kept of it
-pub takes-unkept : (c : Copier) (t : Target) (o : Open) (attrs : List Attr) (before now : List ℕ) (new : Copier) → Puts c.writer t (start_parts c.pass c.scope o.name attrs) before now (Ok tt) → Takes (begin_ahead c o attrs) new before now (Err Memory)
+pub takes-unkept : (c : Copying) (t : Target) (o : Open) (attrs : List Attr) (before now : List ℕ) (new : Copying) → Puts c.writer t (start_parts c.pass c.scope o.name attrs) before now (Ok tt) → Takes (begin_ahead c o attrs) new before now (Err Memory)
 takes-unkept c t o attrs before now new h = (
   h.0,
   h.1,
@@ -151,7 +156,7 @@ one-more-open pass.Chars scope o l os f = refl
 one-more-open pass.None scope o l os f = refl
 
 -- it was put and kept
-pub takes-start : (c new : Copier) (t : Target) (o : Open) (attrs : List Attr) (before now : List ℕ)
+pub takes-start : (c new : Copying) (t : Target) (o : Open) (attrs : List Attr) (before now : List ℕ)
     → Puts c.writer t (start_parts c.pass c.scope o.name attrs) before now (Ok tt) → names_in c.pass t.left ≡ names_behind c.pass o.name c.writer.left
     → new ≡ record c { around = c.around ++ o.outer ∷ []; writer = t } → Takes (begin_ahead c o attrs) new before now (Ok More)
 takes-start c new t o attrs before now h names e =
@@ -167,7 +172,7 @@ takes-start c new t o attrs before now h names e =
     )
 
 -- it was refused
-pub takes-refused : (c new : Copier) (t : Target) (o : Open) (attrs : List Attr) (before now : List ℕ) (e : WriteStop) → Puts c.writer t (start_parts c.pass c.scope o.name attrs) before now (Err e) → Takes (begin_ahead c o attrs) new before now (Err e)
+pub takes-refused : (c new : Copying) (t : Target) (o : Open) (attrs : List Attr) (before now : List ℕ) (e : WriteStop) → Puts c.writer t (start_parts c.pass c.scope o.name attrs) before now (Err e) → Takes (begin_ahead c o attrs) new before now (Err e)
 takes-refused c new t o attrs before now (Fault x) h = (h.0, h.1, λ f. let p = rest c.pass c.scope (o ∷ opens c) f in h.2 p.parts p.stop)
 takes-refused c new t o attrs before now Memory h = (h.0, h.1, λ f. let p = rest c.pass c.scope (o ∷ opens c) f in h.2 p.parts p.stop)
 
@@ -177,7 +182,7 @@ names-in pass.All l m e = e
 names-in pass.Chars l m e = refl
 names-in pass.None l m e = refl
 
-pub leaf-taken : (c : Copier) (t : Target) (p : Part) (before now : List ℕ) → fault c.writer.limit c.writer.left p ≡ None → t ≡ behind c.writer p → now ≡ before ++ settles c.writer.left p
+pub leaf-taken : (c : Copying) (t : Target) (p : Part) (before now : List ℕ) → fault c.writer.limit c.writer.left p ≡ None → t ≡ behind c.writer p → now ≡ before ++ settles c.writer.left p
     → names_of (next c.writer.left p) ≡ names_of c.writer.left → Takes (leaf_ahead c (p ∷ [])) (record c { writer = t }) before now (Ok More)
 leaf-taken c t p before now h e w names =
     let puts : PutsAll (given_after c.writer (p ∷ [])) t (settles c.writer.left p) (Ok tt) =
@@ -192,11 +197,11 @@ leaf-taken c t p before now h e w names =
     )
 
 -- a leaf was refused
-leaf-stopped : (c new : Copier) (p : Part) (before now : List ℕ) (e : WriteStop) → IsCause (fault c.writer.limit c.writer.left p) e → now ≡ before → Takes (leaf_ahead c (p ∷ [])) new before now (Err e)
+leaf-stopped : (c new : Copying) (p : Part) (before now : List ℕ) (e : WriteStop) → IsCause (fault c.writer.limit c.writer.left p) e → now ≡ before → Takes (leaf_ahead c (p ∷ [])) new before now (Err e)
 leaf-stopped c new p before now (Fault x) h u = ([], u ∙ sym (append-nil before), λ f. let s = still c f in put-refused c.writer p (Fault x) h s.parts s.stop)
 leaf-stopped c new p before now Memory h u = ([], u ∙ sym (append-nil before), λ f. let s = still c f in put-refused c.writer p Memory h s.parts s.stop)
 
-pub leaf-refused : (c new : Copier) (p : Part) (before now : List ℕ) (e : WriteStop) (r : Result Turn WriteStop) → IsErrAnd r (λ stop. stop ≡ e) → IsCause (fault c.writer.limit c.writer.left p) e → now ≡ before
+pub leaf-refused : (c new : Copying) (p : Part) (before now : List ℕ) (e : WriteStop) (r : Result Turn WriteStop) → IsErrAnd r (λ stop. stop ≡ e) → IsCause (fault c.writer.limit c.writer.left p) e → now ≡ before
     → Takes (leaf_ahead c (p ∷ [])) new before now r
 leaf-refused c new p before now e (Ok turn) k h u = absurd k
 leaf-refused c new p before now e (Err stop) k h u = subst (λ s. Takes (leaf_ahead c (p ∷ [])) new before now (Err s)) (sym k) (leaf-stopped c new p before now e h u)
@@ -208,22 +213,22 @@ rest-outer p scope around name outside os f e =
     ap (λ s. then_put (passed p scope (inner f)) (put (end_parts p name) (rest p s os (outer f)))) (sym e)
 
 -- what was to come on a start tag is what comes where the bindings are in force
-pub starts-within : (c d : Copier) (o : Open) (attrs : List Attr) (decls : List Binding) → d.scope ≡ scope_within c.scope decls → unwrap_or o.outer d.scope ≡ c.scope → d ≡ record c { scope = d.scope }
+pub starts-within : (c d : Copying) (o : Open) (attrs : List Attr) (decls : List Binding) → d.scope ≡ scope_within c.scope decls → unwrap_or o.outer d.scope ≡ c.scope → d ≡ record c { scope = d.scope }
     → (f : Future) → start_ahead c o.name attrs decls f ≡ begin_ahead d o attrs f
 starts-within c d o attrs decls s u e f =
     let within = scope_within c.scope decls in
     let os = opens c in
     ap (λ p. given_of c.writer (put (start_parts c.pass within o.name attrs) p)) (rest-outer c.pass within c.scope o.name o.outer os f (ap (unwrap_or o.outer) (sym s) ∙ u))
     ∙ ap (λ x. given_of c.writer (put (start_parts c.pass x o.name attrs) (rest c.pass x (o ∷ os) f))) (sym s)
-    ∙ ap (λ (x : Copier). begin_ahead x o attrs f) (sym e)
+    ∙ ap (λ (x : Copying). begin_ahead x o attrs f) (sym e)
 
 -- Ends
 
 -- what was to come on an element's end, where elements are copied
-pub closes : (c d : Copier) (o : Option (List Binding)) → d ≡ record c { scope = unwrap_or o c.scope } → (f : Future) → close_ahead c o f ≡ close_ahead d None f
-closes c d o e f = ap (λ (x : Copier). close_ahead x None f) (sym e)
+pub closes : (c d : Copying) (o : Option (List Binding)) → d ≡ record c { scope = unwrap_or o c.scope } → (f : Future) → close_ahead c o f ≡ close_ahead d None f
+closes c d o e f = ap (λ (x : Copying). close_ahead x None f) (sym e)
 
-pub ends-one : (c : Copier) (left : List (Option (List Binding))) (o : Option (List Binding)) → c.around ≡ left ++ o ∷ [] → (f : Future) → end_ahead c f ≡ close_ahead (record c { around = left }) o f
+pub ends-one : (c : Copying) (left : List (Option (List Binding))) (o : Option (List Binding)) → c.around ≡ left ++ o ∷ [] → (f : Future) → end_ahead c f ≡ close_ahead (record c { around = left }) o f
 ends-one c left o h f = ap (λ os. given_of c.writer (ended c.pass c.scope (opens_by (names_in c.pass c.writer.left) os) f)) (ap reverse h ∙ reverse-append left (o ∷ []))
 
 -- the innermost element has the first name
@@ -243,7 +248,7 @@ closed-names [] None = refl
 closed-names (e ∷ es) None = refl
 
 -- the end of the innermost element was put
-pub end-taken : (c : Copier) (t : Target) (before now : List ℕ) → c.pass ≡ pass.All → innermost c.writer.left.elements c.writer.left.held ≢ None
+pub end-taken : (c : Copying) (t : Target) (before now : List ℕ) → c.pass ≡ pass.All → innermost c.writer.left.elements c.writer.left.held ≢ None
     → ((name : Name) → innermost c.writer.left.elements c.writer.left.held ≡ Some name → fault c.writer.limit c.writer.left (part.End name) ≡ None)
     → ((name : Name) → t ≡ behind c.writer (part.End name)) → ((name : Name) → now ≡ before ++ settles c.writer.left (part.End name))
     → Takes (close_ahead c None) (record c { writer = t }) before now (Ok More)
@@ -264,7 +269,7 @@ end-taken c t before now all some taken ok written =
     )
 
 -- there was none, or memory was wanting
-pub end-refused : (c new : Copier) (before now : List ℕ) (e : WriteStop) (r : Result Turn WriteStop) → IsErrAnd r (λ stop. stop ≡ e) → c.pass ≡ pass.All
+pub end-refused : (c new : Copying) (before now : List ℕ) (e : WriteStop) (r : Result Turn WriteStop) → IsErrAnd r (λ stop. stop ≡ e) → c.pass ≡ pass.All
     → (innermost c.writer.left.elements c.writer.left.held ≡ None → e ≡ Fault UnmatchedEnd) → ((name : Name) → innermost c.writer.left.elements c.writer.left.held ≡ Some name → e ≡ Memory)
     → now ≡ before → Takes (close_ahead c None) new before now r
 end-refused c new before now e (Ok turn) k all none some u = absurd k
@@ -284,7 +289,7 @@ end-refused c new before now e (Err stop) k all none some u =
 
 -- What was to come, by the event
 
-pub told-start : (c : Copier) (e : Element) (first : First) (f : Future) → given_by c (event.Start e.offset e.name e.attrs e.decls first) f ≡ start_ahead c e.name e.attrs e.decls f
+pub told-start : (c : Copying) (e : Element) (first : First) (f : Future) → given_by c (event.Start e.offset e.name e.attrs e.decls first) f ≡ start_ahead c e.name e.attrs e.decls f
 told-start c e first f = ap (given_of c.writer) (rest-start c.pass c.scope (opens c) e f)
 
 placeless : (p : Pass) (offset : ℕ) (text : List ℕ) → leaf_parts p (Chars offset text) ≡ leaf_parts p (Chars 0 text)
@@ -302,17 +307,17 @@ placeless-instruction pass.All offset target text = refl
 placeless-instruction pass.Chars offset target text = refl
 placeless-instruction pass.None offset target text = refl
 
-pub told-chars : (c : Copier) (offset : ℕ) (text : List ℕ) (f : Future) → given_by c (event.Chars offset text) f ≡ leaf_ahead c (leaf_parts c.pass (Chars 0 text)) f
+pub told-chars : (c : Copying) (offset : ℕ) (text : List ℕ) (f : Future) → given_by c (event.Chars offset text) f ≡ leaf_ahead c (leaf_parts c.pass (Chars 0 text)) f
 told-chars c offset text f = ap (given_of c.writer) (rest-leaf c.pass c.scope (opens c) (Chars offset text) f ∙ ap (λ ps. put ps (still c f)) (placeless c.pass offset text))
 
-pub told-comment : (c : Copier) (offset : ℕ) (text : List ℕ) (f : Future) → given_by c (event.Comment offset text) f ≡ leaf_ahead c (leaf_parts c.pass (Comment 0 text)) f
+pub told-comment : (c : Copying) (offset : ℕ) (text : List ℕ) (f : Future) → given_by c (event.Comment offset text) f ≡ leaf_ahead c (leaf_parts c.pass (Comment 0 text)) f
 told-comment c offset text f = ap (given_of c.writer) (rest-leaf c.pass c.scope (opens c) (Comment offset text) f ∙ ap (λ ps. put ps (still c f)) (placeless-comment c.pass offset text))
 
-pub told-instruction : (c : Copier) (offset : ℕ) (target text : List ℕ) (f : Future) → given_by c (event.Pi offset target text) f ≡ leaf_ahead c (leaf_parts c.pass (Pi 0 target text)) f
+pub told-instruction : (c : Copying) (offset : ℕ) (target text : List ℕ) (f : Future) → given_by c (event.Pi offset target text) f ≡ leaf_ahead c (leaf_parts c.pass (Pi 0 target text)) f
 told-instruction c offset target text f = ap (given_of c.writer) (rest-leaf c.pass c.scope (opens c) (Pi offset target text) f ∙ ap (λ ps. put ps (still c f)) (placeless-instruction c.pass offset target text))
 
-pub told-end : (c : Copier) (offset : ℕ) (f : Future) → given_by c (event.End offset) f ≡ end_ahead c f
+pub told-end : (c : Copying) (offset : ℕ) (f : Future) → given_by c (event.End offset) f ≡ end_ahead c f
 told-end c offset f = ap (given_of c.writer) (rest-end c.pass c.scope (opens c) offset f)
 
-pub told-document-end : (c : Copier) (offset : ℕ) (f : Future) → given_by c (event.DocumentEnd offset) f ≡ end_ahead c f
+pub told-document-end : (c : Copying) (offset : ℕ) (f : Future) → given_by c (event.DocumentEnd offset) f ≡ end_ahead c f
 told-document-end c offset f = ap (given_of c.writer) (rest-end c.pass c.scope (opens c) offset f)

@@ -14,7 +14,7 @@ use Rattle.xml_events.specs.Tree.{Bad, Need}
 use Rattle.xml_events.specs.declared.event.Event.{Event}
 use Rattle.xml_events.specs.declared.event.Event.TheVariants as event
 use Rattle.xml_events.specs.declared.event.Pull.TheVariants as pull
-use Rattle.stx_engine.specs.declared.copier.Copier.{Copier}
+use Rattle.stx_engine.specs.Copying.{Copying}
 use Rattle.stx_engine.specs.declared.copier.Turn.TheVariants.{More, Over}
 use Rattle.stx_engine.specs.declared.engine.Engine.{Engine}
 use Rattle.stx_engine.specs.declared.engine.Reading.TheVariants as reading
@@ -32,7 +32,7 @@ use Rattle.stx_engine.specs.More.{Given, Opened, Takes, ahead, given_by, given_o
 use Rattle.stx_engine.proofs.Waiting.{end-alone, waits-so}
 
 -- the same engine with another reader and copier
-abbrev pub with : Engine → Source → Copier → Engine
+abbrev pub with : Engine → Source → Copying → Engine
 with e s c = record e { reader = s; copier = c }
 
 -- how many lists are open behind an event that didn't end the document
@@ -52,7 +52,7 @@ over-behind (event.Comment offset text) over lists elements behind h o l d = h
 over-behind (event.Pi offset target text) over lists elements behind h o l d = h
 over-behind (event.DocumentEnd offset) over lists elements behind h o l d = absurd (omega (arith, o, l, d offset refl))
 
-module _ (e : Engine) (going : IsGoing e) (s : Source) (x : Event) (answer : IsAnswer e.reader (pull.Event x)) (leaves : Leaves e.reader (pull.Event x) s) (c : Copier) (before now : List ℕ) where
+module _ (e : Engine) (going : IsGoing e) (s : Source) (x : Event) (answer : IsAnswer e.reader (pull.Event x)) (leaves : Leaves e.reader (pull.Event x) s) (c : Copying) (before now : List ℕ) where
   -- what was to come, by the event
   was-by : (bytes : List ℕ) (ended : Bool) → more e bytes ended ≡ given_by e.copier x (future s bytes ended)
   was-by bytes ended = ap (given_on e.copier) (leaves bytes ended)

@@ -9,7 +9,7 @@ use Rattle.xml_events.specs.Tree.{Why, Need, Bad, Chars, Comment, Pi, Element, F
 use Rattle.xml_events.specs.declared.event.Event.{Event}
 use Rattle.xml_events.specs.declared.event.Event.TheVariants as event
 use Rattle.xml_events.specs.declared.event.Pull.TheVariants as pull
-use Rattle.stx_engine.specs.declared.copier.Copier.{Copier}
+use Rattle.stx_engine.specs.Copying.{Copying}
 use Rattle.stx_engine.specs.Opens.{Open}
 use Rattle.stx_engine.specs.declared.pass.Pass.{Pass}
 use Rattle.stx_base.specs.declared.part.Part.{Part}
@@ -56,14 +56,14 @@ module _ (p : Pass) (scope : List Binding) (why : Why) where
   rest-stopped [] list lists h = h
   rest-stopped (o ∷ os) list lists h = ap (λ q. then_put q (put (end_parts p o.name) (rest p (unwrap_or o.outer scope) os lists))) h
 
-lists-wait : (strip : Bool) (lists : Future) (c : Copier) (why : Why) → pulled (map (finished strip) lists) ≡ no_event why → given_on c (map (finished strip) lists) ≡ record { bytes = []; ending = Unready why }
+lists-wait : (strip : Bool) (lists : Future) (c : Copying) (why : Why) → pulled (map (finished strip) lists) ≡ no_event why → given_on c (map (finished strip) lists) ≡ record { bytes = []; ending = Unready why }
 lists-wait strip [] c why h = absurd (no-end why h)
 lists-wait strip (list ∷ lists) c why h =
     let kept = if strip then stripped list else list in
     ap (given_of c.writer) (rest-stopped c.pass c.scope why (opens c) (finished strip list) (map (finished strip) lists) (list-stopped c.pass c.scope why kept (map (finished strip) lists) h))
 
 -- where all known events were given, and the next one isn't ready
-pub waits-so : (s : Source) (c : Copier) (more : List ℕ) (ended : Bool) (why : Why) → s.known ≡ [] → pulled (future s more ended) ≡ no_event why → given_on c (future s more ended) ≡ record { bytes = []; ending = Unready why }
+pub waits-so : (s : Source) (c : Copying) (more : List ℕ) (ended : Bool) (why : Why) → s.known ≡ [] → pulled (future s more ended) ≡ no_event why → given_on c (future s more ended) ≡ record { bytes = []; ending = Unready why }
 waits-so s c more ended why known h =
     let lists = with_items s.front (lists_of (left s more ended)) in
     let is : future s more ended ≡ map (finished s.strip) lists = ap (λ es. told es (map (finished s.strip) lists)) known in
@@ -123,12 +123,12 @@ EndsList (event.End offset) = Unit {0}
 EndsList (event.DocumentEnd offset) = Unit {0}
 EndsList other = ⊥
 
-ended-open : (c : Copier) (os : List Open) → (given_of c.writer (ended c.pass c.scope os [])).ending ≡ Complete → os ≡ []
+ended-open : (c : Copying) (os : List Open) → (given_of c.writer (ended c.pass c.scope os [])).ending ≡ Complete → os ≡ []
 ended-open c [] h = refl
 ended-open c (o ∷ os) h = absurd (given-open c.writer (ended c.pass c.scope (o ∷ os) []) (rest-nothing c.pass (unwrap_or o.outer c.scope) os) h)
 
 -- a run is over only by the end of a list where no element is open
-pub over-ends : (c : Copier) (e : Event) → (given_by c e []).ending ≡ Complete → EndsList e × (opens c ≡ [])
+pub over-ends : (c : Copying) (e : Event) → (given_by c e []).ending ≡ Complete → EndsList e × (opens c ≡ [])
 over-ends c (event.Start offset name attrs decls first) h =
     let x : Element = record { offset = offset; name = name; attrs = attrs; decls = decls } in
     let p = put (start_parts c.pass (scope_within c.scope decls) name attrs) (rest c.pass (scope_within c.scope decls) (record { name = name; outer = Some c.scope } ∷ opens c) []) in

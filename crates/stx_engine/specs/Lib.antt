@@ -1,6 +1,7 @@
 pub mod Accepted
 pub mod Answer
 pub mod Copies
+pub mod Copying
 pub mod Driving
 pub mod Ending
 pub mod Engine
@@ -17,4 +18,5 @@ pub mod Passed
 pub mod Running
 pub mod Scope
 pub mod Sheets
+pub mod Told
 pub mod Words

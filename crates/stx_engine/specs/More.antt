@@ -18,7 +18,7 @@ use Rattle.stx_engine.specs.Meaning.{Ending, Complete, Refused, end_parts, start
 use Rattle.stx_engine.specs.Opens.{Open, first_name, names_in, opens_by}
 use Rattle.stx_engine.specs.Passed.{Passed, ending_by, passed, put, then_put}
 use Rattle.stx_engine.specs.Scope.{scope_within}
-use Rattle.stx_engine.specs.declared.copier.Copier.{Copier}
+use Rattle.stx_engine.specs.Copying.{Copying}
 use Rattle.stx_engine.specs.declared.copier.Turn.{Turn}
 use Rattle.stx_engine.specs.declared.copier.Turn.TheVariants.{More, Over}
 use Rattle.stx_engine.specs.declared.pass.Pass.{Pass}
@@ -49,18 +49,18 @@ rest pass scope (o ∷ os) f =
     then_put (passed pass scope (inner f)) (put (end_parts pass o.name) (rest pass (unwrap_or o.outer scope) os (outer f)))
 
 -- the elements that are open, the innermost first
-abbrev pub opens : Copier → List Open
+abbrev pub opens : Copying → List Open
 opens c = opens_by (names_in c.pass c.writer.left) (reverse c.around)
 
 -- what a copier still puts on a future
-abbrev pub still : Copier → Future → Passed
+abbrev pub still : Copying → Future → Passed
 still c f = rest c.pass c.scope (opens c) f
 
 -- what a result still gives of what is to be put
 abbrev pub given_of : Target → Passed → Given
 given_of t p = given t.limit t.left p.parts p.stop
 
-abbrev pub given_on : Copier → Future → Given
+abbrev pub given_on : Copying → Future → Given
 given_on c f = given_of c.writer (still c f)
 
 -- Parts were put one after another: what was appended, and then what the result still gives, is what it had to give. Or it refused one
@@ -79,31 +79,31 @@ Puts old new parts before now result = (appended : List ℕ) × (now ≡ before 
 
 -- An event was taken: what was appended, and then what the copier still gives, is what it had to give on the event. Or the run is over,
 -- a part was refused, or memory was wanting.
-abbrev pub Took : (was : Future → Given) → (new : Copier) → (appended : List ℕ) → Result Turn WriteStop → Type 0
+abbrev pub Took : (was : Future → Given) → (new : Copying) → (appended : List ℕ) → Result Turn WriteStop → Type 0
 Took was new appended (Ok More) = (f : Future) → was f ≡ ahead appended (given_on new f)
 Took was new appended (Ok Over) = (f : Future) → was f ≡ record { bytes = appended; ending = Complete }
 Took was new appended (Err (Fault fault)) = (f : Future) → was f ≡ record { bytes = appended; ending = Refused fault }
 Took was new appended (Err Memory) = (f : Future) → Begins appended (was f).bytes
 
-abbrev pub Takes : (was : Future → Given) → (new : Copier) → (before now : List ℕ) → Result Turn WriteStop → Type 0
+abbrev pub Takes : (was : Future → Given) → (new : Copying) → (before now : List ℕ) → Result Turn WriteStop → Type 0
 Takes was new before now result = (appended : List ℕ) × (now ≡ before ++ appended) × Took was new appended result
 
 -- What a copier has to give on an event, and then a future.
 
-abbrev pub given_by : Copier → Event → Future → Given
+abbrev pub given_by : Copying → Event → Future → Given
 given_by c e f = given_on c (followed e f)
 
 -- where the event is a leaf's, of which these parts are put
-abbrev pub leaf_ahead : Copier → List Part → Future → Given
+abbrev pub leaf_ahead : Copying → List Part → Future → Given
 leaf_ahead c parts f = given_of c.writer (put parts (still c f))
 
 -- where it is the start of this element, in which these bindings are in force already
-abbrev pub begin_ahead : Copier → Open → List Attr → Future → Given
+abbrev pub begin_ahead : Copying → Open → List Attr → Future → Given
 begin_ahead c o attrs f =
     given_of c.writer (put (start_parts c.pass c.scope o.name attrs) (rest c.pass c.scope (o ∷ opens c) f))
 
 -- where it is the start of an element
-abbrev pub start_ahead : Copier → Name → List Attr → (decls : List Binding) → Future → Given
+abbrev pub start_ahead : Copying → Name → List Attr → (decls : List Binding) → Future → Given
 start_ahead c name attrs decls f =
     let within = scope_within c.scope decls in
     given_of c.writer
@@ -115,12 +115,12 @@ ended pass scope [] f = record { parts = []; stop = None }
 ended pass scope (o ∷ os) f = put (end_parts pass o.name) (rest pass (unwrap_or o.outer scope) os f)
 
 -- where the innermost element ends, of which only the writer still knows
-abbrev pub close_ahead : Copier → (outer : Option (List Binding)) → Future → Given
+abbrev pub close_ahead : Copying → (outer : Option (List Binding)) → Future → Given
 close_ahead c outside f =
     let names = names_in c.pass c.writer.left in
     given_of c.writer (put (end_parts c.pass (first_name names)) (rest c.pass (unwrap_or outside c.scope) (opens_by (drop 1 names) (reverse c.around)) f))
 
-abbrev pub end_ahead : Copier → Future → Given
+abbrev pub end_ahead : Copying → Future → Given
 end_ahead c f = given_of c.writer (ended c.pass c.scope (opens c) f)
 
 -- how many elements are open behind an event that didn't end the document

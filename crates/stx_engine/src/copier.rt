@@ -13,8 +13,9 @@ use crate::pass::Pass;
 use crate::scope::scope_within;
 use result_writer::{WriteStop, Writer};
 use std::alloc::Global;
+use std::marker::Model;
 use std::mem;
-use stx_base::{Attr, Binding, List, Memory, Name, Part, Text};
+use stx_base::{Attr, Binding, First, List, Memory, Name, Part, Spare, Text};
 use xml_events::Event;
 
 /// Whether a document goes on behind an event.
@@ -31,10 +32,24 @@ pub struct Copier {
     pass: Pass,
     /// The bindings in force in the innermost open element.
     scope: List<Binding>,
+    /// Whether the writer's last start was in this scope, as most are. So it needn't be compared.
+    told: bool,
     /// Of each open element the bindings in force around it, where it has declarations; the innermost last. The writer knows their
     /// names.
     around: List<Option<List<Binding>>>,
     writer: Writer,
+}
+
+impl Model for Copier {
+    ghost use Rattle.stx_engine.specs.Copying.{Copying};
+
+    ghost Value = { Copying };
+
+    ghost use Rattle.stx_engine.specs.Told.{copying_of, IsTold};
+
+    ghost view = { copying_of };
+
+    ghost invariant = { IsTold };
 }
 
 impl Copier {
@@ -49,15 +64,21 @@ impl Copier {
             alloc,
             pass,
             scope: List::new(alloc),
+            told: false,
             around: List::new(alloc),
             writer: Writer::new(alloc, limit),
         }
     }
 
     /// Takes the document's next event, and appends the bytes that it settles. After a refusal what was appended is a beginning of
-    /// what was to come.
+    /// what was to come. Texts that are done with are kept in `spare`.
     #[inline(always)]
-    pub fn take(&mut self, event: Event, out: &mut Vec<u8>) -> Result<Turn, WriteStop>
+    pub fn take(
+        &mut self,
+        event: Event,
+        spare: &mut Spare,
+        out: &mut Vec<u8>,
+    ) -> Result<Turn, WriteStop>
         ensures takes { Takes (given_by self.old event) self.new out.old.items out.new.items result }
         ensures opens { result ≡ Ok turn.More → Opened event (length self.old.around) (length self.new.around) }
     {
@@ -67,13 +88,20 @@ impl Copier {
                 name,
                 attrs,
                 decls,
-                first: _first,
-            } => self.start(name, attrs, &decls, out),
-            Event::End { .. } => self.end(out),
+                first,
+            } => {
+                keep_first(first, spare);
+                self.start(name, attrs, &decls, spare, out)
+            }
+            Event::End { .. } => self.end(spare, out),
             Event::Chars {
                 offset: _offset,
                 text,
-            } => self.chars(&text, out),
+            } => {
+                let turn = self.chars(&text, out);
+                spare.keep(text);
+                turn
+            }
             Event::Comment {
                 offset: _offset,
                 text,
@@ -83,7 +111,7 @@ impl Copier {
                 target,
                 text,
             } => self.instruction(&target, &text, out),
-            Event::DocumentEnd { .. } => self.end(out),
+            Event::DocumentEnd { .. } => self.end(spare, out),
         }
     }
 
@@ -92,13 +120,14 @@ impl Copier {
         name: Name,
         attrs: List<Attr>,
         decls: &List<Binding>,
+        spare: &mut Spare,
         out: &mut Vec<u8>,
     ) -> Result<Turn, WriteStop>
         ensures takes { Takes (start_ahead self.old name attrs decls.now) self.new out.old.items out.new.items result }
         ensures opens { result ≡ Ok turn.More → length self.new.around ≡ suc (length self.old.around) }
     {
         let outer = self.enter(decls)?;
-        self.begin(name, outer, attrs, out)
+        self.begin(name, outer, attrs, spare, out)
     }
 
     fn begin(
@@ -106,12 +135,13 @@ impl Copier {
         name: Name,
         outer: Option<List<Binding>>,
         attrs: List<Attr>,
+        spare: &mut Spare,
         out: &mut Vec<u8>,
     ) -> Result<Turn, WriteStop>
         ensures takes { Takes (begin_ahead self.old (record { name = name; outer = outer }) attrs) self.new out.old.items out.new.items result }
         ensures opens { result ≡ Ok turn.More → length self.new.around ≡ suc (length self.old.around) }
     {
-        match self.copy_start(name, attrs, out) {
+        match self.copy_start(name, attrs, spare, out) {
             Ok(()) => {
                 self.around.push(outer)?;
                 Ok(Turn::More)
@@ -130,6 +160,7 @@ impl Copier {
             return Ok(None);
         }
         let within = scope_within(self.alloc, &self.scope, decls)?;
+        self.told = false;
         Ok(Some(mem::replace(&mut self.scope, within)))
     }
 
@@ -138,6 +169,7 @@ impl Copier {
         &mut self,
         name: Name,
         attrs: List<Attr>,
+        spare: &mut Spare,
         out: &mut Vec<u8>,
     ) -> Result<(), WriteStop>
         ensures puts { Puts self.old.writer self.new.writer (start_parts self.old.pass self.old.scope name attrs) out.old.items out.new.items result }
@@ -145,9 +177,43 @@ impl Copier {
         ensures others { self.new ≡ record self.old { writer = self.new.writer } }
     {
         match self.pass {
-            Pass::All => put_start_tag(&mut self.writer, name, &self.scope, attrs, out),
+            Pass::All => self.put_start_tag(name, attrs, spare, out),
             Pass::Chars | Pass::None => Ok(()),
         }
+    }
+
+    // Puts an element's start, and its attributes.
+    fn put_start_tag(
+        &mut self,
+        name: Name,
+        attrs: List<Attr>,
+        spare: &mut Spare,
+        out: &mut Vec<u8>,
+    ) -> Result<(), WriteStop>
+        ensures puts { Puts self.old.writer self.new.writer (part.Start name self.old.scope ∷ map attribute_part attrs) out.old.items out.new.items result }
+        ensures names { OnOk result (names_of self.new.writer.left ≡ name ∷ names_of self.old.writer.left) }
+        ensures others { self.new ≡ record self.old { writer = self.new.writer } }
+    {
+        self.put_start(name, spare, out)?;
+        put_attributes(&mut self.writer, attrs, out)
+    }
+
+    fn put_start(
+        &mut self,
+        name: Name,
+        spare: &mut Spare,
+        out: &mut Vec<u8>,
+    ) -> Result<(), WriteStop>
+        ensures puts { Puts self.old.writer self.new.writer (part.Start name self.old.scope ∷ []) out.old.items out.new.items result }
+        ensures names { OnOk result (names_of self.new.writer.left ≡ name ∷ names_of self.old.writer.left) }
+        ensures others { self.new ≡ record self.old { writer = self.new.writer } }
+    {
+        if self.told {
+            return self.writer.put_start_again(name, spare, out);
+        }
+        self.writer.put_start(name, &self.scope, out)?;
+        self.told = true;
+        Ok(())
     }
 
     fn chars(&mut self, text: &Text, out: &mut Vec<u8>) -> Result<Turn, WriteStop>
@@ -216,7 +282,7 @@ impl Copier {
     }
 
     // The innermost list ends: that of an open element, or else the document's.
-    fn end(&mut self, out: &mut Vec<u8>) -> Result<Turn, WriteStop>
+    fn end(&mut self, spare: &mut Spare, out: &mut Vec<u8>) -> Result<Turn, WriteStop>
         ensures takes { Takes (end_ahead self.old) self.new out.old.items out.new.items result }
         ensures opens { result ≡ Ok turn.More → length self.old.around ≡ suc (length self.new.around) }
     {
@@ -225,13 +291,14 @@ impl Copier {
                 self.writer.finish()?;
                 Ok(Turn::Over)
             }
-            Some(outer) => self.end_element(outer, out),
+            Some(outer) => self.end_element(outer, spare, out),
         }
     }
 
     fn end_element(
         &mut self,
         outer: Option<List<Binding>>,
+        spare: &mut Spare,
         out: &mut Vec<u8>,
     ) -> Result<Turn, WriteStop>
         ensures takes { Takes (close_ahead self.old outer) self.new out.old.items out.new.items result }
@@ -239,17 +306,17 @@ impl Copier {
     {
         self.leave(outer);
         match self.pass {
-            Pass::All => self.put_end(out),
+            Pass::All => self.put_end(spare, out),
             Pass::Chars | Pass::None => Ok(Turn::More),
         }
     }
 
-    fn put_end(&mut self, out: &mut Vec<u8>) -> Result<Turn, WriteStop>
+    fn put_end(&mut self, spare: &mut Spare, out: &mut Vec<u8>) -> Result<Turn, WriteStop>
         requires { self.old.pass ≡ pass.All }
         ensures takes { Takes (close_ahead self.old None) self.new out.old.items out.new.items result }
         ensures opens { self.new.around ≡ self.old.around }
     {
-        self.writer.end_innermost(out)?;
+        self.writer.end_innermost(spare, out)?;
         Ok(Turn::More)
     }
 
@@ -259,35 +326,9 @@ impl Copier {
     {
         if let Some(outer) = outer {
             self.scope = outer;
+            self.told = false;
         }
     }
-}
-
-// The start of an element, and its attributes.
-fn put_start_tag(
-    writer: &mut Writer,
-    name: Name,
-    scope: &List<Binding>,
-    attrs: List<Attr>,
-    out: &mut Vec<u8>,
-) -> Result<(), WriteStop>
-    ensures puts { Puts writer.old writer.new (part.Start name scope.now ∷ map attribute_part attrs) out.old.items out.new.items result }
-    ensures names { OnOk result (names_of writer.new.left ≡ name ∷ names_of writer.old.left) }
-{
-    put_start_part(writer, name, scope, out)?;
-    put_attributes(writer, attrs, out)
-}
-
-fn put_start_part(
-    writer: &mut Writer,
-    name: Name,
-    scope: &List<Binding>,
-    out: &mut Vec<u8>,
-) -> Result<(), WriteStop>
-    ensures puts { Puts writer.old writer.new (part.Start name scope.now ∷ []) out.old.items out.new.items result }
-    ensures names { OnOk result (names_of writer.new.left ≡ name ∷ names_of writer.old.left) }
-{
-    writer.put_start(name, scope, out)
 }
 
 fn put_attributes(
@@ -297,6 +338,7 @@ fn put_attributes(
 ) -> Result<(), WriteStop>
     ensures puts { Puts writer.old writer.new (map attribute_part attrs) out.old.items out.new.items result }
     ensures names { OnOk result (names_of writer.new.left ≡ names_of writer.old.left) }
+    ensures last { writer.new.last ≡ writer.old.last }
 {
     // Most are put at once, which spares to move each of them.
     if writer.takes_at_once(attrs.as_slice()) {
@@ -311,6 +353,7 @@ fn put_attributes(
 fn put_each(writer: &mut Writer, attrs: List<Attr>, out: &mut Vec<u8>) -> Result<(), WriteStop>
     ensures puts { Puts writer.old writer.new (map attribute_part attrs) out.old.items out.new.items result }
     ensures names { OnOk result (names_of writer.new.left ≡ names_of writer.old.left) }
+    ensures last { writer.new.last ≡ writer.old.last }
 {
     for attr in attrs.into_vec() {
         if let Err(stop) = put_attribute(writer, attr, out) {
@@ -323,7 +366,15 @@ fn put_each(writer: &mut Writer, attrs: List<Attr>, out: &mut Vec<u8>) -> Result
 fn put_attribute(writer: &mut Writer, attr: Attr, out: &mut Vec<u8>) -> Result<(), WriteStop>
     ensures puts { Puts writer.old writer.new (attribute_part attr ∷ []) out.old.items out.new.items result }
     ensures names { OnOk result (names_of writer.new.left ≡ names_of writer.old.left) }
+    ensures last { writer.new.last ≡ writer.old.last }
 {
     let Attr { name, value } = attr;
     writer.put_owned(Part::Attribute { name, value }, out)
+}
+
+// A text that the start of an element tells of comes again as an event of its own.
+fn keep_first(first: First, spare: &mut Spare) {
+    if let First::Chars(text) = first {
+        spare.keep(text);
+    }
 }

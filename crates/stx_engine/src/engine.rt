@@ -13,7 +13,7 @@ use crate::pass::Pass;
 use result_writer::{ResultFault, WriteStop};
 use std::alloc::Global;
 use std::mem;
-use stx_base::{Limits, Memory, RunCode, Text, XmlFault};
+use stx_base::{Limits, Memory, RunCode, Spare, Text, XmlFault};
 use xml_events::{EventReader, Pull};
 
 /// What a result begins with.
@@ -63,6 +63,8 @@ pub struct Engine {
     sheet: Text,
     reader: EventReader,
     copier: Copier,
+    /// Texts that the copier is done with.
+    spare: Spare,
     outcome: Option<Outcome>,
 }
 
@@ -79,6 +81,7 @@ impl Engine {
             sheet,
             reader: EventReader::new(alloc, limits, false),
             copier: Copier::new(alloc, limits.elements, pass),
+            spare: Spare::new(alloc),
             outcome: None,
         }
     }
@@ -212,7 +215,7 @@ impl Engine {
         ensures sheet { self.new.sheet ≡ self.old.sheet }
     {
         match self.reader.next() {
-            Pull::Event(event) => match self.copier.take(event, out) {
+            Pull::Event(event) => match self.copier.take(event, &mut self.spare, out) {
                 Ok(Turn::More) => None,
                 Ok(Turn::Over) => Some(Reading::Complete),
                 Err(WriteStop::Fault(fault)) => Some(Reading::Refused(fault)),

@@ -12,6 +12,7 @@ loop-attr-init c =
       subst (λ l. SoFar c.args.writer.now c.args.writer.now all (map attribute_part l) c.args.out.now.items c.args.out.now.items) (sym e)
           (none-yet c.args.writer.now all c.args.out.now.items),
       refl,
+      refl,
     )
 
 pub loop-attr-preserved : goal.loop-attr-preserved
@@ -21,6 +22,7 @@ loop-attr-preserved c =
     let so_far = subst (λ l. SoFar c.args.writer.now c.loop-attr.writer all (map attribute_part l) c.args.out.now.items c.loop-attr.out.items) c.in-Some.ensures.steps.0 c.loop-attr.invariant.0 in (
       one-more c.args.writer.now c.loop-attr.writer c.put_attribute.new.writer all (attribute_part c.in-Some.attr) left c.args.out.now.items c.loop-attr.out.items c.put_attribute.new.out.items so_far c.in_default.ensures.puts,
       c.in_default.ensures.names ∙ c.loop-attr.invariant.1,
+      c.in_default.ensures.last ∙ c.loop-attr.invariant.2,
     )
 
 pub returns-in-Err-clause-puts : goal.returns-in-Err-clause-puts
@@ -44,3 +46,6 @@ returns-clause-puts c =
 
 pub returns-clause-names : goal.returns-clause-names
 returns-clause-names c = c.loop-attr.invariant.1
+
+pub returns-clause-last : goal.returns-clause-last
+returns-clause-last c = c.loop-attr.invariant.2

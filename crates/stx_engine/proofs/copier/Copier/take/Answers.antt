@@ -10,13 +10,13 @@ returns-in-Start-clause-takes c =
     let s = c.args.self.now in
     let e : Element = record { offset = c.in-Start._offset; name = c.in-Start.name; attrs = c.in-Start.attrs; decls = c.in-Start.decls } in
     takes-same (start_ahead s e.name e.attrs e.decls) (given_by s c.args.event) c.start.new.self c.args.out.now.items c.start.new.out.items c.start.result
-    (λ f. ap (λ e. given_by s e f) c.in-Start.is ∙ told-start s e c.in-Start._first f) c.start.ensures.takes
+    (λ f. ap (λ e. given_by s e f) c.in-Start.is ∙ told-start s e c.in-Start.first f) c.start.ensures.takes
 
 pub returns-in-Chars-clause-takes : goal.returns-in-Chars-clause-takes
 returns-in-Chars-clause-takes c =
     let s = c.args.self.now in
-    takes-same (leaf_ahead s (leaf_parts s.pass (Chars 0 c.in-Chars.text))) (given_by s c.args.event) c.chars.new.self c.args.out.now.items c.chars.new.out.items c.chars.result
-    (λ f. ap (λ e. given_by s e f) c.in-Chars.is ∙ told-chars s c.in-Chars._offset c.in-Chars.text f) c.chars.ensures.takes
+    takes-same (leaf_ahead s (leaf_parts s.pass (Chars 0 c.in-Chars.text))) (given_by s c.args.event) c.chars-turn.new.self c.args.out.now.items c.chars-turn.new.out.items c.chars-turn.result
+    (λ f. ap (λ e. given_by s e f) c.in-Chars.is ∙ told-chars s c.in-Chars._offset c.in-Chars.text f) c.chars-turn.ensures.takes
 
 pub returns-in-Comment-clause-takes : goal.returns-in-Comment-clause-takes
 returns-in-Comment-clause-takes c =
