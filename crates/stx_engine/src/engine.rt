@@ -63,7 +63,7 @@ pub struct Engine {
     sheet: Text,
     reader: EventReader,
     copier: Copier,
-    /// Texts that the copier is done with.
+    /// Texts that the copier is done with, of which the reader makes others.
     spare: Spare,
     outcome: Option<Outcome>,
 }
@@ -214,7 +214,7 @@ impl Engine {
         ensures limits { self.new.reader.lexer.limits ≡ self.old.reader.lexer.limits }
         ensures sheet { self.new.sheet ≡ self.old.sheet }
     {
-        match self.reader.next() {
+        match self.reader.next(&mut self.spare) {
             Pull::Event(event) => match self.copier.take(event, &mut self.spare, out) {
                 Ok(Turn::More) => None,
                 Ok(Turn::Over) => Some(Reading::Complete),
