@@ -375,14 +375,14 @@ impl Opened {
         self.around.tag.attrs.fill(attrs);
     }
 
-    /// Ends the innermost element, and gives its name back where its tag was settled.
+    /// Ends the innermost element, and gives its name back.
     #[inline(always)]
     pub(crate) fn end(&mut self) -> Option<Name>
         ensures { (name : Name) → self.new ≡ behind self.old (End name) }
     {
         if self.around.holds {
             self.around.holds = false;
-            return None;
+            return Some(mem::replace(&mut self.around.tag.name, no_name(self.alloc)));
         }
         let OpenElement { name, declared } = self.around.elements.pop()?;
         let outer = self.around.bindings.len() - declared;
