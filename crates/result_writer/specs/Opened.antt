@@ -66,7 +66,7 @@ pub record Settles (old : Around) (d : Option Dressed) (new : Around) : Type 0 w
   pub elements : new.elements.items ≡ old.elements.items ++ elements_of (held old) d
   pub bindings : new.bindings.items ≡ old.bindings.items ++ declared_in d
   pub scope : new.tag.scope ≡ old.tag.scope
-  pub keeps : new.keeps ≡ true → (old.keeps ≡ true) × (declared_in d ≡ [])
+  pub keeps : new.keeps ≡ true → keep_bindings new.bindings.items new.tag.scope ≡ true
   pub settled : new.holds ≡ false
 
 pub record SameAround (old new : Around) : Type 0 where

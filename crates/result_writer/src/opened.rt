@@ -406,6 +406,7 @@ impl Around {
     /// The tag that is held back is settled: its element is open. After a refusal all is unchanged.
     #[inline(always)]
     fn settle(&mut self, alloc: Global, dressed: Option<Dressed>) -> Result<(), Memory>
+        requires { self.old.keeps ≡ true → keep_bindings self.old.bindings.items self.old.tag.scope ≡ true }
         ensures ok { OnOk result (Settles self.old (dressing (held self.old) dressed) self.new) }
         ensures err { OnErr result (SameAround self.old self.new) }
     {
@@ -421,7 +422,8 @@ impl Around {
     /// The same of a tag that is written with its names and values alone.
     #[inline(always)]
     fn settle_undressed(&mut self, alloc: Global) -> Result<(), Memory>
-        requires { self.old.holds ≡ true }
+        requires holds { self.old.holds ≡ true }
+        requires keeps { self.old.keeps ≡ true → keep_bindings self.old.bindings.items self.old.tag.scope ≡ true }
         ensures ok { OnOk result (Settles self.old (dressing (held self.old) None) self.new) }
         ensures err { OnErr result (SameAround self.old self.new) }
     {
@@ -443,9 +445,10 @@ impl Around {
         } = dressed;
         self.elements.reserve(1)?;
         self.bindings.reserve(declared.len())?;
-        self.keeps = self.keeps && declared.is_empty();
         self.open(alloc, declared.len());
         let _ = self.bindings.append(&mut declared.into_vec());
+        // What the tag declares is in force from here on, and most elements in it have its scope.
+        self.keeps = keep_bindings(&self.bindings, self.tag.scope.as_slice());
         Ok(())
     }
 
