@@ -5,13 +5,24 @@ ghost use Rattle.stx_base.specs.Course.{Begins};
 
 use stx_base::Memory;
 
+/// So many bytes are appended one by one.
+const SHORT: usize = 12;
+
 #[inline(always)]
 #[tactic(auto, using(crate::proofs::Growing::begins_self, crate::proofs::Growing::begins_append))]
 pub fn append(bytes: &[u8], out: &mut Vec<u8>) -> Result<(), Memory>
     ensures ok { OnOk result (out.new.items ≡ out.old.items ++ bytes.now) }
     ensures kept { Begins out.old.items out.new.items }
 {
-    out.extend_from_slice(bytes)?;
+    // Most are names, and so short that a loop over their bytes is faster than a call.
+    if bytes.len() > SHORT {
+        out.extend_from_slice(bytes)?;
+        return Ok(());
+    }
+    out.reserve(bytes.len())?;
+    for byte in bytes {
+        out.push_reserved(*byte);
+    }
     Ok(())
 }
 
