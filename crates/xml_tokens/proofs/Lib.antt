@@ -41,3 +41,4 @@ pub mod SayableLemmas
 pub mod SimpleLemmas
 pub mod PlainTagLemmas
 pub mod EndLemmas
+pub mod TableLemmas

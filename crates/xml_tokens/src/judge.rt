@@ -128,15 +128,6 @@ fn is_easy_byte(byte: u8) -> bool
     is_char && byte != b']'
 }
 
-/// A Char of ASCII but for `<`, `&`, `]` and a carriage return.
-pub fn is_plain_byte(byte: u8) -> bool
-    ensures { result ≡ span.is_plain_byte byte }
-{
-    // Letters and spaces take one way, since a branch that is guessed wrong costs more than a comparison.
-    let is_char = byte >= b' ' && byte < 0x80 || byte == b'\n' || byte == b'\t';
-    is_char && byte != b'<' && byte != b'&' && byte != b']'
-}
-
 /// Why bytes are no UTF-8, or say other characters than Chars (XML 1.0, 2.2).
 fn char_fault(bytes: &[u8]) -> Option<XmlKind>
     ensures { result ≡ span.char_fault bytes.now }

@@ -7,12 +7,12 @@ mod judge;
 pub mod laws;
 mod lexeme;
 mod lexer;
-mod name_byte;
 mod plain_tag;
 mod prolog;
 mod run;
 mod scan;
 mod simple;
+mod tables;
 mod tag;
 mod text;
 

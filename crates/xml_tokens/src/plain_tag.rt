@@ -7,6 +7,7 @@ ghost use Rattle.xml_tokens.specs.Simple.{IsBareName};
 ghost use Rattle.xml_tokens.specs.Spelling.{slash};
 
 use crate::lexeme::RawAttr;
+use crate::tables::is_plain_in_value;
 use crate::tag::{after_byte, ascii_name_len, ascii_named};
 use crate::text::text_from_spare;
 use std::alloc::Global;
@@ -115,16 +116,4 @@ fn plain_value_len(bytes: &[u8]) -> usize
     ensures bound { result ≤ length bytes.now }
 {
     bytes.iter().take_while(|b| is_plain_in_value(**b)).count()
-}
-
-/// A Char of ASCII that says itself in a value in double quotes.
-fn is_plain_in_value(byte: u8) -> bool
-    ensures { result ≡ spec.is_plain_in_value byte }
-{
-    // Most bytes of values are letters and digits, so these come first.
-    if byte > b'<' {
-        byte < 0x80
-    } else {
-        byte >= b' ' && !matches!(byte, b'"' | b'&' | b'<')
-    }
 }

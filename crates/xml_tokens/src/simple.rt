@@ -6,8 +6,9 @@ ghost use Rattle.xml_tokens.specs.Simple.{body_of, bytes_of, end_of, BeginsWith,
 
 use crate::cut::head;
 use crate::form::is_word;
-use crate::judge::{is_blank, is_plain_byte};
+use crate::judge::is_blank;
 use crate::lexeme::Body;
+use crate::tables::is_plain_byte;
 use crate::tag::{after_byte, ascii_name_len, ascii_named};
 use crate::text::text_from_spare;
 use std::alloc::Global;

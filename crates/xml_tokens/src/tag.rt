@@ -9,7 +9,7 @@ ghost use Rattle.xml_tokens.specs.Spans as span;
 
 use crate::cut::{head, tail};
 use crate::lexeme::{Body, RawAttr};
-use crate::name_byte::is_ascii_name_byte;
+use crate::tables::is_ascii_name_byte;
 use crate::text::{BadText, Context, is_name_of, said, text_of, until_byte};
 use std::alloc::Global;
 use stx_base::{List, Memory, is_name_start, is_space};

@@ -1,0 +1,61 @@
+//! Which bytes of ASCII may stand where, each told by one load from a table, where the ranges take several comparisons.
+ghost use Rattle.std.specs.Prelude.{◌≡◌};
+ghost use Rattle.xml_tokens.specs.PlainTags as tags;
+ghost use Rattle.xml_tokens.specs.Spans as span;
+
+// Each byte of a name stands at its own place, and a comma at every other place.
+static NAME_BYTES: [u8; 256] = *b"\
+    ,,,,,,,,,,,,,,,,,,,,,,,,,,,,,,,,\
+    ,,,,,,,,,,,,,-.,0123456789:,,,,,\
+    ,ABCDEFGHIJKLMNOPQRSTUVWXYZ,,,,_\
+    ,abcdefghijklmnopqrstuvwxyz,,,,,\
+    ,,,,,,,,,,,,,,,,,,,,,,,,,,,,,,,,\
+    ,,,,,,,,,,,,,,,,,,,,,,,,,,,,,,,,\
+    ,,,,,,,,,,,,,,,,,,,,,,,,,,,,,,,,\
+    ,,,,,,,,,,,,,,,,,,,,,,,,,,,,,,,,";
+
+// Each byte of a text that says itself stands at its own place, and `<`, which is none, at every other place.
+static PLAIN_BYTES: [u8; 256] = *b"\
+    <<<<<<<<<\t\n<<<<<<<<<<<<<<<<<<<<<\
+    \x20!\"#$%<'()*+,-./0123456789:;<=>?\
+    @ABCDEFGHIJKLMNOPQRSTUVWXYZ[\\<^_\
+    `abcdefghijklmnopqrstuvwxyz{|}~\x7f\
+    <<<<<<<<<<<<<<<<<<<<<<<<<<<<<<<<\
+    <<<<<<<<<<<<<<<<<<<<<<<<<<<<<<<<\
+    <<<<<<<<<<<<<<<<<<<<<<<<<<<<<<<<\
+    <<<<<<<<<<<<<<<<<<<<<<<<<<<<<<<<";
+
+// The same for values in double quotes.
+static VALUE_BYTES: [u8; 256] = *b"\
+    <<<<<<<<<<<<<<<<<<<<<<<<<<<<<<<<\
+    \x20!<#$%<'()*+,-./0123456789:;<=>?\
+    @ABCDEFGHIJKLMNOPQRSTUVWXYZ[\\]^_\
+    `abcdefghijklmnopqrstuvwxyz{|}~\x7f\
+    <<<<<<<<<<<<<<<<<<<<<<<<<<<<<<<<\
+    <<<<<<<<<<<<<<<<<<<<<<<<<<<<<<<<\
+    <<<<<<<<<<<<<<<<<<<<<<<<<<<<<<<<\
+    <<<<<<<<<<<<<<<<<<<<<<<<<<<<<<<<";
+
+/// Whether a byte is an ASCII character and a NameChar (XML 1.0, 2.3).
+#[inline(always)]
+pub fn is_ascii_name_byte(byte: u8) -> bool
+    ensures { result ≡ span.is_ascii_name_byte byte }
+{
+    NAME_BYTES[byte as usize] != b','
+}
+
+/// A Char of ASCII but for `<`, `&`, `]` and a carriage return.
+#[inline(always)]
+pub fn is_plain_byte(byte: u8) -> bool
+    ensures { result ≡ span.is_plain_byte byte }
+{
+    PLAIN_BYTES[byte as usize] != b'<'
+}
+
+/// A Char of ASCII that says itself in a value in double quotes.
+#[inline(always)]
+pub fn is_plain_in_value(byte: u8) -> bool
+    ensures { result ≡ tags.is_plain_in_value byte }
+{
+    VALUE_BYTES[byte as usize] != b'<'
+}
