@@ -326,6 +326,7 @@ impl Opened {
         ensures err { OnErr result (self.new ≡ self.old) }
     {
         self.around.settle(self.alloc, dressed)?;
+        self.around.tag.attrs.clear();
         self.around.hold(name, other);
         Ok(())
     }
@@ -467,9 +468,11 @@ impl Around {
         self.holds = false;
     }
 
-    /// Holds back a tag without attributes, of which the scope is the last one unless it is another.
+    /// Holds back a tag without attributes, of which the scope is the last one unless it is another. Those of the tag before are
+    /// dropped already.
     #[inline(always)]
     fn hold(&mut self, name: Name, other: Option<List<Binding>>)
+        requires { self.old.tag.attrs ≡ [] }
         ensures tag { self.new.tag ≡ record { name = name; scope = unwrap_or other self.old.tag.scope; attrs = [] } }
         ensures holds { self.new.holds ≡ true }
         ensures keeps { self.new.keeps ≡ true → (other ≡ None → self.old.keeps ≡ true) × (is_some other ≡ true → keep_bindings self.old.bindings.items self.new.tag.scope ≡ true) }
@@ -481,7 +484,6 @@ impl Around {
             self.tag.scope = other;
         }
         self.tag.name = name;
-        self.tag.attrs.clear();
         self.holds = true;
     }
 }
