@@ -9,6 +9,7 @@ mod Nesting
 mod Opening
 mod Prefixing
 mod Steadying
+mod TableLemmas
 mod Tabling
 mod Texts
 mod Together
