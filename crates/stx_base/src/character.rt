@@ -7,6 +7,29 @@ ghost use Rattle.stx_base.specs.Character as class;
 // From so many bytes on a loop over all of them is faster than one that ends early.
 const MANY: usize = 32;
 
+// Which bytes of ASCII are NameChars is told by one load, where their ranges take several comparisons.
+// Each of them stands at its own place, and a comma, which is none, at every other place.
+static NAME_BYTES: [u8; 256] = *b"\
+    ,,,,,,,,,,,,,,,,,,,,,,,,,,,,,,,,\
+    ,,,,,,,,,,,,,-.,0123456789:,,,,,\
+    ,ABCDEFGHIJKLMNOPQRSTUVWXYZ,,,,_\
+    ,abcdefghijklmnopqrstuvwxyz,,,,,\
+    ,,,,,,,,,,,,,,,,,,,,,,,,,,,,,,,,\
+    ,,,,,,,,,,,,,,,,,,,,,,,,,,,,,,,,\
+    ,,,,,,,,,,,,,,,,,,,,,,,,,,,,,,,,\
+    ,,,,,,,,,,,,,,,,,,,,,,,,,,,,,,,,";
+
+// The same without the colon.
+static NCNAME_BYTES: [u8; 256] = *b"\
+    ,,,,,,,,,,,,,,,,,,,,,,,,,,,,,,,,\
+    ,,,,,,,,,,,,,-.,0123456789,,,,,,\
+    ,ABCDEFGHIJKLMNOPQRSTUVWXYZ,,,,_\
+    ,abcdefghijklmnopqrstuvwxyz,,,,,\
+    ,,,,,,,,,,,,,,,,,,,,,,,,,,,,,,,,\
+    ,,,,,,,,,,,,,,,,,,,,,,,,,,,,,,,,\
+    ,,,,,,,,,,,,,,,,,,,,,,,,,,,,,,,,\
+    ,,,,,,,,,,,,,,,,,,,,,,,,,,,,,,,,";
+
 /// Whether `c` is a Char (XML 1.0, 2.2).
 #[inline]
 pub fn is_char(c: char) -> bool
@@ -113,24 +136,19 @@ fn is_wide_name_char(c: char) -> bool
 }
 
 /// Whether a byte is an ASCII character and a NameChar (XML 1.0, 2.3).
-#[inline]
+#[inline(always)]
 pub fn is_ascii_name_byte(byte: u8) -> bool
     ensures { result ≡ (nat_lt byte 128 && class.is_name_char byte) }
 {
-    is_ascii_ncname_byte(byte) || byte == b':'
+    NAME_BYTES[byte as usize] != b','
 }
 
 /// Whether a byte is an ASCII character and a NameChar other than a colon.
-#[inline]
+#[inline(always)]
 pub fn is_ascii_ncname_byte(byte: u8) -> bool
     ensures { result ≡ (nat_lt byte 128 && class.is_ncname_char byte) }
 {
-    // Most bytes of names are small letters, so these come first.
-    if byte >= b'a' {
-        byte <= b'z'
-    } else {
-        matches!(byte, b'A'..=b'Z' | b'0'..=b'9' | b'-' | b'.' | b'_')
-    }
+    NCNAME_BYTES[byte as usize] != b','
 }
 
 /// Whether `text` is a Name (XML 1.0, 2.3).
@@ -170,7 +188,8 @@ fn begins_as_ascii_name(bytes: &[u8]) -> bool
     ensures { result ≡ option_map_or class.is_name_start (slice_get bytes.now 0) false }
 {
     match bytes.first() {
-        Some(first) => is_name_start(char::from(*first)),
+        // No hyphen, dot or digit begins a name, and no other NameChar comes before `9`.
+        Some(first) => *first > b'9',
         None => false,
     }
 }
