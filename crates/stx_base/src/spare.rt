@@ -1,11 +1,13 @@
-ghost use Rattle.std.specs.Prelude.{◌≡◌, IfOk};
+ghost use Rattle.std.specs.Prelude.{◌≡◌, [], IfOk};
 ghost use Rattle.std.specs.Str.{chars};
 
+use crate::list::List;
 use crate::memory::Memory;
 use crate::name::{Attr, Name};
 use crate::text::Text;
 use std::alloc::Global;
 use std::marker::Model;
+use std::mem;
 
 /// A made text has room for so many bytes at least, so that most of the texts that are made of it later need no more.
 const ROOM: usize = 64;
@@ -13,16 +15,17 @@ const ROOM: usize = 64;
 /// A text with more room is not kept.
 const MOST_ROOM: usize = 256;
 
-/// No more texts are kept.
+/// No more texts are kept, nor a list of more attributes.
 const MOST: usize = 64;
 
-/// Texts that are done with, kept so that the next ones need no memory of their own: 16 KiB of them at most.
+/// Texts that are done with, and a list of attributes, kept so that the next ones need no memory of their own: 16 KiB of texts at most.
 ///
 /// Contracts don't see what it holds, since only the time that a text takes hangs on it.
 #[derive(Debug, Drop)]
 pub struct Spare {
     alloc: Global,
     strings: Vec<String>,
+    attrs: List<Attr>,
 }
 
 impl Model for Spare {
@@ -39,6 +42,7 @@ impl Spare {
         Spare {
             alloc,
             strings: Vec::new(alloc),
+            attrs: List::new(alloc),
         }
     }
 
@@ -80,5 +84,26 @@ impl Spare {
         let Attr { name, value } = attr;
         self.keep_name(name);
         self.keep(value);
+    }
+
+    /// A list of no attributes. Allocates nothing.
+    #[inline]
+    pub fn attrs(&mut self) -> List<Attr>
+        ensures { result ≡ [] }
+    {
+        let mut attrs = mem::replace(&mut self.attrs, List::new(self.alloc));
+        attrs.truncate(0);
+        attrs
+    }
+
+    /// Takes a list of attributes back, and their texts.
+    pub fn keep_attrs(&mut self, mut attrs: List<Attr>) {
+        let few = attrs.len() <= MOST;
+        while let Some(attr) = attrs.pop() {
+            self.keep_attr(attr);
+        }
+        if few {
+            self.attrs = attrs;
+        }
     }
 }

@@ -148,6 +148,7 @@ fn names_without_colon(rt: HostRuntime) {
         (":a", false),
         ("-a", false),
         ("1a", false),
+        ("9a", false),
         ("Zz09", true),
         ("[a", false),
         ("a[", false),
@@ -293,6 +294,46 @@ fn texts(rt: HostRuntime) -> Result<(), Fail> {
     assert_eq!(rt; text.as_str(), "étage");
     assert!(rt; text.same(&Text::from_string(String::from_str(alloc, "étage")?)));
     assert_eq!(rt; text.copy(alloc)?.into_string().as_str(), "étage");
+    Ok(())
+}
+
+#[test]
+fn texts_made_of_spare_ones(rt: HostRuntime) -> Result<(), Fail> {
+    let alloc = rt.alloc();
+    let mut spare = Spare::new(alloc);
+    // The first has too little room to be kept, and the long one too much.
+    spare.keep(Text::of(alloc, "a")?);
+    let long = "étage ".repeat(alloc, 100)?;
+    for text in ["", "étage", long.as_str(), "rez", ""] {
+        let made = spare.text(text)?;
+        assert_eq!(rt; made.as_str(), text);
+        spare.keep(made);
+    }
+    // More than are kept.
+    for _ in 0..70 {
+        spare.keep_name(expanded(alloc)?);
+    }
+    assert_eq!(rt; spare.text("cave")?.as_str(), "cave");
+    Ok(())
+}
+
+#[test]
+fn lists_made_of_spare_ones(rt: HostRuntime) -> Result<(), Fail> {
+    let alloc = rt.alloc();
+    let mut spare = Spare::new(alloc);
+    for count in [0, 1, 3, 70, 2] {
+        let mut attrs = spare.attrs();
+        assert!(rt; attrs.is_empty());
+        for _ in 0..count {
+            let value = spare.text("v")?;
+            attrs.push(Attr {
+                name: expanded(alloc)?,
+                value,
+            })?;
+        }
+        spare.keep_attrs(attrs);
+    }
+    assert!(rt; spare.attrs().is_empty());
     Ok(())
 }
 
