@@ -7,7 +7,6 @@ use crate::name::{Attr, Name};
 use crate::text::Text;
 use std::alloc::Global;
 use std::marker::Model;
-use std::mem;
 
 /// A made text has room for so many bytes at least, so that most of the texts that are made of it later need no more.
 const ROOM: usize = 64;
@@ -15,17 +14,24 @@ const ROOM: usize = 64;
 /// A text with more room is not kept.
 const MOST_ROOM: usize = 256;
 
-/// No more texts are kept, nor a list of more attributes.
+/// No more texts are kept.
 const MOST: usize = 64;
 
-/// Texts that are done with, and a list of attributes, kept so that the next ones need no memory of their own: 16 KiB of texts at most.
+/// A list of more attributes is not kept.
+const MOST_ATTRS: usize = 16;
+
+/// No more lists of attributes are kept.
+const MOST_LISTS: usize = 4;
+
+/// Texts that are done with, and lists of attributes, kept so that the next ones need no memory of their own: 16 KiB of texts at most,
+/// and a few short lists.
 ///
 /// Contracts don't see what it holds, since only the time that a text takes hangs on it.
 #[derive(Debug, Drop)]
 pub struct Spare {
     alloc: Global,
     strings: Vec<String>,
-    attrs: List<Attr>,
+    lists: Vec<List<Attr>>,
 }
 
 impl Model for Spare {
@@ -42,7 +48,7 @@ impl Spare {
         Spare {
             alloc,
             strings: Vec::new(alloc),
-            attrs: List::new(alloc),
+            lists: Vec::new(alloc),
         }
     }
 
@@ -91,19 +97,24 @@ impl Spare {
     pub fn attrs(&mut self) -> List<Attr>
         ensures { result ≡ [] }
     {
-        let mut attrs = mem::replace(&mut self.attrs, List::new(self.alloc));
-        attrs.truncate(0);
-        attrs
+        match self.lists.pop() {
+            Some(mut attrs) => {
+                attrs.truncate(0);
+                attrs
+            }
+            None => List::new(self.alloc),
+        }
     }
 
     /// Takes a list of attributes back, and their texts.
     pub fn keep_attrs(&mut self, mut attrs: List<Attr>) {
-        let few = attrs.len() <= MOST;
+        let few = attrs.len() <= MOST_ATTRS;
         while let Some(attr) = attrs.pop() {
             self.keep_attr(attr);
         }
-        if few {
-            self.attrs = attrs;
+        if few && self.lists.len() < MOST_LISTS {
+            // Where memory doesn't suffice, it is dropped.
+            let _ = self.lists.push(attrs);
         }
     }
 }
