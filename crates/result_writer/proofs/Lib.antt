@@ -9,7 +9,6 @@ mod Nesting
 mod Opening
 mod Prefixing
 mod Steadying
-mod TableLemmas
 mod Tabling
 mod Texts
 mod Together

@@ -1,46 +1,18 @@
 //! What may stand in a result.
 
-ghost use Rattle.std.specs.Prelude.{◌≡◌, ◌==◌, ◌&&◌, nat_lt, true};
+ghost use Rattle.std.specs.Prelude.{◌≡◌, ◌==◌};
 ghost use Rattle.std.specs.List.{list_all, list_any};
 ghost use Rattle.std.specs.Str.{chars};
-ghost use Rattle.stx_base.specs.Character as character;
 ghost use Rattle.stx_base.specs.Character.{is_char};
 ghost use Rattle.result_writer.specs.Allowed as spec;
 ghost use Rattle.result_writer.specs.Allowed.{has_pair, ends_in, is_good_attribute, is_good_comment, is_good_data, is_good_target, are_chars};
 
-use crate::tables::is_ascii_ncname_byte;
 use crate::words::{agree, is_empty, is_word};
-use stx_base::{Name, Text, are_ascii_chars, is_char};
+use stx_base::{Name, Text, are_ascii_chars, is_char, is_ncname};
 
 const XML_URI: &'static str = "http://www.w3.org/XML/1998/namespace";
 
 const XMLNS_URI: &'static str = "http://www.w3.org/2000/xmlns/";
-
-/// Whether text is an NCName (Namespaces in XML 1.0, 3).
-fn is_ncname(text: &str) -> bool
-    ensures { result ≡ character.is_ncname (chars text.now) }
-{
-    is_ascii_ncname(text.as_bytes()) || stx_base::is_ncname(text)
-}
-
-// Most names are of ASCII characters alone, which one look at each shows.
-#[inline(always)]
-fn is_ascii_ncname(bytes: &[u8]) -> bool
-    ensures { result ≡ true → character.is_ncname (chars bytes.now) ≡ true }
-{
-    match bytes.first() {
-        None => false,
-        // Of these bytes the digits, `-` and `.`, which begin no name, come before all others.
-        Some(first) => *first > b'9' && are_ascii_ncname_bytes(bytes),
-    }
-}
-
-#[inline(always)]
-fn are_ascii_ncname_bytes(bytes: &[u8]) -> bool
-    ensures { result ≡ list_all (λ b. nat_lt b 128 && character.is_ncname_char b) bytes.now }
-{
-    bytes.iter().all(|byte| is_ascii_ncname_byte(*byte))
-}
 
 /// Whether a name is an NCName, or two with a colon between them (Namespaces in XML 1.0, 4).
 fn is_qname(name: &Name) -> bool

@@ -12,7 +12,6 @@ mod opened;
 mod order;
 mod steady;
 mod table;
-mod tables;
 mod tag;
 mod words;
 mod writer;
