@@ -107,7 +107,7 @@ impl Attributes {
         if self.list.len() > FEW {
             self.places.clear();
         }
-        keep_attrs(mem::replace(&mut self.list, List::new(self.alloc)), spare);
+        spare.keep_attrs(mem::replace(&mut self.list, List::new(self.alloc)));
     }
 
     /// Where the first attribute of the name stands.
@@ -164,12 +164,6 @@ impl Attributes {
                 Err(Memory)
             }
         }
-    }
-}
-
-fn keep_attrs(attrs: List<Attr>, spare: &mut Spare) {
-    for attr in attrs.into_vec() {
-        spare.keep_attr(attr);
     }
 }
 
