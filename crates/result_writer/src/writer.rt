@@ -388,7 +388,7 @@ fn start_again_dressed(
     opened.start_again(name, dressed, spare)
 }
 
-/// The same of the end of the innermost element, whose name is given back where its tag was settled.
+/// The same of the end of the innermost element, whose name is given back.
 #[inline(always)]
 #[tactic(auto, using(crate::proofs::Growing::begins_trans, crate::proofs::Growing::begins_self))]
 fn end(opened: &mut Opened, out: &mut Vec<u8>) -> Result<Option<Name>, Memory>
