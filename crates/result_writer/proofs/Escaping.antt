@@ -1,7 +1,7 @@
 -- Bytes that stand for themselves.
-use Rattle.std.proofs.Common.{◌≡◌, ℕ, ◌+◌, Bool, true, false, not, ◌&&◌, ◌==◌, List, [], ◌∷◌, ◌++◌, take, drop, refl, sym, ap, ◌∙◌, append_assoc}
+use Rattle.std.proofs.Common.{◌≡◌, ℕ, ◌+◌, Bool, true, false, not, ◌&&◌, ◌==◌, List, [], ◌∷◌, ◌++◌, suc, cond, take, drop, refl, sym, ap, ◌∙◌, arith, append_assoc}
 use Rattle.std.specs.Prelude.{nat_lt}
-use Rattle.std.specs.List.{list_all}
+use Rattle.std.specs.List.{list_all, prefix_len}
 use Rattle.stx_base.specs.Character.{is_char}
 use Rattle.std.proofs.Math.Seq.{take-add}
 use Rattle.std.proofs.lemmas.Grind.{flat_map-append}
@@ -35,6 +35,16 @@ all_append p (x ∷ a) b h k =
 -- so many bytes pass, and then so many more
 pub all_more : (p : ℕ → Bool) (bs : List ℕ) (m n : ℕ) → list_all p (take m bs) ≡ true → list_all p (take n (drop m bs)) ≡ true → list_all p (take (m + n) bs) ≡ true
 all_more p bs m n h k = ap (list_all p) (take-add m n bs) ∙ all_append p (take m bs) (take n (drop m bs)) h k
+
+-- the bytes before the first that doesn't pass
+pub front_passes : (p : ℕ → Bool) (bs : List ℕ) → list_all p (take (prefix_len p bs) bs) ≡ true
+front_passes p [] = refl
+front_passes p (b ∷ bs) = by_test (front_passes p bs) (p b) refl where
+  by_test : list_all p (take (prefix_len p bs) bs) ≡ true → (t : Bool) → p b ≡ t → list_all p (take (cond t (1 + prefix_len p bs) 0) (b ∷ bs)) ≡ true
+  by_test more true e =
+      let n : 1 + prefix_len p bs ≡ suc (prefix_len p bs) = omega arith in
+      ap (λ k. list_all p (take k (b ∷ bs))) n ∙ (ap (λ t. t && list_all p (take (prefix_len p bs) bs)) e ∙ more)
+  by_test more false e = refl
 
 abbrev pub is_low : ℕ → Bool
 is_low b = nat_lt b 128 && is_char b

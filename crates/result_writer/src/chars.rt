@@ -1,7 +1,7 @@
 //! Characters as they are written. Most of them are ASCII and stand for themselves, which one look at each shows.
 
 ghost use Rattle.std.specs.Prelude.{◌≡◌, ◌++◌, ◌≤◌, None, length, take, true, IfErr, OnOk};
-ghost use Rattle.std.specs.List.{list_all};
+ghost use Rattle.std.specs.List.{list_all, prefix_len};
 ghost use Rattle.std.specs.Str.{chars};
 ghost use Rattle.stx_base.specs.Character.{is_char};
 ghost use Rattle.stx_base.specs.Course.{Begins};
@@ -14,10 +14,14 @@ use crate::allowed::holds_chars;
 use crate::bytes::append;
 use crate::escape::{Context, append_escaped, append_written};
 use crate::fault::{ResultFault, WriteStop};
+use crate::tables::is_plain_byte;
 use stx_base::is_ascii_char;
 
 /// So many bytes are looked at together.
 const MANY: u8 = 64;
+
+/// Fewer bytes are looked up one by one.
+const FEW: usize = 16;
 
 /// Appends characters, with references for those that can't stand for themselves, where each is a Char.
 #[tactic(auto, using(crate::proofs::Growing::begins_trans, crate::proofs::Growing::begins_self))]
@@ -62,6 +66,9 @@ fn plain_ascii_len(bytes: &[u8]) -> usize
     ensures within { result ≤ length bytes.now }
     ensures plain { list_all is_plain_ascii (take result bytes.now) ≡ true }
 {
+    if bytes.len() < FEW {
+        return short_plain_ascii_len(bytes);
+    }
     let mut len = 0;
     while len < bytes.len() {
         let (_, rest) = bytes.split_at(len);
@@ -72,6 +79,15 @@ fn plain_ascii_len(bytes: &[u8]) -> usize
         len = len + front.len();
     }
     len
+}
+
+// The same of few bytes, where looking at many together takes longer than it saves.
+#[inline(always)]
+fn short_plain_ascii_len(bytes: &[u8]) -> usize
+    ensures value { result ≡ prefix_len is_plain_ascii bytes.now }
+    ensures bound { result ≤ length bytes.now }
+{
+    bytes.iter().take_while(|b| is_plain_byte(**b)).count()
 }
 
 // A function of its own, whose loop is then taken for one over many bytes.

@@ -12,6 +12,7 @@ mod opened;
 mod order;
 mod steady;
 mod table;
+mod tables;
 mod tag;
 mod words;
 mod writer;

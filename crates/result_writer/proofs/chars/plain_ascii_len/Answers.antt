@@ -2,8 +2,13 @@ use Rattle.std.proofs.Common.{◌≡◌, ◌+◌, ◌≤◌, length, take, drop,
 use Rattle.std.specs.List.{list_all}
 use Rattle.result_writer.specs.Escape.{is_plain_ascii}
 use Rattle.std.proofs.lemmas.List.{take-take}
-use Rattle.result_writer.proofs.Escaping.{all_more}
+use Rattle.result_writer.proofs.Escaping.{all_more, front_passes}
 use Rattle.result_writer.proofs.chars.plain_ascii_len.Goals as goal
+
+pub returns-then-bytes-lt-FEW-clause-plain : goal.returns-then-bytes-lt-FEW-clause-plain
+returns-then-bytes-lt-FEW-clause-plain c =
+    let bytes = c.args.bytes.now in
+    ap (λ n. list_all is_plain_ascii (take n bytes)) c.short_plain_ascii_len.ensures.value ∙ front_passes is_plain_ascii bytes
 
 pub returns-then-not-are_plain_ascii-clause-plain : goal.returns-then-not-are_plain_ascii-clause-plain
 returns-then-not-are_plain_ascii-clause-plain c =

@@ -1,0 +1,12 @@
+use Rattle.std.proofs.Common.{◌≡◌, refl, arith}
+use Rattle.stx_base.proofs.TableLemmas.{read, table_of}
+use Rattle.result_writer.specs.Escape.{is_plain_ascii}
+use Rattle.result_writer.specs.declared.tables.TheConstants.{PLAIN_BYTES}
+use Rattle.result_writer.proofs.tables.is_plain_byte.Goals as goal
+
+-- the table is held against the definition at each of the 256 bytes, by computing
+table_is : PLAIN_BYTES ≡ table_of is_plain_ascii 60
+table_is = refl
+
+pub returns : goal.returns
+returns c = read is_plain_ascii 60 refl PLAIN_BYTES table_is c.args.byte (omega arith)
