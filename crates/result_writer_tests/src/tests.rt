@@ -274,6 +274,76 @@ fn long_texts(rt: HostRuntime) -> Result<(), Fail> {
     check_all(&rt, rt.alloc(), rows::long_texts())
 }
 
+/// The characters up to `\u{FF}` that don't stand for themselves in content, and what is written of each.
+const REFERENCES: [(char, &str); 4] = [
+    ('&', "&amp;"),
+    ('<', "&lt;"),
+    ('>', "&gt;"),
+    ('\r', "&#13;"),
+];
+
+fn reference_of(c: char) -> Option<&'static str> {
+    let (_, reference) = REFERENCES.iter().find(|pair| pair.0 == c)?;
+    Some(reference)
+}
+
+/// So many characters, all but that at the place like one another.
+fn text_with(alloc: Global, c: char, at: usize, len: usize) -> Result<Text, Memory> {
+    let mut text = String::new(alloc);
+    for place in 0..len {
+        text.push(if place == at { c } else { 'x' })?;
+    }
+    Text::of(alloc, text.as_str())
+}
+
+/// What is written of them. None where a character is no Char.
+fn written_with(alloc: Global, c: char, at: usize, len: usize) -> Result<Option<String>, Memory> {
+    if c < ' ' && !matches!(c, '\t' | '\n' | '\r') {
+        return Ok(None);
+    }
+    let mut written = String::new(alloc);
+    for place in 0..len {
+        match reference_of(c) {
+            Some(reference) if place == at => written.push_str(reference)?,
+            _ => written.push(if place == at { c } else { 'x' })?,
+        }
+    }
+    Ok(Some(written))
+}
+
+fn check_short(
+    rt: &impl Abort,
+    alloc: Global,
+    text: &Text,
+    wanted: Option<&str>,
+) -> Result<(), Fail> {
+    let mut out = Vec::new(alloc);
+    let answer = Writer::new(alloc, 1).put_chars(text, &mut out);
+    let refused = Err(WriteStop::Fault(ResultFault::BadChar));
+    let wanted_answer = if wanted.is_some() { Ok(()) } else { refused };
+    assert_eq!(rt; answer, wanted_answer, "{text:?}");
+    let found = std::str::from_utf8(out.as_slice()).unwrap_or("bytes that are no text");
+    assert_eq!(rt; found, wanted.unwrap_or(""), "{text:?}");
+    Ok(())
+}
+
+// Few bytes are looked up one by one, and more are looked at together: each character is told in each place of both.
+#[test]
+fn short_texts(rt: HostRuntime) -> Result<(), Fail> {
+    let alloc = rt.alloc();
+    for byte in 0..=255u8 {
+        let c = char::from(byte);
+        for len in 1..=20usize {
+            for at in 0..len {
+                let text = text_with(alloc, c, at, len)?;
+                let wanted = written_with(alloc, c, at, len)?;
+                check_short(&rt, alloc, &text, wanted.as_deref())?;
+            }
+        }
+    }
+    Ok(())
+}
+
 #[test]
 fn refused_parts(rt: HostRuntime) -> Result<(), Fail> {
     check_all(&rt, rt.alloc(), rows::names())?;
