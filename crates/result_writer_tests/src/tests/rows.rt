@@ -187,7 +187,6 @@ static ESCAPES: [Row; 10] = [
     ),
 ];
 
-// Comments and instructions are written as they are.
 // Texts of so many bytes that they are judged and written piece by piece.
 static LONG_TEXTS: [Row; 12] = [
     (
@@ -306,6 +305,7 @@ static LONG_TEXTS: [Row; 12] = [
     ),
 ];
 
+// Comments and instructions are written as they are.
 static COMMENTS: [Row; 10] = [
     (&[Start("a"), Comment(""), End("a")], "<a><!----></a>", ""),
     (
