@@ -41,4 +41,3 @@ pub mod SayableLemmas
 pub mod SimpleLemmas
 pub mod PlainTagLemmas
 pub mod EndLemmas
-pub mod TableLemmas

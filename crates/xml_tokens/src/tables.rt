@@ -3,17 +3,6 @@ ghost use Rattle.std.specs.Prelude.{◌≡◌};
 ghost use Rattle.xml_tokens.specs.PlainTags as tags;
 ghost use Rattle.xml_tokens.specs.Spans as span;
 
-// Each byte of a name stands at its own place, and a comma at every other place.
-static NAME_BYTES: [u8; 256] = *b"\
-    ,,,,,,,,,,,,,,,,,,,,,,,,,,,,,,,,\
-    ,,,,,,,,,,,,,-.,0123456789:,,,,,\
-    ,ABCDEFGHIJKLMNOPQRSTUVWXYZ,,,,_\
-    ,abcdefghijklmnopqrstuvwxyz,,,,,\
-    ,,,,,,,,,,,,,,,,,,,,,,,,,,,,,,,,\
-    ,,,,,,,,,,,,,,,,,,,,,,,,,,,,,,,,\
-    ,,,,,,,,,,,,,,,,,,,,,,,,,,,,,,,,\
-    ,,,,,,,,,,,,,,,,,,,,,,,,,,,,,,,,";
-
 // Each byte of a text that says itself stands at its own place, and `<`, which is none, at every other place.
 static PLAIN_BYTES: [u8; 256] = *b"\
     <<<<<<<<<\t\n<<<<<<<<<<<<<<<<<<<<<\
@@ -35,14 +24,6 @@ static VALUE_BYTES: [u8; 256] = *b"\
     <<<<<<<<<<<<<<<<<<<<<<<<<<<<<<<<\
     <<<<<<<<<<<<<<<<<<<<<<<<<<<<<<<<\
     <<<<<<<<<<<<<<<<<<<<<<<<<<<<<<<<";
-
-/// Whether a byte is an ASCII character and a NameChar (XML 1.0, 2.3).
-#[inline(always)]
-pub fn is_ascii_name_byte(byte: u8) -> bool
-    ensures { result ≡ span.is_ascii_name_byte byte }
-{
-    NAME_BYTES[byte as usize] != b','
-}
 
 /// A Char of ASCII but for `<`, `&`, `]` and a carriage return.
 #[inline(always)]

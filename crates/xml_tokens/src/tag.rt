@@ -9,10 +9,9 @@ ghost use Rattle.xml_tokens.specs.Spans as span;
 
 use crate::cut::{head, tail};
 use crate::lexeme::{Body, RawAttr};
-use crate::tables::is_ascii_name_byte;
 use crate::text::{BadText, Context, is_name_of, said, text_of, until_byte};
 use std::alloc::Global;
-use stx_base::{List, Memory, is_name_start, is_space};
+use stx_base::{List, Memory, is_ascii_name_byte, is_name_start, is_space};
 
 fn name_len(bytes: &[u8]) -> usize
     ensures value { result ≡ prefix_len spec.is_name_byte bytes.now }

@@ -13,10 +13,9 @@ ghost use Rattle.xml_tokens.specs.declared.text.Context.TheVariants as context;
 
 use crate::cut::{head, place_of, tail};
 use crate::form::{begins, is_word};
-use crate::tables::is_ascii_name_byte;
 use memchr::{memchr, memchr2, memchr3};
 use std::alloc::{AllocError, Global};
-use stx_base::{Memory, Spare, Text, is_char, is_name, is_name_start};
+use stx_base::{Memory, Spare, Text, is_ascii_name_byte, is_char, is_name, is_name_start};
 
 /// Where bytes stand that say a text.
 #[derive(Clone, Copy, Debug, PartialEq, Eq)]

@@ -1,7 +1,7 @@
 use Rattle.std.proofs.Common.{◌≡◌, refl, arith}
 use Rattle.xml_tokens.specs.PlainTags.{is_plain_in_value}
 use Rattle.xml_tokens.specs.declared.tables.TheConstants.{VALUE_BYTES}
-use Rattle.xml_tokens.proofs.TableLemmas.{read, table_of}
+use Rattle.stx_base.proofs.TableLemmas.{read, table_of}
 use Rattle.xml_tokens.proofs.tables.is_plain_in_value.Goals as goal
 
 -- the table is held against the definition at each of the 256 bytes, by computing
