@@ -294,7 +294,9 @@ fn unsearched_tag(
     }
 }
 
-/// What a whole shape behind a byte order mark of `mark` bytes gives.
+/// What a whole shape behind a byte order mark of `mark` bytes gives. Kept out of line, so that the code that most lexemes
+/// run lies close together.
+#[inline(never)]
 fn at_shape(alloc: Global, limits: &Limits, bytes: &[u8], first: bool, at: u64, mark: usize) -> Due
     requires { mark + length bytes.now < 2 ^ 64 }
     ensures { IsShapeDue limits.now first bytes.now at mark result }

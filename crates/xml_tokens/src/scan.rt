@@ -32,7 +32,9 @@ pub enum Found {
     Unended(Scan),
 }
 
-/// Goes on with the search for the end of the shape that the bytes begin with.
+/// Goes on with the search for the end of the shape that the bytes begin with. Kept out of line, so that the code that most
+/// lexemes run lies close together.
+#[inline(never)]
 pub fn search(bytes: &[u8], ended: bool, scan: Scan) -> Found
     requires { AlwaysResumes scan bytes.now }
     ensures { IsFound ended bytes.now result }
