@@ -1,10 +1,9 @@
 -- Tags that are written plainly are spelled so.
-use Rattle.std.proofs.Common.{◌≡◌, ℕ, suc, ◌+◌, ◌<◌, ◌≤◌, Bool, true, false, not, ◌&&◌, ◌==◌, List, [], ◌∷◌, ◌++◌, Option, Some, None, Ok, length, length-append, append_assoc, take, drop, refl, sym, ap, ◌∙◌, arith, subst, cond, chars, IsUtf8}
-use Rattle.std.specs.List.{list_all, list_any, prefix_len}
-use Rattle.std.proofs.lemmas.List.{append-nil, take-append-drop}
+use Rattle.std.proofs.Common.{◌≡◌, ℕ, ◌<◌, ◌≤◌, Bool, true, false, not, ◌&&◌, ◌==◌, List, [], ◌∷◌, ◌++◌, Some, Ok, length, length-append, append_assoc, take, refl, sym, ap, ◌∙◌, arith, subst, cond, chars, IsUtf8}
+use Rattle.std.specs.List.{list_all, list_any}
+use Rattle.std.proofs.lemmas.List.{append-nil}
 use Rattle.std.proofs.lemmas.List.Folds.{list_all-append}
 use Rattle.std.proofs.lemmas.Str.{encodes-chars}
-use Rattle.stx_base.specs.Character.{is_name_start}
 use Rattle.stx_base.specs.declared.limits.Limits.{Limits}
 use Rattle.stx_base.specs.declared.fault.XmlKind.TheVariants.{LexemeTooLong}
 use Rattle.xml_tokens.specs.Reader.{at_shape, lexeme_or_fault}
@@ -13,45 +12,21 @@ use Rattle.xml_tokens.specs.PlainTags.{is_low_char, is_plain_in_value, AreFirst,
 use Rattle.xml_tokens.specs.Shape.{shape_len}
 use Rattle.xml_tokens.specs.Judged.{judged}
 use Rattle.xml_tokens.specs.Simple.{IsBareName}
-use Rattle.xml_tokens.specs.Spans.{cut_name, is_ascii_name_byte, is_break, is_changed, is_literal}
+use Rattle.xml_tokens.specs.Spans.{is_break, is_changed, is_literal}
 use Rattle.xml_tokens.specs.Spelling.{slash, SpellsAttribute, SpellsAttributes, SpellsText}
 use Rattle.xml_tokens.specs.Texts.{is_ampersand}
 use Rattle.xml_tokens.specs.declared.lexeme.Body.TheVariants as body
 use Rattle.xml_tokens.specs.declared.lexeme.RawAttr.{RawAttr}
 use Rattle.xml_tokens.specs.declared.plain_tag.PlainTag.{PlainTag}
 use Rattle.xml_tokens.specs.declared.text.Context.TheVariants.{Value}
-use Rattle.xml_tokens.proofs.AttributeLemmas.{some_if}
 use Rattle.xml_tokens.proofs.LexemeSpelling.{lexemes-read}
-use Rattle.xml_tokens.proofs.ListLemmas.{all-none, prefix-all}
+use Rattle.xml_tokens.proofs.ListLemmas.{all-none}
 use Rattle.xml_tokens.proofs.LiteralLemmas.{literal-said}
-use Rattle.xml_tokens.proofs.NameLemmas.{one-more}
-use Rattle.xml_tokens.proofs.PlainLemmas.{all-both, ascii-name, low-chars, low-utf8}
+use Rattle.xml_tokens.proofs.PlainLemmas.{all-both, low-chars, low-utf8}
 use Rattle.xml_tokens.proofs.ShapeSpelling.{lexemes-cut}
 use Rattle.xml_tokens.proofs.SimpleLemmas.{both_true, name-low, name-utf8, not_less, take-front}
 use Rattle.xml_tokens.proofs.TagSpelling.{text-again, text-chars}
 use Rattle.xml_tokens.proofs.TextReading.{texts-spelled}
-
--- a name that is cut off
-pub name-cut : (bytes name rest : List ℕ) → cut_name (prefix_len is_ascii_name_byte bytes) bytes ≡ Some (name, rest) → 0 < prefix_len is_ascii_name_byte bytes → IsBareName name × (bytes ≡ name ++ rest)
-name-cut [] name rest h some = absurd cc
-name-cut (b ∷ bs) name rest h some = by_test (is_ascii_name_byte b) refl h some where
-  k : ℕ
-  k = prefix_len is_ascii_name_byte bs
-
-  starts : (n : ℕ) (t : Bool) → cond {A = Option (List ℕ × List ℕ)} t (Some (take n (b ∷ bs), drop n (b ∷ bs))) None ≡ Some (name, rest) → (t ≡ true) × (take n (b ∷ bs) ≡ name) × (drop n (b ∷ bs) ≡ rest)
-  starts n true q =
-      let e = some_if true (take n (b ∷ bs), drop n (b ∷ bs)) (name, rest) q in
-      (refl, ap (λ (p : List ℕ × List ℕ). p.0) e, ap (λ (p : List ℕ × List ℕ). p.1) e)
-  starts n false q = absurd cc
-
-  by_test : (t : Bool) → is_ascii_name_byte b ≡ t → cut_name (cond t (1 + k) 0) (b ∷ bs) ≡ Some (name, rest) → 0 < cond t (1 + k) 0 → IsBareName name × (b ∷ bs ≡ name ++ rest)
-  by_test true p q more =
-      let cut = starts (suc k) (is_name_start b) (ap (λ n. cut_name n (b ∷ bs)) (sym (one-more k)) ∙ q) in
-      let all : list_all is_ascii_name_byte (b ∷ take k bs) ≡ true = both_true (is_ascii_name_byte b) (list_all is_ascii_name_byte (take k bs)) p (prefix-all is_ascii_name_byte bs) in (
-        subst IsBareName cut.1 (all, ascii-name b (take k bs) all ∙ cut.0),
-        ap (λ l. b ∷ l) (sym (take-append-drop k bs)) ∙ (ap (λ l. (b ∷ take k bs) ++ l) cut.2 ∙ ap (λ l. l ++ rest) cut.1),
-      )
-  by_test false p q more = absurd (omega (arith, more))
 
 -- a value that is plain says itself
 module _ (value : List ℕ) (plain : list_all is_plain_in_value value ≡ true) where

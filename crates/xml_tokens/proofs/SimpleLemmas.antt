@@ -93,13 +93,10 @@ simple-front simple bytes (is, (more, e, follows)) = (
   sym (ap (take (length (bytes_of simple))) e ∙ take-front (bytes_of simple) more),
 )
 
--- a name that a `>` follows
-pub before-more : (b : ℕ) (front bytes : List ℕ) → (before : IsBefore b front bytes) → bytes ≡ (front ++ b ∷ []) ++ before.0
-before-more b front bytes before = before.1 ∙ sym (append_assoc front (b ∷ []) before.0)
-
-pub bare-found : (bytes name rest more : List ℕ) → cut_name (prefix_len is_ascii_name_byte bytes) bytes ≡ Some (name, rest) → after_byte 62 rest ≡ Some more → IsBareName name × IsBefore 62 name bytes
-bare-found [] name rest more h e = absurd cc
-bare-found (b ∷ bs) name rest more h e = by_test (is_ascii_name_byte b) refl h where
+-- a name that is cut off
+pub name-cut : (bytes name rest : List ℕ) → cut_name (prefix_len is_ascii_name_byte bytes) bytes ≡ Some (name, rest) → 0 < prefix_len is_ascii_name_byte bytes → IsBareName name × (bytes ≡ name ++ rest)
+name-cut [] name rest h some = absurd cc
+name-cut (b ∷ bs) name rest h some = by_test (is_ascii_name_byte b) refl h some where
   k : ℕ
   k = prefix_len is_ascii_name_byte bs
 
@@ -109,20 +106,18 @@ bare-found (b ∷ bs) name rest more h e = by_test (is_ascii_name_byte b) refl h
       (refl, ap (λ (p : List ℕ × List ℕ). p.0) e, ap (λ (p : List ℕ × List ℕ). p.1) e)
   starts n false q = absurd cc
 
-  by_test : (t : Bool) → is_ascii_name_byte b ≡ t → cut_name (cond t (1 + k) 0) (b ∷ bs) ≡ Some (name, rest) → IsBareName name × IsBefore 62 name (b ∷ bs)
-  by_test true p q =
+  by_test : (t : Bool) → is_ascii_name_byte b ≡ t → cut_name (cond t (1 + k) 0) (b ∷ bs) ≡ Some (name, rest) → 0 < cond t (1 + k) 0 → IsBareName name × (b ∷ bs ≡ name ++ rest)
+  by_test true p q more =
       let cut = starts (suc k) (is_name_start b) (ap (λ n. cut_name n (b ∷ bs)) (sym (one-more k)) ∙ q) in
-      let all : list_all is_ascii_name_byte (b ∷ take k bs) ≡ true = both_true (is_ascii_name_byte b) (list_all is_ascii_name_byte (take k bs)) p (prefix-all is_ascii_name_byte bs) in
-      let whole : b ∷ bs ≡ (b ∷ take k bs) ++ rest = ap (λ l. b ∷ l) (sym (take-append-drop k bs)) ∙ ap (λ l. (b ∷ take k bs) ++ l) cut.2 in (
+      let all : list_all is_ascii_name_byte (b ∷ take k bs) ≡ true = both_true (is_ascii_name_byte b) (list_all is_ascii_name_byte (take k bs)) p (prefix-all is_ascii_name_byte bs) in (
         subst IsBareName cut.1 (all, ascii-name b (take k bs) all ∙ cut.0),
-        (more, whole ∙ (ap (λ l. l ++ rest) cut.1 ∙ ap (λ l. name ++ l) (after_byte-same 62 rest more e))),
+        ap (λ l. b ∷ l) (sym (take-append-drop k bs)) ∙ (ap (λ l. (b ∷ take k bs) ++ l) cut.2 ∙ ap (λ l. l ++ rest) cut.1),
       )
-  by_test false p q =
-      let cut = starts 0 (is_name_start b) q in
-      let same : b ∷ bs ≡ 62 ∷ more = cut.2 ∙ after_byte-same 62 rest more e in
-      let first : b ≡ 62 = cc in
-      let never : is_name_start 62 ≡ true = ap is_name_start (sym first) ∙ cut.0 in
-      absurd cc
+  by_test false p q more = absurd (omega (arith, more))
+
+-- a name that a `>` follows
+pub before-more : (b : ℕ) (front bytes : List ℕ) → (before : IsBefore b front bytes) → bytes ≡ (front ++ b ∷ []) ++ before.0
+before-more b front bytes before = before.1 ∙ sym (append_assoc front (b ∷ []) before.0)
 
 -- a text that a `<` follows
 prefix-within : (p : ℕ → Bool) (n : ℕ) (bytes : List ℕ) → list_all p (take (prefix_len p (take n bytes)) bytes) ≡ true

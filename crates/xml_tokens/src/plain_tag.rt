@@ -3,12 +3,11 @@ ghost use Rattle.std.specs.Prelude.{◌≡◌, ◌≤◌, ◌++◌, ◌∷◌, l
 ghost use Rattle.std.specs.List.{prefix_len};
 ghost use Rattle.xml_tokens.specs.PlainTags as spec;
 ghost use Rattle.xml_tokens.specs.PlainTags.{AreFirst, BeginsWithTag, IsPlainAttribute};
-ghost use Rattle.xml_tokens.specs.Simple.{IsBareName};
 ghost use Rattle.xml_tokens.specs.Spelling.{slash};
 
 use crate::lexeme::RawAttr;
 use crate::tables::is_plain_in_value;
-use crate::tag::{after_byte, ascii_name_len, ascii_named};
+use crate::tag::{after_byte, bare_named};
 use crate::text::text_from_spare;
 use std::alloc::Global;
 use stx_base::{List, Memory, Spare, Text};
@@ -48,16 +47,6 @@ pub fn plain_tag(alloc: Global, bytes: &[u8], spare: &mut Spare) -> Result<Optio
         empty,
         len: bytes.len() - rest.len(),
     }))
-}
-
-/// A name of ASCII, and what follows it.
-#[inline(always)]
-fn bare_named(bytes: &[u8]) -> Option<(&[u8], &[u8])>
-    ensures { IfSome result (λ found. IsBareName found.0.now × (bytes.now ≡ found.0.now ++ found.1.now)) }
-{
-    let len = ascii_name_len(bytes);
-    let found = ascii_named(bytes, len)?;
-    if len > 0 { Some(found) } else { None }
 }
 
 /// Whether the element is empty, and what follows the tag.

@@ -9,7 +9,7 @@ use crate::form::is_word;
 use crate::judge::is_blank;
 use crate::lexeme::Body;
 use crate::tables::is_plain_byte;
-use crate::tag::{after_byte, ascii_name_len, ascii_named};
+use crate::tag::{after_byte, bare_named};
 use crate::text::text_from_spare;
 use std::alloc::Global;
 use stx_base::{List, Memory, Spare};
@@ -111,7 +111,7 @@ pub fn after_end_of<'b>(name: &[u8], bytes: &'b [u8]) -> Option<&'b [u8]>
 fn bare_name(bytes: &[u8]) -> Option<&[u8]>
     ensures { IfSome result (λ name. IsBareName name.now × IsBefore 62 name.now bytes.now) }
 {
-    let (name, rest) = ascii_named(bytes, ascii_name_len(bytes))?;
+    let (name, rest) = bare_named(bytes)?;
     match after_byte(b'>', rest) {
         Some(_) => Some(name),
         None => None,

@@ -1,9 +1,10 @@
-ghost use Rattle.std.specs.Prelude.{◌≡◌, ◌≤◌, ◌==◌, length, slice_get, suc, IfOk, IsUtf8};
+ghost use Rattle.std.specs.Prelude.{◌≡◌, ◌≤◌, ◌++◌, ◌==◌, length, slice_get, suc, IfOk, IfSome, IsUtf8};
 ghost use Rattle.std.specs.List.{list_any, position_or_len, prefix_len};
 ghost use Rattle.std.specs.Option.{option_map, option_copied};
 ghost use Rattle.std.specs.Str.{chars};
 ghost use Rattle.stx_base.specs.Character.{is_space};
 ghost use Rattle.xml_tokens.specs.Places as places;
+ghost use Rattle.xml_tokens.specs.Simple.{IsBareName};
 ghost use Rattle.xml_tokens.specs.Tags as spec;
 ghost use Rattle.xml_tokens.specs.Spans as span;
 
@@ -20,7 +21,7 @@ fn name_len(bytes: &[u8]) -> usize
     bytes.iter().take_while(|b| is_name_byte(**b)).count()
 }
 
-pub fn ascii_name_len(bytes: &[u8]) -> usize
+fn ascii_name_len(bytes: &[u8]) -> usize
     ensures value { result ≡ prefix_len span.is_ascii_name_byte bytes.now }
     ensures bound { result ≤ length bytes.now }
 {
@@ -101,7 +102,7 @@ fn wide_named(bytes: &[u8]) -> Option<(&[u8], &[u8])>
 }
 
 /// A Name of so many bytes of ASCII, each of which may stand in one.
-pub fn ascii_named(bytes: &[u8], len: usize) -> Option<(&[u8], &[u8])>
+fn ascii_named(bytes: &[u8], len: usize) -> Option<(&[u8], &[u8])>
     requires { len ≤ length bytes.now }
     ensures { option_map (λ found. (found.0.now, found.1.now)) result ≡ span.cut_name len bytes.now }
 {
@@ -109,6 +110,16 @@ pub fn ascii_named(bytes: &[u8], len: usize) -> Option<(&[u8], &[u8])>
         [first, ..] if is_name_start(char::from(*first)) => Some(bytes.split_at(len)),
         _ => None,
     }
+}
+
+/// A name of ASCII, and what follows it.
+#[inline(always)]
+pub fn bare_named(bytes: &[u8]) -> Option<(&[u8], &[u8])>
+    ensures { IfSome result (λ found. IsBareName found.0.now × (bytes.now ≡ found.0.now ++ found.1.now)) }
+{
+    let len = ascii_name_len(bytes);
+    let found = ascii_named(bytes, len)?;
+    if len > 0 { Some(found) } else { None }
 }
 
 /// What stands in quotes, and what follows them.

@@ -1,8 +1,8 @@
 use Rattle.std.proofs.Common.{◌<◌, sym, ap, ◌∙◌, subst, arith}
 use Rattle.std.specs.List.{prefix_len}
 use Rattle.xml_tokens.specs.Spans.{cut_name, is_ascii_name_byte}
-use Rattle.xml_tokens.proofs.PlainTagLemmas.{name-cut}
-use Rattle.xml_tokens.proofs.plain_tag.bare_named.Goals as goal
+use Rattle.xml_tokens.proofs.SimpleLemmas.{name-cut}
+use Rattle.xml_tokens.proofs.tag.bare_named.Goals as goal
 
 pub returns-then-len-gt0 : goal.returns-then-len-gt0
 returns-then-len-gt0 c =
