@@ -12,7 +12,7 @@ use Rattle.stx_base.specs.declared.limits.Limits.{Limits}
 use Rattle.xml_tokens.specs.Judged.{judged}
 use Rattle.xml_tokens.specs.Look.{reader, passed, IsDue, TakesEnd}
 use Rattle.xml_tokens.specs.Places.{begins}
-use Rattle.xml_tokens.specs.Reader.{Reader, at_shape, coming, due, end_at, fed, is_last, lexeme_or_fault, mark, mark_len, mark_len_of, seen, size}
+use Rattle.xml_tokens.specs.Reader.{Reader, at_shape, coming, due, end_at, fed, is_last, lexeme_or_fault, mark, mark_len, mark_len_of, seen}
 use Rattle.xml_tokens.specs.Shape.{shape_len}
 use Rattle.xml_tokens.specs.Simple.{end_of}
 use Rattle.xml_tokens.specs.Spelling.{Spells}
@@ -111,10 +111,8 @@ not-some (Some over) h = absurd cc
 
 -- the end tag is taken where it is due
 pub end-taken : (r : Reader) (name more : List ℕ) (offset n : ℕ) → IsUtf8 name → is_name (chars name) ≡ true → r.over ≡ None → r.unread ≡ end_of name ++ more → offset ≡ r.offset →
-    n ≡ length name + 3 → n ≤ r.limits.input - r.offset → n ≤ r.limits.lexeme → TakesEnd r offset (chars name) (passed n r)
-end-taken r name more offset n utf8 is fresh e at size input lexeme =
-    let l = length-append name (62 ∷ []) in
-    let whole : n ≡ length (end_of name) = omega (arith, size, l) in
+    n ≡ length (end_of name) → n ≤ r.limits.input - r.offset → n ≤ r.limits.lexeme → TakesEnd r offset (chars name) (passed n r)
+end-taken r name more offset n utf8 is fresh e at whole input lexeme =
     let d = end-due name utf8 is r.limits r.unread more r.offset r.ended e (omega (arith, whole, input)) (omega (arith, whole, lexeme)) in
     let q : reader r.limits r.unread r.offset r.ended ≡ r = ap (λ o. record r { over = o }) (sym fresh) in (
       ap (λ k. end_at k (chars name)) at ∙ sym (ap due (sym q) ∙ d.0),

@@ -135,8 +135,9 @@ impl Lexer {
         if self.over.is_some() || self.scan.searched > 0 {
             return None;
         }
-        let _ = after_end_of(name, tail(&self.buffer, self.start))?;
-        let size = name.len() + 3;
+        let unread = tail(&self.buffer, self.start);
+        let rest = after_end_of(name, unread)?;
+        let size = unread.len() - rest.len();
         if size as u64 > self.room() {
             return None;
         }
