@@ -102,7 +102,7 @@ impl Scopes {
             return Err(NameFault::Xml(XmlKind::DuplicateAttribute));
         }
         let name = self.plain_name(name, spare)?;
-        let attrs = plain_attributes(self.alloc, attrs)?;
+        let attrs = plain_attributes(self.alloc, attrs, spare)?;
         let decls = List::new(self.alloc);
         self.declare_nothing()?;
         Ok(Resolved { name, attrs, decls })
@@ -432,7 +432,10 @@ impl Scopes {
     fn attributes(&self, attrs: List<RawAttr>, spare: &mut Spare) -> Result<List<Attr>, Memory>
         ensures { IfOk result (λ made. made ≡ spec.attributes self.now attrs) }
     {
-        let mut made = List::from_vec(Vec::with_capacity(self.alloc, attrs.len())?);
+        if attrs.is_empty() {
+            return Ok(List::new(self.alloc));
+        }
+        let mut made = spare.attrs();
         for attr in attrs.into_vec() {
             let RawAttr { name, value } = attr;
             if declared_prefix(name.as_str()).is_none() {
@@ -477,13 +480,17 @@ fn is_plain_name(name: &str) -> bool
 
 /// The attributes of a tag that has no prefix and declares nothing.
 #[inline(always)]
-fn plain_attributes(alloc: Global, attrs: List<RawAttr>) -> Result<List<Attr>, Memory>
+fn plain_attributes(
+    alloc: Global,
+    attrs: List<RawAttr>,
+    spare: &mut Spare,
+) -> Result<List<Attr>, Memory>
     ensures { IfOk result (λ made. made ≡ map spec.plain_attribute attrs) }
 {
     if attrs.is_empty() {
         return Ok(List::new(alloc));
     }
-    let mut made = List::from_vec(Vec::with_capacity(alloc, attrs.len())?);
+    let mut made = spare.attrs();
     for attr in attrs.into_vec() {
         let RawAttr { name, value } = attr;
         let name = Name {

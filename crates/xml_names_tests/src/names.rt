@@ -104,9 +104,7 @@ fn leave(scopes: &mut Scopes, out: &mut String) -> Result<(), Fail> {
 fn keep(entered: Result<Resolved, NameFault>, spare: &mut Spare) {
     if let Ok(Resolved { name, attrs, .. }) = entered {
         spare.keep_name(name);
-        for attr in attrs.into_vec() {
-            spare.keep_attr(attr);
-        }
+        spare.keep_attrs(attrs);
     }
 }
 

@@ -4,7 +4,7 @@
 //! what a prefix is bound to. In a value `~` is a space, and `XML` and `XMLNS` are the URIs of `xml` and `xmlns`.
 
 /// Steps that are taken.
-pub static TAKEN: [(&str, &str); 39] = [
+pub static TAKEN: [(&str, &str); 40] = [
     ("a", "a"),
     ("a x=1 y=2", "a x='1' y='2'"),
     ("a x= X=", "a x='' X=''"),
@@ -60,6 +60,11 @@ pub static TAKEN: [(&str, &str); 39] = [
         "a p{u}x='' q{ u}x='' +p=u +q= u",
     ),
     ("a xmlns:p=u p= p:p=", "a p='' p{u}p='' +p=u"),
+    // Each tag's attributes are its own, in whatever list they are put.
+    (
+        "a x=1 y=2 | b z=3 | c | d xmlns=u v=4 w=5",
+        "a x='1' y='2'; b z='3'; c; {u}d v='4' w='5' +=u",
+    ),
     // `xml` is bound always, and may be declared as what it is.
     (
         "a xml:lang=en",

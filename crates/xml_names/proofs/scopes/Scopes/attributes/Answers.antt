@@ -19,8 +19,8 @@ loop-attr-preserved c =
     ∙ ap (λ l. made ++ spec.attributes path l) (sym c.in-Some.ensures.steps.0)
     ∙ c.loop-attr.invariant
 
-pub loop-attr-preserved-in_ok-push : goal.loop-attr-preserved-in_ok-push
-loop-attr-preserved-in_ok-push c =
+pub loop-attr-preserved-in-Continue-branch-2 : goal.loop-attr-preserved-in-Continue-branch-2
+loop-attr-preserved-in-Continue-branch-2 c =
     let path = c.args.self.now in
     let made = c.loop-attr.made in
     let a = c.in-Some.attr in
