@@ -6,7 +6,7 @@ ghost use Rattle.std.specs.Prelude.{◌≡◌};
 use std::alloc::Global;
 use std::io;
 use std::io::{ErrorKind, Read, Write};
-use stx_base::{First, Limits, Spare};
+use stx_base::{Limits, Spare};
 use xml_events::{Event, EventReader, Pull};
 
 /// So many events there were.
@@ -62,7 +62,7 @@ fn drain(reader: &mut EventReader, counts: &mut Counts, spare: &mut Spare) -> io
         match reader.next(spare) {
             Pull::Event(event) => {
                 counts.add(&event);
-                give_back(event, spare);
+                event.give_back(spare);
             }
             Pull::Need | Pull::End => return Ok(()),
             Pull::Bad(_) => return Err(io::Error::from(ErrorKind::InvalidData)),
@@ -81,32 +81,5 @@ impl Counts {
             Event::End { .. } => {}
             Event::DocumentEnd { .. } => {}
         }
-    }
-}
-
-fn give_back(event: Event, spare: &mut Spare) {
-    match event {
-        Event::Start {
-            name,
-            attrs,
-            first,
-            ..
-        } => {
-            spare.keep_name(name);
-            for attr in attrs.into_vec() {
-                spare.keep_attr(attr);
-            }
-            if let First::Chars(text) = first {
-                spare.keep(text);
-            }
-        }
-        Event::Chars { text, .. } => spare.keep(text),
-        Event::Comment { text, .. } => spare.keep(text),
-        Event::Pi { target, text, .. } => {
-            spare.keep(target);
-            spare.keep(text);
-        }
-        Event::End { .. } => {}
-        Event::DocumentEnd { .. } => {}
     }
 }

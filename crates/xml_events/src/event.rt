@@ -1,5 +1,5 @@
 use std::alloc::Global;
-use stx_base::{Attr, Binding, Copied, First, List, Memory, Name, Text, XmlFault};
+use stx_base::{Attr, Binding, Copied, First, List, Memory, Name, Spare, Text, XmlFault};
 
 /// What comes next in a document's tree, in document order. Places are in bytes from the document's first one, a byte order mark
 /// included.
@@ -49,6 +49,32 @@ pub enum Pull {
     End,
     Bad(XmlFault),
     Memory,
+}
+
+impl Event {
+    /// Gives the texts of an event that is done with back, so that the next ones are made of them.
+    pub fn give_back(self, spare: &mut Spare) {
+        match self {
+            Event::Start {
+                name,
+                attrs,
+                first,
+                ..
+            } => {
+                spare.keep_name(name);
+                spare.keep_attrs(attrs);
+                if let First::Chars(text) = first {
+                    spare.keep(text);
+                }
+            }
+            Event::Chars { text, .. } | Event::Comment { text, .. } => spare.keep(text),
+            Event::Pi { target, text, .. } => {
+                spare.keep(target);
+                spare.keep(text);
+            }
+            Event::End { .. } | Event::DocumentEnd { .. } => {}
+        }
+    }
 }
 
 impl Copied for Event {

@@ -133,37 +133,12 @@ fn drain(reader: &mut EventReader, out: &mut Telling) -> Result<bool, Fail>
         let pull = answer(reader, &mut out.spare);
         tell_answer(&pull, &mut out.text)?;
         match pull {
-            Pull::Event(event) => give_back(event, &mut out.spare),
+            Pull::Event(event) => event.give_back(&mut out.spare),
             Pull::Need => return Ok(false),
             Pull::End | Pull::Bad(_) | Pull::Memory => return Ok(true),
         }
     }
     Ok(true)
-}
-
-fn give_back(event: Event, spare: &mut Spare) {
-    match event {
-        Event::Start {
-            name,
-            attrs,
-            first,
-            ..
-        } => {
-            spare.keep_name(name);
-            for attr in attrs.into_vec() {
-                spare.keep_attr(attr);
-            }
-            if let First::Chars(text) = first {
-                spare.keep(text);
-            }
-        }
-        Event::Chars { text, .. } | Event::Comment { text, .. } => spare.keep(text),
-        Event::Pi { target, text, .. } => {
-            spare.keep(target);
-            spare.keep(text);
-        }
-        Event::End { .. } | Event::DocumentEnd { .. } => {}
-    }
 }
 
 fn tell_answer(pull: &Pull, out: &mut String) -> Result<(), Fail> {
