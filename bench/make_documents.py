@@ -5,8 +5,8 @@ Usage: make_documents.py SHAPE MEGABYTES > DOCUMENT
 
 A document is one root element and a line feed. It holds start tags, end tags,
 attributes and text in ASCII, so that every program under comparison can read
-it. Only the shape `references` has references, and only `namespaces` has
-declarations and prefixed names.
+it. Only the shape `references` has references, and only `feed` and `namespaces`
+have declarations and prefixed names.
 It ends with the first unit that reaches MEGABYTES (of 1,000,000 bytes).
 """
 
@@ -90,11 +90,20 @@ def deep(number):
     return f"{OPENING}bottom {number}{CLOSING}\n"
 
 
+def feed(number):
+    # All prefixes are declared by the root.
+    return entry(number, "")
+
+
 def namespaces(number):
-    # A feed: all prefixes are declared by the root, but for that of some notes.
+    # A feed in which some entries have a note, whose prefix it declares itself.
     note = ""
     if number % 10 == 0:
         note = f'<x:note xmlns:x="urn:example:notes:{number % 7}">note {number}</x:note>'
+    return entry(number, note)
+
+
+def entry(number, note):
     return (
         f"<entry><title>item {number}</title><dc:creator>maker {number % 97}</dc:creator>"
         f'<media:thumbnail url="http://example.org/{number}.png" media:width="{number * 7 % 1000}"></media:thumbnail>'
@@ -112,11 +121,13 @@ SHAPES = {
     "text": text,
     "references": references,
     "deep": deep,
+    "feed": feed,
     "namespaces": namespaces,
     "one_text": one_text,
 }
 
-# Declarations stand as a copy writes them: the default namespace and then prefixes in order.
+# Shapes whose root declares these. They stand as a copy writes them: the default namespace and then prefixes in order.
+DECLARING = ("feed", "namespaces")
 DECLARATIONS = (
     ' xmlns="http://www.w3.org/2005/Atom" xmlns:dc="http://purl.org/dc/elements/1.1/" '
     'xmlns:geo="http://www.georss.org/georss" xmlns:media="http://search.yahoo.com/mrss/"'
@@ -128,7 +139,7 @@ def document(shape, size):
     unit = SHAPES[shape]
     number = 1
     end = b"</doc>\n"
-    piece = [f"<doc{DECLARATIONS if shape == 'namespaces' else ''}>\n"]
+    piece = [f"<doc{DECLARATIONS if shape in DECLARING else ''}>\n"]
     remaining = size - len(end) - len(piece[0])
     while remaining > 0:
         part = unit(number)
