@@ -16,7 +16,10 @@ pub enum NodeTest {
     AnyElement,
     /// Every node but document nodes and attributes.
     AnyNode,
+    /// A text node or a CDATA node.
     Chars,
+    /// A CDATA node.
+    CData,
     Comment,
     AnyPi,
     /// A processing instruction with this target.
@@ -35,7 +38,7 @@ pub enum First {
     Nothing,
     /// An element, a comment or a processing instruction.
     Other,
-    /// A text node, with its characters.
+    /// A text node or a CDATA node, with its characters.
     Chars(Text),
 }
 
@@ -54,6 +57,7 @@ impl Copied for NodeTest {
             NodeTest::AnyElement => Ok(NodeTest::AnyElement),
             NodeTest::AnyNode => Ok(NodeTest::AnyNode),
             NodeTest::Chars => Ok(NodeTest::Chars),
+            NodeTest::CData => Ok(NodeTest::CData),
             NodeTest::Comment => Ok(NodeTest::Comment),
             NodeTest::AnyPi => Ok(NodeTest::AnyPi),
             NodeTest::Pi(target) => {

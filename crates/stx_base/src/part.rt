@@ -14,6 +14,8 @@ pub enum Part {
     Attribute { name: Name, value: Text },
     End { name: Name },
     Chars { text: Text },
+    /// A CDATA section. Its text is of Chars alone, has no carriage return and no `]]>`.
+    CData { text: Text },
     Comment { text: Text },
     Pi { target: Text, text: Text },
 }
@@ -38,6 +40,10 @@ impl Copied for Part {
             Part::Chars { text } => {
                 let text = text.copy(alloc)?;
                 Ok(Part::Chars { text })
+            }
+            Part::CData { text } => {
+                let text = text.copy(alloc)?;
+                Ok(Part::CData { text })
             }
             Part::Comment { text } => {
                 let text = text.copy(alloc)?;
