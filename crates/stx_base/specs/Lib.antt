@@ -1,6 +1,7 @@
 pub mod Character
 pub mod Course
 pub mod CourseLaws
+pub mod Functions
 pub mod Refinement
 pub mod StandardLimits
 pub mod Termination
