@@ -1,4 +1,5 @@
 pub mod AsciiLemmas
+pub mod CdataLemmas
 pub mod Course
 pub mod Refinement
 pub mod TableLemmas

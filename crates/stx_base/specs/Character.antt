@@ -1,5 +1,5 @@
 -- The character classes of XML 1.0 (Fifth Edition), 2.2 and 2.3, and names without colon (Namespaces in XML 1.0, 3).
-use Rattle.std.specs.Prelude.{ℕ, Bool, false, ◌&&◌, ◌||◌, not, nat_le, ◌==◌, List, [], ◌∷◌, slice_get}
+use Rattle.std.specs.Prelude.{ℕ, Bool, false, ◌&&◌, ◌||◌, not, nat_le, ◌==◌, List, [], ◌∷◌, take, slice_get, bytes_eq, codes}
 use Rattle.std.specs.List.{list_all}
 use Rattle.std.specs.Option.{option_map_or}
 
@@ -38,3 +38,16 @@ is_ncname_char c = is_name_char c && not (c == 0x3A)
 -- NCName: a NameStartChar and then NameChars, none of them a colon (Namespaces in XML 1.0, 3)
 abbrev pub is_ncname : List ℕ → Bool
 is_ncname cs = option_map_or is_name_start (slice_get cs 0) false && list_all is_ncname_char cs
+
+-- the mark that ends a CDATA section stands somewhere in the text (XML 1.0, 2.7)
+abbrev pub has_cdata_end : List ℕ → Bool
+has_cdata_end [] = false
+has_cdata_end (c ∷ cs) = bytes_eq (take 3 (c ∷ cs)) (codes "]]>") || has_cdata_end cs
+
+-- a Char other than a carriage return, which reading turns into a line feed (XML 1.0, 2.11)
+abbrev pub is_char_of_cdata : ℕ → Bool
+is_char_of_cdata c = is_char c && not (c == 0xD)
+
+-- a text that a CDATA section holds as it is: such Chars, and nowhere the mark of the end
+abbrev pub is_cdata_text : List ℕ → Bool
+is_cdata_text cs = list_all is_char_of_cdata cs && not (has_cdata_end cs)

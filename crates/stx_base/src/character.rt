@@ -158,6 +158,39 @@ pub fn is_name(text: &str) -> bool
     begins_as_name(text) && holds_name_chars(text)
 }
 
+/// Whether `text` can be what a CDATA section holds: Chars alone, no carriage return, which reading would turn into a line
+/// feed, and no `]]>`, which ends the section (XML 1.0, 2.7 and 2.11).
+pub fn is_cdata_text(text: &str) -> bool
+    ensures { result ≡ class.is_cdata_text (chars text.now) }
+{
+    holds_chars_of_cdata(text) && !has_cdata_end(text)
+}
+
+/// Whether each character is a Char and no carriage return.
+fn holds_chars_of_cdata(text: &str) -> bool
+    ensures { result ≡ list_all class.is_char_of_cdata (chars text.now) }
+{
+    text.chars().all(|c| is_char(c) && c != '\r')
+}
+
+/// Whether the mark that ends a CDATA section stands anywhere in `text`.
+fn has_cdata_end(text: &str) -> bool
+    ensures { result ≡ class.has_cdata_end (chars text.now) }
+{
+    // How many brackets stand directly before, where two stand for more.
+    let mut brackets = 0usize;
+    for c in text.chars() {
+        if c == ']' {
+            brackets = (brackets + 1).min(2);
+        } else if c == '>' && brackets == 2 {
+            return true;
+        } else {
+            brackets = 0;
+        }
+    }
+    false
+}
+
 /// Whether `text` is an NCName: a Name without colon (Namespaces in XML 1.0, 3).
 pub fn is_ncname(text: &str) -> bool
     ensures { result ≡ class.is_ncname (chars text.now) }

@@ -20,8 +20,8 @@ mod text;
 
 pub use boxed::Boxed;
 pub use character::{
-    are_ascii_chars, is_ascii_char, is_ascii_name_byte, is_ascii_ncname_byte, is_char, is_name,
-    is_name_char, is_name_start, is_ncname, is_space,
+    are_ascii_chars, is_ascii_char, is_ascii_name_byte, is_ascii_ncname_byte, is_cdata_text,
+    is_char, is_name, is_name_char, is_name_start, is_ncname, is_space,
 };
 pub use copied::Copied;
 pub use expression::{Cmp, Fun, Op};

@@ -14,7 +14,7 @@ pub enum Part {
     Attribute { name: Name, value: Text },
     End { name: Name },
     Chars { text: Text },
-    /// A CDATA section. Its text is of Chars alone, has no carriage return and no `]]>`.
+    /// A CDATA section. Its text is one of which `is_cdata_text` holds.
     CData { text: Text },
     Comment { text: Text },
     Pi { target: Text, text: Text },

@@ -164,6 +164,29 @@ fn names_without_colon(rt: HostRuntime) {
     assert!(rt; is_name("a:b") && is_name(":") && !is_name("-a") && !is_name(""));
 }
 
+#[test]
+fn texts_of_cdata_sections(rt: HostRuntime) {
+    for (text, wanted) in [
+        ("", true),
+        ("]]", true),
+        ("]>", true),
+        ("]] >", true),
+        ("]]é>", true),
+        ("]]>", false),
+        ("]]]>", false),
+        ("é]]]]>é", false),
+        ("]>]]>", false),
+        ("<&>\t\n", true),
+        ("a\rb", false),
+        ("\r\n", false),
+        ("\u{1}", false),
+        ("\u{FFFE}", false),
+        ("\u{10FFFF}", true),
+    ] {
+        assert_eq!(rt; is_cdata_text(text), wanted, "{text:?}");
+    }
+}
+
 fn expanded(alloc: Global) -> Result<Name, Memory> {
     let uri = Text::of(alloc, "http://example.com/")?;
     let local = Text::of(alloc, "réel")?;
