@@ -3,6 +3,7 @@ pub mod Course
 pub mod CourseLaws
 pub mod Functions
 pub mod Refinement
+pub mod Spare
 pub mod StandardLimits
 pub mod Termination
 pub mod formers
