@@ -1,0 +1,3 @@
+pub mod Document
+pub mod Laws
+pub mod Left
