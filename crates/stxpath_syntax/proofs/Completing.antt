@@ -6,6 +6,7 @@ use Rattle.std.proofs.lemmas.Bool.Decides.{nat_tests}
 use Rattle.stx_base.specs.declared.name.Binding.{Binding}
 use Rattle.stx_base.specs.declared.node.NodeTest.{NodeTest}
 use Rattle.stx_base.specs.declared.node.NodeTest.TheVariants as test
+use Rattle.stxpath_syntax.specs.declared.dialect.Dialect.{Dialect}
 use Rattle.stxpath_syntax.specs.declared.expr.Alternative.{Alternative}
 use Rattle.stxpath_syntax.specs.declared.expr.Expr.{Expr}
 use Rattle.stxpath_syntax.specs.declared.expr.Link.{Link}
@@ -125,18 +126,18 @@ group_is_bracket = record { is_loose = λ k items count. refl; is_fit = λ n ite
 pub call_is_bracket : (name : Written) (p : ℕ) → IsBracket (Call name p)
 call_is_bracket name p = record { is_loose = λ k items count. refl; is_fit = λ n items count frames. tt; goes_on = λ items count last. refl }
 
-module _ (scope : List Binding) where
+module _ (dialect : Dialect) (scope : List Binding) where
   -- a state in which an operand has ended that was begun on these frames
   pub record Ended (frames : List Frame) (n : ℕ) (m : Meant Expr) (s : State) : Type 0 where
     pub last : Meant Expr
     pub is_last : last_operand scope s.mode ≡ Some last
-    pub goes_on : (p : ℕ) (t : Token) → follows t ≡ true → turn scope s.stack s.mode p t ≡ complete s.stack last p t
+    pub goes_on : (p : ℕ) (t : Token) → follows t ≡ true → turn dialect scope s.stack s.mode p t ≡ complete s.stack last p t
     pub gathers : (k : ℕ) → k ≤ n → gathered k s.stack last ≡ gathered k frames m
 
   -- the tokens lead from a mode to the end of an operand
   pub record Completes (ts : List Placed) (frames : List Frame) (mode : Mode) (n : ℕ) (m : Meant Expr) : Type 0 where
     pub end : State
-    pub leads : Leads scope ts (in_state frames mode) end
+    pub leads : Leads dialect scope ts (in_state frames mode) end
     pub ended : Ended frames n m end
 
   pub ended_complete : (frames : List Frame) (n : ℕ) (m : Meant Expr) → Ended frames n m (in_state frames (Complete m))
@@ -160,7 +161,7 @@ module _ (scope : List Binding) where
   }
 
   above_follows : (frames : List Frame) (n p : ℕ) (t : Token) → follows t ≡ true
-      → turn scope frames (Above n) p t ≡ complete frames (up n untested) p t
+      → turn dialect scope frames (Above n) p t ≡ complete frames (up n untested) p t
   above_follows frames n p (token.Operator o) f = refl
   above_follows frames n p token.Close f = refl
   above_follows frames n p token.Comma f = refl
@@ -191,7 +192,7 @@ module _ (scope : List Binding) where
   walk_follows frames w p _ e f = absurd (false≢true f)
 
   name_follows : (frames : List Frame) (begun : Begun) (name : Written) (q p : ℕ) (t : Token) → is_pattern frames ≡ false → follows t ≡ true
-      → after_name scope frames (record { begun = begun; name = name; at = q }) p t
+      → after_name dialect scope frames (record { begun = begun; name = name; at = q }) p t
       ≡ complete frames (whole_path (named_walk scope (record { begun = begun; name = name; at = q }))) p t
   unfolding walk_on after_name
   name_follows frames begun name q p (token.Operator o) e f = rw e refl
@@ -215,7 +216,7 @@ module _ (scope : List Binding) where
   }
 
   completes_at_once : {ts : List Placed} {frames : List Frame} {mode : Mode} (n : ℕ) {m : Meant Expr}
-      → Leads scope ts (in_state frames mode) (in_state frames (Complete m)) → Completes ts frames mode n m
+      → Leads dialect scope ts (in_state frames mode) (in_state frames (Complete m)) → Completes ts frames mode n m
   completes_at_once {ts} {frames} {mode} n {m} l = record { end = in_state frames (Complete m); leads = l; ended = ended_complete frames n m }
 
   -- what is gathered where an operand has ended in brackets
@@ -224,126 +225,126 @@ module _ (scope : List Binding) where
   at_bracket {frames} {f} {m} {s} e b = e.gathers 0 (lit≤ tt) ∙ gathered_loose 0 f frames m b
 
   closes : {frames : List Frame} {f : Frame} {m : Meant Expr} {s : State} (e : Ended (f ∷ frames) 1 m s) → binds 0 f ≡ false → (p : ℕ)
-      → turn scope s.stack s.mode p token.Close ≡ close (f ∷ frames, m)
+      → turn dialect scope s.stack s.mode p token.Close ≡ close (f ∷ frames, m)
   unfolding complete
   closes e b p = e.goes_on p token.Close refl ∙ ap close (at_bracket e b)
 
   separates : {frames : List Frame} {f : Frame} {m : Meant Expr} {s : State} (e : Ended (f ∷ frames) 1 m s) → binds 0 f ≡ false → (p : ℕ)
-      → turn scope s.stack s.mode p token.Comma ≡ separate (f ∷ frames, m)
+      → turn dialect scope s.stack s.mode p token.Comma ≡ separate (f ∷ frames, m)
   unfolding complete
   separates e b p = e.goes_on p token.Comma refl ∙ ap separate (at_bracket e b)
 
   filters : {frames : List Frame} {f : Frame} {m : Meant Expr} {s : State} (e : Ended (f ∷ frames) 1 m s) → binds 0 f ≡ false → (p : ℕ)
-      → turn scope s.stack s.mode p token.ClosePredicate ≡ close_predicate (f ∷ frames, m)
+      → turn dialect scope s.stack s.mode p token.ClosePredicate ≡ close_predicate (f ∷ frames, m)
   unfolding complete
   filters e b p = e.goes_on p token.ClosePredicate refl ∙ ap close_predicate (at_bracket e b)
 
   -- a mode in which a step of a path may begin
   abbrev pub Begins : List Frame → Begun → Mode → Type 0
-  Begins frames begun mode = (p : ℕ) (t : Token) → begins_step false t ≡ true → turn scope frames mode p t ≡ begin_step scope frames begun p t
+  Begins frames begun mode = (p : ℕ) (t : Token) → begins_step false t ≡ true → turn dialect scope frames mode p t ≡ begin_step scope frames begun p t
 
   -- the tokens lead from a mode to the end of a step
   pub record Walks (ts : List Placed) (frames : List Frame) (mode : Mode) (w : Walk) : Type 0 where
     pub end : Mode
-    pub leads : Leads scope ts (in_state frames mode) (in_state frames end)
+    pub leads : Leads dialect scope ts (in_state frames mode) (in_state frames end)
     pub is_walked : IsWalked end w
 
-  pub complete_test : {ts : List Placed} {t : Meant NodeTest} → Test scope ts t → (frames : List Frame) (begun : Begun) (mode : Mode)
+  pub complete_test : {ts : List Placed} {t : Meant NodeTest} → Test dialect scope ts t → (frames : List Frame) (begun : Begun) (mode : Mode)
       → Begins frames begun mode → Walks ts frames mode (walk_of begun t false)
   unfolding begin_step after_name
   complete_test (Test.named p name) frames begun mode b = record {
     end = AfterName (record { begun = begun; name = name; at = p });
-    leads = one scope (at p (token.Name name)) (b p (token.Name name) refl);
+    leads = one dialect scope (at p (token.Name name)) (b p (token.Name name) refl);
     is_walked = named begun name p;
   }
   complete_test (Test.within p prefix) frames begun mode b = record {
     end = Walked (walk_of begun (meaning.element_within scope prefix p) false);
-    leads = one scope (at p (token.Within prefix)) (b p (token.Within prefix) refl);
+    leads = one dialect scope (at p (token.Within prefix)) (b p (token.Within prefix) refl);
     is_walked = walked _;
   }
   complete_test (Test.any p) frames begun mode b = record {
     end = Walked (walk_of begun (flat test.AnyElement) false);
-    leads = one scope (at p token.Star) (b p token.Star refl);
+    leads = one dialect scope (at p token.Star) (b p token.Star refl);
     is_walked = walked _;
   }
   complete_test (Test.type p o c name t e) frames begun mode b = record {
     end = Walked (walk_of begun (flat t) false);
-    leads = begins_with scope (at p (token.Name name)) (b p (token.Name name) refl)
-        (begins_with scope (at o token.Open) (ap (λ found. at_stack frames (option_map (Kind begun) found)) e) (one scope (at c token.Close) refl));
+    leads = begins_with dialect scope (at p (token.Name name)) (b p (token.Name name) refl)
+        (begins_with dialect scope (at o token.Open) (ap (λ found. at_stack frames (option_map (Kind begun) found)) e) (one dialect scope (at c token.Close) refl));
     is_walked = walked _;
   }
   complete_test (Test.target p o q c name text e) frames begun mode b = record {
     end = Walked (walk_of begun (flat (test.Pi text)) false);
-    leads = begins_with scope (at p (token.Name name)) (b p (token.Name name) refl)
-        (begins_with scope (at o token.Open) (ap (λ found. at_stack frames (option_map (Kind begun) found)) e)
-        (begins_with scope (at q (token.Literal text)) refl (one scope (at c token.Close) refl)));
+    leads = begins_with dialect scope (at p (token.Name name)) (b p (token.Name name) refl)
+        (begins_with dialect scope (at o token.Open) (ap (λ found. at_stack frames (option_map (Kind begun) found)) e)
+        (begins_with dialect scope (at q (token.Literal text)) refl (one dialect scope (at c token.Close) refl)));
     is_walked = walked _;
   }
 
   pub attr_leads : {ts : List Placed} {t : Meant NodeTest} → AttrTest scope ts t → (frames : List Frame) (mode : Mode) (whose : Owner)
-      → ((a : ℕ) → turn scope frames mode a token.At ≡ Some (frames, Attribute whose))
-      → Leads scope ts (in_state frames mode) (in_state frames (owned whose t))
-  attr_leads (AttrTest.named a p name) frames mode whose h = begins_with scope (at a token.At) (h a) (one scope (at p (token.Name name)) refl)
-  attr_leads (AttrTest.within a p prefix) frames mode whose h = begins_with scope (at a token.At) (h a) (one scope (at p (token.Within prefix)) refl)
-  attr_leads (AttrTest.any a p) frames mode whose h = begins_with scope (at a token.At) (h a) (one scope (at p token.Star) refl)
+      → ((a : ℕ) → turn dialect scope frames mode a token.At ≡ Some (frames, Attribute whose))
+      → Leads dialect scope ts (in_state frames mode) (in_state frames (owned whose t))
+  attr_leads (AttrTest.named a p name) frames mode whose h = begins_with dialect scope (at a token.At) (h a) (one dialect scope (at p (token.Name name)) refl)
+  attr_leads (AttrTest.within a p prefix) frames mode whose h = begins_with dialect scope (at a token.At) (h a) (one dialect scope (at p (token.Within prefix)) refl)
+  attr_leads (AttrTest.any a p) frames mode whose h = begins_with dialect scope (at a token.At) (h a) (one dialect scope (at p token.Star) refl)
 
   pub not_zero : (n : ℕ) → n ≢ 0 → nat_eq n 0 ≡ false
   not_zero zero ne = absurd (ne refl)
   not_zero (suc n) ne = grind (arith, nat_tests)
 
-  pub parents_lead : {ts : List Placed} {k : ℕ} → Parents scope ts k → (frames : List Frame) → Leads scope ts (in_state frames Operand) (in_state frames (Above k))
+  pub parents_lead : {ts : List Placed} {k : ℕ} → Parents scope ts k → (frames : List Frame) → Leads dialect scope ts (in_state frames Operand) (in_state frames (Above k))
   unfolding operand
-  parents_lead (Parents.here p) frames = one scope (at p token.Dot) refl
-  parents_lead (Parents.one p) frames = one scope (at p token.DotDot) refl
+  parents_lead (Parents.here p) frames = one dialect scope (at p token.Dot) refl
+  parents_lead (Parents.one p) frames = one dialect scope (at p token.DotDot) refl
   parents_lead (Parents.further s p {n = n} d ne) frames =
-      then scope (parents_lead d frames)
-      (begins_with scope (at s token.Slash) refl (one scope (at p token.DotDot) (ap (λ b. at_stack frames (cond b None (Some (Above (more n))))) (not_zero n ne))))
+      then dialect scope (parents_lead d frames)
+      (begins_with dialect scope (at s token.Slash) refl (one dialect scope (at p token.DotDot) (ap (λ b. at_stack frames (cond b None (Some (Above (more n))))) (not_zero n ne))))
 
   ending_above : {us : List Placed} {t : Meant (Option NodeTest)} → Ending scope us t → (frames : List Frame) (n k : ℕ) → Completes us frames (Above k) n (up k t)
-  ending_above Ending.without frames n k = record { end = in_state frames (Above k); leads = stays scope _; ended = ended_above frames n k }
+  ending_above Ending.without frames n k = record { end = in_state frames (Above k); leads = stays dialect scope _; ended = ended_above frames n k }
   ending_above (Ending.attributes s d) frames n k =
-      completes_at_once n (begins_with scope (at s token.Slash) refl (attr_leads d frames (Higher k) (owner.Above k) (λ a. refl)))
+      completes_at_once n (begins_with dialect scope (at s token.Slash) refl (attr_leads d frames (Higher k) (owner.Above k) (λ a. refl)))
 
   abbrev begun_of : Meant (List PathStep) → Link → Bool → Begun
   begun_of steps link is_first = record { steps = steps; link = link; is_first = is_first }
 
   slash_turn : {mode : Mode} {w : Walk} → IsWalked mode w → (frames : List Frame) (p : ℕ) → w.is_attribute ≡ false
-      → turn scope frames mode p token.Slash ≡ Some (frames, Step (begun_of (all_steps w) link.Slash false))
+      → turn dialect scope frames mode p token.Slash ≡ Some (frames, Step (begun_of (all_steps w) link.Slash false))
   unfolding walk_on after_name
   slash_turn (walked w) frames p e = rw e refl
   slash_turn (named begun name q) frames p e = refl
 
   deep_turn : {mode : Mode} {w : Walk} → IsWalked mode w → (frames : List Frame) (p : ℕ) → w.is_attribute ≡ false
-      → turn scope frames mode p token.SlashSlash ≡ Some (frames, Step (begun_of (all_steps w) link.Deep false))
+      → turn dialect scope frames mode p token.SlashSlash ≡ Some (frames, Step (begun_of (all_steps w) link.Deep false))
   unfolding walk_on after_name
   deep_turn (walked w) frames p e = rw e refl
   deep_turn (named begun name q) frames p e = refl
 
   filter_turn : {mode : Mode} {w : Walk} → IsWalked mode w → (frames : List Frame) (p : ℕ)
-      → turn scope frames mode p token.OpenPredicate ≡ Some (Predicate w ∷ frames, Operand)
+      → turn dialect scope frames mode p token.OpenPredicate ≡ Some (Predicate w ∷ frames, Operand)
   unfolding walk_on after_name
   filter_turn (walked w) frames p = refl
   filter_turn (named begun name q) frames p = refl
 
   attribute_turn : (frames : List Frame) (steps : Meant (List PathStep)) (a : ℕ) → is_pattern frames ≡ false
-      → turn scope frames (Step (begun_of steps link.Slash false)) a token.At ≡ Some (frames, Attribute (owner.Path steps))
+      → turn dialect scope frames (Step (begun_of steps link.Slash false)) a token.At ≡ Some (frames, Attribute (owner.Path steps))
   unfolding begin_step
   attribute_turn frames steps a e = rw e refl
 
   ending_walk : {us : List Placed} {t : Meant (Option NodeTest)} → Ending scope us t → (frames : List Frame) (n : ℕ) {mode : Mode} {w : Walk}
       → Fits n frames → IsWalked mode w → w.is_attribute ≡ false → Completes us frames mode n (abs (all_steps w) t)
-  ending_walk Ending.without frames n {mode} f i e = record { end = in_state frames mode; leads = stays scope _; ended = ended_walk frames n f i }
+  ending_walk Ending.without frames n {mode} f i e = record { end = in_state frames mode; leads = stays dialect scope _; ended = ended_walk frames n f i }
   ending_walk (Ending.attributes s d) frames n {mode} {w} f i e =
-      completes_at_once n (begins_with scope (at s token.Slash) (slash_turn i frames s e)
+      completes_at_once n (begins_with dialect scope (at s token.Slash) (slash_turn i frames s e)
       (attr_leads d frames _ (owner.Path (all_steps w)) (λ a. attribute_turn frames (all_steps w) a (no_pattern n frames f))))
 
   -- a mode behind which a link may stand, and then a step
   abbrev pub Linked : List Frame → Begun → Mode → Type 0
   Linked frames begun mode =
-      (p : ℕ) → (m : Mode) × Leads scope (link_tokens begun.link p) (in_state frames mode) (in_state frames m) × Begins frames begun m
+      (p : ℕ) → (m : Mode) × Leads dialect scope (link_tokens begun.link p) (in_state frames mode) (in_state frames m) × Begins frames begun m
 
   begins_root : (frames : List Frame) (p : ℕ) (t : Token) → begins_step false t ≡ true
-      → turn scope frames Root p t ≡ begin_step scope frames (first link.Slash) p t
+      → turn dialect scope frames Root p t ≡ begin_step scope frames (first link.Slash) p t
   unfolding after_root
   begins_root frames p (token.Name name) h = refl
   begins_root frames p (token.Within prefix) h = refl
@@ -353,20 +354,20 @@ module _ (scope : List Binding) where
   pub linked_operand : (l : Link) (frames : List Frame) → l ≢ link.Start → Linked frames (first l) Operand
   unfolding operand
   linked_operand link.Start frames ne = absurd (ne refl)
-  linked_operand link.Slash frames ne = λ p. (Root, one scope (at p token.Slash) refl, begins_root frames)
-  linked_operand link.Deep frames ne = λ p. (Step (first link.Deep), one scope (at p token.SlashSlash) refl, λ q t h. refl)
+  linked_operand link.Slash frames ne = λ p. (Root, one dialect scope (at p token.Slash) refl, begins_root frames)
+  linked_operand link.Deep frames ne = λ p. (Step (first link.Deep), one dialect scope (at p token.SlashSlash) refl, λ q t h. refl)
 
   linked_next : (l : Link) (frames : List Frame) {mode : Mode} {w : Walk} → l ≢ link.Start → IsWalked mode w → w.is_attribute ≡ false
       → Linked frames (begun_of (all_steps w) l false) mode
   linked_next link.Start frames ne i e = absurd (ne refl)
-  linked_next link.Slash frames ne i e = λ p. (Step _, one scope (at p token.Slash) (slash_turn i frames p e), λ q t h. refl)
-  linked_next link.Deep frames ne i e = λ p. (Step _, one scope (at p token.SlashSlash) (deep_turn i frames p e), λ q t h. refl)
+  linked_next link.Slash frames ne i e = λ p. (Step _, one dialect scope (at p token.Slash) (slash_turn i frames p e), λ q t h. refl)
+  linked_next link.Deep frames ne i e = λ p. (Step _, one dialect scope (at p token.SlashSlash) (deep_turn i frames p e), λ q t h. refl)
 
   -- the tokens lead from a mode to the end of these steps
   pub record Stepped (ts : List Placed) (frames : List Frame) (mode : Mode) (steps : Meant (List PathStep)) : Type 0 where
     pub end : Mode
     pub walk : Walk
-    pub leads : Leads scope ts (in_state frames mode) (in_state frames end)
+    pub leads : Leads dialect scope ts (in_state frames mode) (in_state frames end)
     pub is_walked : IsWalked end walk
     pub are : all_steps walk ≡ steps
     pub is_plain : walk.is_attribute ≡ false
@@ -376,7 +377,7 @@ module _ (scope : List Binding) where
 
   -- an operator behind its left operand
   waits : (n p : ℕ) (o : Operator) (frames : List Frame) (x : Meant Expr) (s : State) (e : Ended frames (left_level o) x s) → Fits n frames → n ≤ level o
-      → turn scope s.stack s.mode p (token.Operator o) ≡ Some (Left x o p ∷ frames, Operand)
+      → turn dialect scope s.stack s.mode p (token.Operator o) ≡ Some (Left x o p ∷ frames, Operand)
   unfolding complete
   waits n p o frames x s e f l =
       let bounds = level_bounds o in
@@ -388,24 +389,24 @@ module _ (scope : List Binding) where
   mutual
     unfolding operand
 
-    pub complete_spells : {n : ℕ} {ts : List Placed} {m : Meant Expr} → Spells scope n ts m → (frames : List Frame) → Fits n frames
+    pub complete_spells : {n : ℕ} {ts : List Placed} {m : Meant Expr} → Spells dialect scope n ts m → (frames : List Frame) → Fits n frames
         → Completes ts frames Operand n m
-    complete_spells (Spells.whole n p i) frames f = completes_at_once n (one scope (at p (token.Whole i)) refl)
-    complete_spells (Spells.literal n p text) frames f = completes_at_once n (one scope (at p (token.Literal text)) refl)
+    complete_spells (Spells.whole n p i) frames f = completes_at_once n (one dialect scope (at p (token.Whole i)) refl)
+    complete_spells (Spells.literal n p text) frames f = completes_at_once n (one dialect scope (at p (token.Literal text)) refl)
     complete_spells (Spells.variable n d p name) frames f =
-        completes_at_once n (begins_with scope (at d token.Dollar) refl (one scope (at p (token.Name name)) refl))
+        completes_at_once n (begins_with dialect scope (at d token.Dollar) refl (one dialect scope (at p (token.Name name)) refl))
     complete_spells (Spells.call n p o c name d) frames f =
-        completes_at_once n (begins_with scope (at p (token.Name name)) refl (begins_with scope (at o token.Open) refl (closes_call d name p c frames)))
+        completes_at_once n (begins_with dialect scope (at p (token.Name name)) refl (begins_with dialect scope (at o token.Open) refl (closes_call d name p c frames)))
     complete_spells (Spells.single n o c d) frames f =
         let inner = complete_spells d (Group none 0 ∷ frames) tt in
-        completes_at_once n (begins_with scope (at o token.Open) refl (then scope inner.leads (one scope (at c token.Close) (closes inner.ended refl c))))
+        completes_at_once n (begins_with dialect scope (at o token.Open) refl (then dialect scope inner.leads (one dialect scope (at c token.Close) (closes inner.ended refl c))))
     complete_spells (Spells.several n o c d ne) frames f =
-        completes_at_once n (begins_with scope (at o token.Open) refl (closes_group d ne c frames))
+        completes_at_once n (begins_with dialect scope (at o token.Open) refl (closes_group d ne c frames))
     complete_spells (Spells.negated n p {x = x} l d) frames f =
         let inner = complete_spells d (Negated ∷ frames) (lit< tt) in
         record {
           end = inner.end;
-          leads = begins_with scope (at p minus) refl inner.leads;
+          leads = begins_with dialect scope (at p minus) refl inner.leads;
           ended = record {
             last = inner.ended.last;
             is_last = inner.ended.is_last;
@@ -419,7 +420,7 @@ module _ (scope : List Binding) where
         let right = complete_spells e (Left x o p ∷ frames) (omega arith) in
         record {
           end = right.end;
-          leads = then scope left.leads (begins_with scope (at p (token.Operator o)) (waits n p o frames x left.end left.ended f l) right.leads);
+          leads = then dialect scope left.leads (begins_with dialect scope (at p (token.Operator o)) (waits n p o frames x left.end left.ended f l) right.leads);
           ended = record {
             last = right.ended.last;
             is_last = right.ended.is_last;
@@ -427,63 +428,63 @@ module _ (scope : List Binding) where
             gathers = λ k h. right.ended.gathers k (omega (arith, l, h)) ∙ gathered_bound k (Left x o p) frames y (is_le k (level o) (omega (arith, l, h)));
           };
         }
-    complete_spells (Spells.root n p) frames f = record { end = in_state frames Root; leads = one scope (at p token.Slash) refl; ended = ended_root frames n f }
+    complete_spells (Spells.root n p) frames f = record { end = in_state frames Root; leads = one dialect scope (at p token.Slash) refl; ended = ended_root frames n f }
     complete_spells (Spells.absolute n {l = l} {t = t} ne d e) frames f =
         let walk = complete_steps d frames Operand (linked_operand l frames ne) in
         let end = ending_walk e frames n f walk.is_walked walk.is_plain in
         record {
           end = end.end;
-          leads = then scope walk.leads end.leads;
+          leads = then dialect scope walk.leads end.leads;
           ended = subst (λ steps. Ended frames n (abs steps t) end.end) walk.are end.ended;
         }
     complete_spells (Spells.above n {k = k} d e) frames f =
         let end = ending_above e frames n k in
-        record { end = end.end; leads = then scope (parents_lead d frames) end.leads; ended = end.ended }
+        record { end = end.end; leads = then dialect scope (parents_lead d frames) end.leads; ended = end.ended }
     complete_spells (Spells.attributes n d) frames f = completes_at_once n (attr_leads d frames Operand owner.Here (λ a. refl))
 
-    complete_leading : {k : ℕ} {ts : List Placed} {es : Meant (List Expr)} → Leading scope k ts es
+    complete_leading : {k : ℕ} {ts : List Placed} {es : Meant (List Expr)} → Leading dialect scope k ts es
         → (b : Meant (List Expr) → ℕ → Frame) → IsBracket b → (frames : List Frame)
-        → Leads scope ts (in_state (b none 0 ∷ frames) Operand) (in_state (b es k ∷ frames) Operand)
-    complete_leading Leading.start b i frames = stays scope _
+        → Leads dialect scope ts (in_state (b none 0 ∷ frames) Operand) (in_state (b es k ∷ frames) Operand)
+    complete_leading Leading.start b i frames = stays dialect scope _
     complete_leading (Leading.further p {k = k} {es = es} {x = x} d e) b i frames =
         let before = complete_leading d b i frames in
         let inner = complete_spells e (b es k ∷ frames) (i.is_fit 1 es k frames) in
-        then scope (then scope before inner.leads)
-        (one scope (at p token.Comma) (separates inner.ended (i.is_loose 0 es k) p ∙ ap (λ frame. option_and_then (opened frames) frame) (i.goes_on es k x)))
+        then dialect scope (then dialect scope before inner.leads)
+        (one dialect scope (at p token.Comma) (separates inner.ended (i.is_loose 0 es k) p ∙ ap (λ frame. option_and_then (opened frames) frame) (i.goes_on es k x)))
 
-    closes_group : {k : ℕ} {ts : List Placed} {es : Meant (List Expr)} → Listed scope k ts es → k ≢ 1 → (c : ℕ) (frames : List Frame)
-        → Leads scope (ts ++ at c token.Close ∷ []) (in_state (Group none 0 ∷ frames) Operand) (in_state frames (Complete (seq es)))
-    closes_group Listed.empty ne c frames = one scope (at c token.Close) refl
+    closes_group : {k : ℕ} {ts : List Placed} {es : Meant (List Expr)} → Listed dialect scope k ts es → k ≢ 1 → (c : ℕ) (frames : List Frame)
+        → Leads dialect scope (ts ++ at c token.Close ∷ []) (in_state (Group none 0 ∷ frames) Operand) (in_state frames (Complete (seq es)))
+    closes_group Listed.empty ne c frames = one dialect scope (at c token.Close) refl
     closes_group (Listed.last {k = k} {es = es} {x = x} d e) ne c frames =
         let before = complete_leading d Group group_is_bracket frames in
         let inner = complete_spells e (Group es k ∷ frames) tt in
         let some : nat_eq k 0 ≡ false = not_zero k (λ q. ne (ap more q)) in
-        then scope (then scope before inner.leads)
-        (one scope (at c token.Close) (closes inner.ended refl c ∙ ap (λ v. completed frames (cond v x (seq (and_also es x)))) some))
+        then dialect scope (then dialect scope before inner.leads)
+        (one dialect scope (at c token.Close) (closes inner.ended refl c ∙ ap (λ v. completed frames (cond v x (seq (and_also es x)))) some))
 
-    closes_call : {k : ℕ} {ts : List Placed} {es : Meant (List Expr)} → Listed scope k ts es → (name : Written) (p c : ℕ) (frames : List Frame)
-        → Leads scope (ts ++ at c token.Close ∷ []) (in_state (Call name p none 0 ∷ frames) Operand) (in_state frames (Complete (called name p k es)))
-    closes_call Listed.empty name p c frames = one scope (at c token.Close) refl
+    closes_call : {k : ℕ} {ts : List Placed} {es : Meant (List Expr)} → Listed dialect scope k ts es → (name : Written) (p c : ℕ) (frames : List Frame)
+        → Leads dialect scope (ts ++ at c token.Close ∷ []) (in_state (Call name p none 0 ∷ frames) Operand) (in_state frames (Complete (called name p k es)))
+    closes_call Listed.empty name p c frames = one dialect scope (at c token.Close) refl
     closes_call (Listed.last {k = k} {es = es} d e) name p c frames =
         let before = complete_leading d (Call name p) (call_is_bracket name p) frames in
         let inner = complete_spells e (Call name p es k ∷ frames) tt in
-        then scope (then scope before inner.leads) (one scope (at c token.Close) (closes inner.ended refl c))
+        then dialect scope (then dialect scope before inner.leads) (one dialect scope (at c token.Close) (closes inner.ended refl c))
 
-    complete_predicates : {us : List Placed} {es : Meant (List Expr)} → Predicates scope us es
+    complete_predicates : {us : List Placed} {es : Meant (List Expr)} → Predicates dialect scope us es
         → (frames : List Frame) (begun : Begun) (t : Meant NodeTest) (a : Bool) (mode : Mode) → IsWalked mode (walk_of begun t a)
         → Walks us frames mode (with_all begun t a es)
-    complete_predicates Predicates.unfiltered frames begun t a mode i = record { end = mode; leads = stays scope _; is_walked = i }
+    complete_predicates Predicates.unfiltered frames begun t a mode i = record { end = mode; leads = stays dialect scope _; is_walked = i }
     complete_predicates (Predicates.filtered o c {es = es} {x = x} d e) frames begun t a mode i =
         let before = complete_predicates d frames begun t a mode i in
         let inner = complete_spells e (Predicate (with_all begun t a es) ∷ frames) tt in
         record {
           end = Walked (with_all begun t a (and_also es x));
-          leads = then scope before.leads (begins_with scope (at o token.OpenPredicate) (filter_turn before.is_walked frames o)
-              (then scope inner.leads (one scope (at c token.ClosePredicate) (filters inner.ended refl c))));
+          leads = then dialect scope before.leads (begins_with dialect scope (at o token.OpenPredicate) (filter_turn before.is_walked frames o)
+              (then dialect scope inner.leads (one dialect scope (at c token.ClosePredicate) (filters inner.ended refl c))));
           is_walked = walked _;
         }
 
-    complete_step : {l : Link} {ts : List Placed} {s : Meant PathStep} → g.Step scope l ts s
+    complete_step : {l : Link} {ts : List Placed} {s : Meant PathStep} → g.Step dialect scope l ts s
         → (frames : List Frame) (steps : Meant (List PathStep)) (is_first : Bool) (mode : Mode) → Linked frames (begun_of steps l is_first) mode
         → Stepped ts frames mode (and_also steps s)
     complete_step (g.Step.tested l p {t = t} {es = es} d e) frames steps is_first mode h =
@@ -494,13 +495,13 @@ module _ (scope : List Binding) where
         record {
           end = filtered.end;
           walk = with_all begun t false es;
-          leads = then scope (then scope linked.1 tested.leads) filtered.leads;
+          leads = then dialect scope (then dialect scope linked.1 tested.leads) filtered.leads;
           is_walked = filtered.is_walked;
           are = refl;
           is_plain = refl;
         }
 
-    complete_steps : {l : Link} {ts : List Placed} {steps : Meant (List PathStep)} → Steps scope l ts steps
+    complete_steps : {l : Link} {ts : List Placed} {steps : Meant (List PathStep)} → Steps dialect scope l ts steps
         → (frames : List Frame) (mode : Mode) → Linked frames (first l) mode → Stepped ts frames mode steps
     complete_steps (Steps.one_step d) frames mode h = complete_step d frames none true mode h
     complete_steps (Steps.next_step {m = l} {s = s} ne d e) frames mode h =
@@ -509,14 +510,14 @@ module _ (scope : List Binding) where
         record {
           end = next.end;
           walk = next.walk;
-          leads = then scope before.leads next.leads;
+          leads = then dialect scope before.leads next.leads;
           is_walked = next.is_walked;
           are = next.are ∙ ap (λ steps. and_also steps s) before.are;
           is_plain = next.is_plain;
         }
 
-  pub complete_expression : {ts : List Placed} {m : Meant Expr} → Spells scope 1 ts m
-      → (s : State) × Leads scope ts (in_state [] Operand) s × (end_of_expression scope s ≡ Some m)
+  pub complete_expression : {ts : List Placed} {m : Meant Expr} → Spells dialect scope 1 ts m
+      → (s : State) × Leads dialect scope ts (in_state [] Operand) s × (end_of_expression scope s ≡ Some m)
   unfolding gathered end_of_expression
   complete_expression d =
       let c = complete_spells d [] tt in
@@ -527,7 +528,7 @@ module _ (scope : List Binding) where
   bars all = Alternatives all ∷ []
 
   begins_alternative : (frames : List Frame) (p : ℕ) (t : Token) → begins_step false t ≡ true
-      → turn scope frames AlternativeBegins p t ≡ begin_step scope frames (first link.Start) p t
+      → turn dialect scope frames AlternativeBegins p t ≡ begin_step scope frames (first link.Start) p t
   unfolding begin_alternative
   begins_alternative frames p (token.Name name) h = refl
   begins_alternative frames p (token.Within prefix) h = refl
@@ -536,38 +537,38 @@ module _ (scope : List Binding) where
 
   linked_alternative : (l : Link) (frames : List Frame) → Linked frames (first l) AlternativeBegins
   unfolding begin_alternative
-  linked_alternative link.Start frames = λ p. (AlternativeBegins, stays scope _, begins_alternative frames)
-  linked_alternative link.Slash frames = λ p. (Root, one scope (at p token.Slash) refl, begins_root frames)
-  linked_alternative link.Deep frames = λ p. (Step (first link.Deep), one scope (at p token.SlashSlash) refl, λ q t h. refl)
+  linked_alternative link.Start frames = λ p. (AlternativeBegins, stays dialect scope _, begins_alternative frames)
+  linked_alternative link.Slash frames = λ p. (Root, one dialect scope (at p token.Slash) refl, begins_root frames)
+  linked_alternative link.Deep frames = λ p. (Step (first link.Deep), one dialect scope (at p token.SlashSlash) refl, λ q t h. refl)
 
   -- a mode of a pattern behind which a link may stand, and then `@`
   abbrev AttrLinked : Meant (List Alternative) → Begun → Mode → Type 0
   AttrLinked all begun mode =
-      (p : ℕ) → (m : Mode) × Leads scope (link_tokens begun.link p) (in_state (bars all) mode) (in_state (bars all) m)
-      × ((a : ℕ) → turn scope (bars all) m a token.At ≡ Some (bars all, Attribute (owner.Last begun)))
+      (p : ℕ) → (m : Mode) × Leads dialect scope (link_tokens begun.link p) (in_state (bars all) mode) (in_state (bars all) m)
+      × ((a : ℕ) → turn dialect scope (bars all) m a token.At ≡ Some (bars all, Attribute (owner.Last begun)))
 
   attr_linked_alternative : (l : Link) (all : Meant (List Alternative)) → AttrLinked all (first l) AlternativeBegins
   unfolding begin_alternative begin_step after_root
-  attr_linked_alternative link.Start all = λ p. (AlternativeBegins, stays scope _, λ a. refl)
-  attr_linked_alternative link.Slash all = λ p. (Root, one scope (at p token.Slash) refl, λ a. refl)
-  attr_linked_alternative link.Deep all = λ p. (Step (first link.Deep), one scope (at p token.SlashSlash) refl, λ a. refl)
+  attr_linked_alternative link.Start all = λ p. (AlternativeBegins, stays dialect scope _, λ a. refl)
+  attr_linked_alternative link.Slash all = λ p. (Root, one dialect scope (at p token.Slash) refl, λ a. refl)
+  attr_linked_alternative link.Deep all = λ p. (Step (first link.Deep), one dialect scope (at p token.SlashSlash) refl, λ a. refl)
 
   attr_linked_next : (l : Link) (all : Meant (List Alternative)) {mode : Mode} {w : Walk} → l ≢ link.Start → IsWalked mode w → w.is_attribute ≡ false
       → AttrLinked all (begun_of (all_steps w) l false) mode
   unfolding begin_step
   attr_linked_next link.Start all ne i e = absurd (ne refl)
-  attr_linked_next link.Slash all ne i e = λ p. (Step _, one scope (at p token.Slash) (slash_turn i (bars all) p e), λ a. refl)
-  attr_linked_next link.Deep all ne i e = λ p. (Step _, one scope (at p token.SlashSlash) (deep_turn i (bars all) p e), λ a. refl)
+  attr_linked_next link.Slash all ne i e = λ p. (Step _, one dialect scope (at p token.Slash) (slash_turn i (bars all) p e), λ a. refl)
+  attr_linked_next link.Deep all ne i e = λ p. (Step _, one dialect scope (at p token.SlashSlash) (deep_turn i (bars all) p e), λ a. refl)
 
   -- the tokens lead from a mode of a pattern to the end of a step that tests attributes
   record AttrStepped (ts : List Placed) (all : Meant (List Alternative)) (mode : Mode) (steps : Meant (List PathStep)) : Type 0 where
     end : Mode
     walk : Walk
-    leads : Leads scope ts (in_state (bars all) mode) (in_state (bars all) end)
+    leads : Leads dialect scope ts (in_state (bars all) mode) (in_state (bars all) end)
     is_walked : IsWalked end walk
     are : all_steps walk ≡ steps
 
-  complete_attr_step : {l : Link} {ts : List Placed} {s : Meant PathStep} → g.AttrStep scope l ts s
+  complete_attr_step : {l : Link} {ts : List Placed} {s : Meant PathStep} → g.AttrStep dialect scope l ts s
       → (all : Meant (List Alternative)) (steps : Meant (List PathStep)) (is_first : Bool) (mode : Mode) → AttrLinked all (begun_of steps l is_first) mode
       → AttrStepped ts all mode (and_also steps s)
   complete_attr_step (g.AttrStep.tested l p {t = t} {es = es} d e) all steps is_first mode h =
@@ -578,13 +579,13 @@ module _ (scope : List Binding) where
       record {
         end = filtered.end;
         walk = with_all begun t true es;
-        leads = then scope (then scope linked.1 tested) filtered.leads;
+        leads = then dialect scope (then dialect scope linked.1 tested) filtered.leads;
         is_walked = filtered.is_walked;
         are = refl;
       }
 
   bar_turn : {mode : Mode} {w : Walk} → IsWalked mode w → (all : Meant (List Alternative)) (p : ℕ)
-      → turn scope (bars all) mode p token.Bar ≡ Some (bars (and_also all (whole_alternative w)), AlternativeBegins)
+      → turn dialect scope (bars all) mode p token.Bar ≡ Some (bars (and_also all (whole_alternative w)), AlternativeBegins)
   unfolding walk_on after_name
   bar_turn (walked w) all p = refl
   bar_turn (named begun name q) all p = refl
@@ -596,12 +597,12 @@ module _ (scope : List Binding) where
   -- the tokens lead from the beginning of an alternative to its end
   record Alternated (ts : List Placed) (all : Meant (List Alternative)) (a : Meant Alternative) : Type 0 where
     end : Mode
-    leads : Leads scope ts (in_state (bars all) AlternativeBegins) (in_state (bars all) end)
+    leads : Leads dialect scope ts (in_state (bars all) AlternativeBegins) (in_state (bars all) end)
     is_last : last_alternative scope end ≡ Some a
-    bar : (p : ℕ) → turn scope (bars all) end p token.Bar ≡ Some (bars (and_also all a), AlternativeBegins)
+    bar : (p : ℕ) → turn dialect scope (bars all) end p token.Bar ≡ Some (bars (and_also all a), AlternativeBegins)
 
   alternates : {ts : List Placed} {all : Meant (List Alternative)} {steps : Meant (List PathStep)} {end : Mode} {w : Walk}
-      → Leads scope ts (in_state (bars all) AlternativeBegins) (in_state (bars all) end) → IsWalked end w → all_steps w ≡ steps
+      → Leads dialect scope ts (in_state (bars all) AlternativeBegins) (in_state (bars all) end) → IsWalked end w → all_steps w ≡ steps
       → Alternated ts all (meaning.steps steps)
   alternates {all = all} {end = end} leads i e = record {
     end = end;
@@ -610,10 +611,10 @@ module _ (scope : List Binding) where
     bar = λ p. bar_turn i all p ∙ ap (λ s. Some (bars (and_also all (meaning.steps s)), AlternativeBegins)) e;
   }
 
-  complete_alternative : {ts : List Placed} {a : Meant Alternative} → g.Alternates scope ts a → (all : Meant (List Alternative)) → Alternated ts all a
+  complete_alternative : {ts : List Placed} {a : Meant Alternative} → g.Alternates dialect scope ts a → (all : Meant (List Alternative)) → Alternated ts all a
   unfolding begin_alternative after_root
   complete_alternative (g.Alternates.root p) all =
-      record { end = Root; leads = one scope (at p token.Slash) refl; is_last = refl; bar = λ p. refl }
+      record { end = Root; leads = one dialect scope (at p token.Slash) refl; is_last = refl; bar = λ p. refl }
   complete_alternative (g.Alternates.steps l d) all =
       let walk = complete_steps d (bars all) AlternativeBegins (linked_alternative l (bars all)) in
       alternates walk.leads walk.is_walked walk.are
@@ -623,19 +624,19 @@ module _ (scope : List Binding) where
   complete_alternative (g.Alternates.attributes l m {s = s} ne d e) all =
       let walk = complete_steps d (bars all) AlternativeBegins (linked_alternative l (bars all)) in
       let next = complete_attr_step e all (all_steps walk.walk) false walk.end (attr_linked_next m all ne walk.is_walked walk.is_plain) in
-      alternates (then scope walk.leads next.leads) next.is_walked (next.are ∙ ap (λ steps. and_also steps s) walk.are)
+      alternates (then dialect scope walk.leads next.leads) next.is_walked (next.are ∙ ap (λ steps. and_also steps s) walk.are)
 
   -- the tokens lead from the beginning of a pattern to its end
   pub record Patterned (ts : List Placed) (all : Meant (List Alternative)) : Type 0 where
     pub before : Meant (List Alternative)
     pub last : Meant Alternative
     pub end : Mode
-    pub leads : Leads scope ts (in_state (bars none) AlternativeBegins) (in_state (bars before) end)
+    pub leads : Leads dialect scope ts (in_state (bars none) AlternativeBegins) (in_state (bars before) end)
     pub is_last : last_alternative scope end ≡ Some last
-    pub bar : (p : ℕ) → turn scope (bars before) end p token.Bar ≡ Some (bars all, AlternativeBegins)
+    pub bar : (p : ℕ) → turn dialect scope (bars before) end p token.Bar ≡ Some (bars all, AlternativeBegins)
     pub are : and_also before last ≡ all
 
-  pub complete_alternatives : {ts : List Placed} {all : Meant (List Alternative)} → g.Pattern scope ts all → Patterned ts all
+  pub complete_alternatives : {ts : List Placed} {all : Meant (List Alternative)} → g.Pattern dialect scope ts all → Patterned ts all
   complete_alternatives (g.Pattern.one d) =
       let a = complete_alternative d none in
       record { before = none; last = _; end = a.end; leads = a.leads; is_last = a.is_last; bar = a.bar; are = refl }
@@ -646,33 +647,33 @@ module _ (scope : List Binding) where
         before = all;
         last = _;
         end = a.end;
-        leads = then scope before.leads (begins_with scope (at p token.Bar) (before.bar p) a.leads);
+        leads = then dialect scope before.leads (begins_with dialect scope (at p token.Bar) (before.bar p) a.leads);
         is_last = a.is_last;
         bar = a.bar;
         are = refl;
       }
 
-  pub complete_pattern : {ts : List Placed} {all : Meant (List Alternative)} → g.Pattern scope ts all
-      → (s : State) × Leads scope ts (in_state (bars none) AlternativeBegins) s × (end_of_pattern scope s ≡ Some all)
+  pub complete_pattern : {ts : List Placed} {all : Meant (List Alternative)} → g.Pattern dialect scope ts all
+      → (s : State) × Leads dialect scope ts (in_state (bars none) AlternativeBegins) s × (end_of_pattern scope s ≡ Some all)
   unfolding end_of_pattern
   complete_pattern d =
       let c = complete_alternatives d in
       (in_state (bars c.before) c.end, c.leads, ap (λ o. option_and_then (with_last scope (bars c.before)) o) c.is_last ∙ ap Some c.are)
 
   same_end : {A : Type 0} {ts : List Placed} {s u v : State} (f : State → Option A) (a b : A)
-      → Leads scope ts s u → Leads scope ts s v → f u ≡ Some a → f v ≡ Some b → a ≡ b
+      → Leads dialect scope ts s u → Leads dialect scope ts s v → f u ≡ Some a → f v ≡ Some b → a ≡ b
   same_end {ts = ts} {s} {u} {v} f a b l m e h =
-      let x : run scope ts s ≡ Some u = l.leads in
-      let y : run scope ts s ≡ Some v = m.leads in
+      let x : run dialect scope ts s ≡ Some u = l.leads in
+      let y : run dialect scope ts s ≡ Some v = m.leads in
       cc
 
-  pub one_expression : (ts : List Placed) (a b : Meant Expr) → Spells scope 1 ts a → Spells scope 1 ts b → a ≡ b
+  pub one_expression : (ts : List Placed) (a b : Meant Expr) → Spells dialect scope 1 ts a → Spells dialect scope 1 ts b → a ≡ b
   one_expression ts a b d e =
       let x = complete_expression d in
       let y = complete_expression e in
       same_end (end_of_expression scope) a b x.1 y.1 x.2 y.2
 
-  pub one_pattern : (ts : List Placed) (a b : Meant (List Alternative)) → g.Pattern scope ts a → g.Pattern scope ts b → a ≡ b
+  pub one_pattern : (ts : List Placed) (a b : Meant (List Alternative)) → g.Pattern dialect scope ts a → g.Pattern dialect scope ts b → a ≡ b
   one_pattern ts a b d e =
       let x = complete_pattern d in
       let y = complete_pattern e in

@@ -5,6 +5,7 @@ use Rattle.std.proofs.lemmas.Bool.{false≢true}
 use Rattle.std.proofs.lemmas.Bool.Decides.{nat_tests}
 use Rattle.std.proofs.lemmas.List.{length-append, length-drop, take_at, drop_at}
 use Rattle.stx_base.specs.declared.name.Binding.{Binding}
+use Rattle.stxpath_syntax.specs.declared.dialect.Dialect.{Dialect}
 use Rattle.stxpath_syntax.specs.declared.avt.Cut.{Cut}
 use Rattle.stxpath_syntax.specs.declared.avt.Piece.{Piece}
 use Rattle.stxpath_syntax.specs.declared.avt.Piece.TheVariants as piece
@@ -22,8 +23,8 @@ use Rattle.stxpath_syntax.specs.Templating.{Cuts, with_piece, flushed, with_char
 use Rattle.stxpath_syntax.specs.Tokens.{has_at, is_quote}
 
 -- a template's rest, read whole, is the whole template's reading
-abbrev pub Rests : List Binding → List ℕ → List AvtPart → List ℕ → ℕ → List ℕ → Type 0
-Rests scope text parts plain at rest = (read : Read (List AvtPart)) → Template scope at rest read → Template scope 0 text (behind parts (with_chars plain read))
+abbrev pub Rests : Dialect → List Binding → List ℕ → List AvtPart → List ℕ → ℕ → List ℕ → Type 0
+Rests dialect scope text parts plain at rest = (read : Read (List AvtPart)) → Template dialect scope at rest read → Template dialect scope 0 text (behind parts (with_chars plain read))
 
 with_chars_push : (plain : List ℕ) (c : ℕ) (read : Read (List AvtPart)) → with_chars (plain ++ c ∷ []) read ≡ with_chars plain (with_char c read)
 with_chars_push [] c read = refl
@@ -51,50 +52,50 @@ behind_value before plain value (Ok parts) =
 behind_value before plain value (Err why) = ap (behind before) (sym (chars_fault plain why))
 
 -- one piece more
-pub one_piece : (scope : List Binding) (text : List ℕ) (before after : List AvtPart) (plain chars : List ℕ) (p : Piece) (at len : ℕ) (rest : List ℕ)
-    → Rests scope text before plain at rest
-    → ((read : Read (List AvtPart)) → Template scope (at + len) (drop len rest) read → Template scope at rest (with_piece p read))
-    → Appended before plain p after chars → Rests scope text after chars (at + len) (drop len rest)
-one_piece scope text before after plain chars (piece.Plain c) at len rest inv cut (e, f) = λ read h.
+pub one_piece : (dialect : Dialect) (scope : List Binding) (text : List ℕ) (before after : List AvtPart) (plain chars : List ℕ) (p : Piece) (at len : ℕ) (rest : List ℕ)
+    → Rests dialect scope text before plain at rest
+    → ((read : Read (List AvtPart)) → Template dialect scope (at + len) (drop len rest) read → Template dialect scope at rest (with_piece p read))
+    → Appended before plain p after chars → Rests dialect scope text after chars (at + len) (drop len rest)
+one_piece dialect scope text before after plain chars (piece.Plain c) at len rest inv cut (e, f) = λ read h.
     let same : behind after (with_chars chars read) ≡ behind before (with_chars plain (with_char c read))
     = ap (λ b. behind b (with_chars chars read)) e ∙ ap (λ p. behind before (with_chars p read)) f ∙ ap (behind before) (with_chars_push plain c read) in
-    subst (λ r. Template scope 0 text r) (sym same) (inv (with_char c read) (cut read h))
-one_piece scope text before after plain chars (piece.Value value) at len rest inv cut (e, f) = λ read h.
+    subst (λ r. Template dialect scope 0 text r) (sym same) (inv (with_char c read) (cut read h))
+one_piece dialect scope text before after plain chars (piece.Value value) at len rest inv cut (e, f) = λ read h.
     let same : behind after (with_chars chars read) ≡ behind before (with_chars plain (with_value value read))
     = ap (λ b. behind b (with_chars chars read)) e ∙ ap (λ p. behind (before ++ flushed plain ++ Value value ∷ []) (with_chars p read)) f
     ∙ behind_value before plain value read in
-    subst (λ r. Template scope 0 text r) (sym same) (inv (with_value value read) (cut read h))
+    subst (λ r. Template dialect scope 0 text r) (sym same) (inv (with_value value read) (cut read h))
 
-pub piece_fault : (scope : List Binding) (text : List ℕ) (before : List AvtPart) (plain : List ℕ) (at : ℕ) (rest : List ℕ) (why : PathFault)
-    → Rests scope text before plain at rest → Template scope at rest (Err why) → Template scope 0 text (Err why)
-piece_fault scope text before plain at rest why inv h = subst (λ r. Template scope 0 text r) (ap (behind before) (chars_fault plain why)) (inv (Err why) h)
+pub piece_fault : (dialect : Dialect) (scope : List Binding) (text : List ℕ) (before : List AvtPart) (plain : List ℕ) (at : ℕ) (rest : List ℕ) (why : PathFault)
+    → Rests dialect scope text before plain at rest → Template dialect scope at rest (Err why) → Template dialect scope 0 text (Err why)
+piece_fault dialect scope text before plain at rest why inv h = subst (λ r. Template dialect scope 0 text r) (ap (behind before) (chars_fault plain why)) (inv (Err why) h)
 
-pub piece_error : (scope : List Binding) (text : List ℕ) (before : List AvtPart) (plain : List ℕ) (at : ℕ) (rest behind : List ℕ) (c : ℕ) (e : ParseFault)
-    → Rests scope text before plain at rest → rest ≡ c ∷ behind → Cuts scope at (c ∷ behind) (Err e) → Answers (Template scope 0 text) (Err e)
-piece_error scope text before plain at rest behind c (fault.Path f) inv is h =
-    piece_fault scope text before plain at rest f inv (subst (λ rest. Template scope at rest (Err f)) (sym is) h)
-piece_error scope text before plain at rest behind c fault.Memory inv is h = tt
+pub piece_error : (dialect : Dialect) (scope : List Binding) (text : List ℕ) (before : List AvtPart) (plain : List ℕ) (at : ℕ) (rest behind : List ℕ) (c : ℕ) (e : ParseFault)
+    → Rests dialect scope text before plain at rest → rest ≡ c ∷ behind → Cuts dialect scope at (c ∷ behind) (Err e) → Answers (Template dialect scope 0 text) (Err e)
+piece_error dialect scope text before plain at rest behind c (fault.Path f) inv is h =
+    piece_fault dialect scope text before plain at rest f inv (subst (λ rest. Template dialect scope at rest (Err f)) (sym is) h)
+piece_error dialect scope text before plain at rest behind c fault.Memory inv is h = tt
 
-pub piece_end : (scope : List Binding) (text : List ℕ) (before : List AvtPart) (plain : List ℕ) (at : ℕ) (rest : List ℕ)
-    → Rests scope text before plain at rest → rest ≡ [] → Template scope 0 text (Ok (before ++ flushed plain))
-piece_end scope text before plain at rest inv e =
-    let end : Template scope at rest (Ok []) = subst (λ rest. Template scope at rest (Ok [])) (sym e) (Template.end at) in
-    subst (λ r. Template scope 0 text r) (ap (behind before) (chars_end plain)) (inv (Ok []) end)
+pub piece_end : (dialect : Dialect) (scope : List Binding) (text : List ℕ) (before : List AvtPart) (plain : List ℕ) (at : ℕ) (rest : List ℕ)
+    → Rests dialect scope text before plain at rest → rest ≡ [] → Template dialect scope 0 text (Ok (before ++ flushed plain))
+piece_end dialect scope text before plain at rest inv e =
+    let end : Template dialect scope at rest (Ok []) = subst (λ rest. Template dialect scope at rest (Ok [])) (sym e) (Template.end at) in
+    subst (λ r. Template dialect scope 0 text r) (ap (behind before) (chars_end plain)) (inv (Ok []) end)
 
 -- ---- the piece at the front
 
 eq_true : (n k : ℕ) → nat_eq n k ≡ true → n ≡ k
 eq_true n k e = grind (arith, nat_tests)
 
-pub cut_plain : (scope : List Binding) (at c : ℕ) (cs : List ℕ) → is_brace c ≡ false → Cuts scope at (c ∷ cs) (Ok (record { piece = piece.Plain c; len = 1 }))
-cut_plain scope at c cs e = (lit< tt, omega arith, λ parts h. Template.plain at c e h)
+pub cut_plain : (dialect : Dialect) (scope : List Binding) (at c : ℕ) (cs : List ℕ) → is_brace c ≡ false → Cuts dialect scope at (c ∷ cs) (Ok (record { piece = piece.Plain c; len = 1 }))
+cut_plain dialect scope at c cs e = (lit< tt, omega arith, λ parts h. Template.plain at c e h)
 
-pub cut_double : (scope : List Binding) (at c : ℕ) (cs : List ℕ) → is_brace c ≡ true → has_at (λ x. nat_eq x c) 0 cs ≡ true
-    → Cuts scope at (c ∷ cs) (Ok (record { piece = piece.Plain c; len = 2 }))
-cut_double scope at c [] e f = absurd (false≢true f)
-cut_double scope at c (d ∷ cs) e f =
+pub cut_double : (dialect : Dialect) (scope : List Binding) (at c : ℕ) (cs : List ℕ) → is_brace c ≡ true → has_at (λ x. nat_eq x c) 0 cs ≡ true
+    → Cuts dialect scope at (c ∷ cs) (Ok (record { piece = piece.Plain c; len = 2 }))
+cut_double dialect scope at c [] e f = absurd (false≢true f)
+cut_double dialect scope at c (d ∷ cs) e f =
     let same : d ≡ c = eq_true d c f in
-    subst (λ d. Cuts scope at (c ∷ d ∷ cs) (Ok (record { piece = piece.Plain c; len = 2 }))) (sym same)
+    subst (λ d. Cuts dialect scope at (c ∷ d ∷ cs) (Ok (record { piece = piece.Plain c; len = 2 }))) (sym same)
     (lit< tt, omega arith, λ parts h. Template.doubled at c e h)
 
 not_next : (c : ℕ) (cs rest : List ℕ) → has_at (λ x. nat_eq x c) 0 cs ≡ false → cs ≢ c ∷ rest
@@ -104,12 +105,12 @@ not_next c (d ∷ cs) rest f e =
     let yes : nat_eq d c ≡ true = grind (arith, nat_tests) in
     false≢true (sym f ∙ yes)
 
-pub cut_lone : (scope : List Binding) (at : ℕ) (cs : List ℕ) → has_at (λ x. nat_eq x 125) 0 cs ≡ false → Template scope at (125 ∷ cs) (fault_of kind.Syntax at)
-cut_lone scope at cs f = Template.lone at cs (λ rest. not_next 125 cs rest f)
+pub cut_lone : (dialect : Dialect) (scope : List Binding) (at : ℕ) (cs : List ℕ) → has_at (λ x. nat_eq x 125) 0 cs ≡ false → Template dialect scope at (125 ∷ cs) (fault_of kind.Syntax at)
+cut_lone dialect scope at cs f = Template.lone at cs (λ rest. not_next 125 cs rest f)
 
-pub cut_unended : (scope : List Binding) (at : ℕ) (cs : List ℕ) → has_at (λ x. nat_eq x 123) 0 cs ≡ false → closing None cs ≡ None
-    → Template scope at (123 ∷ cs) (fault_of kind.Syntax at)
-cut_unended scope at cs f e = Template.unended at cs (λ rest. not_next 123 cs rest f) e
+pub cut_unended : (dialect : Dialect) (scope : List Binding) (at : ℕ) (cs : List ℕ) → has_at (λ x. nat_eq x 123) 0 cs ≡ false → closing None cs ≡ None
+    → Template dialect scope at (123 ∷ cs) (fault_of kind.Syntax at)
+cut_unended dialect scope at cs f e = Template.unended at cs (λ rest. not_next 123 cs rest f) e
 
 -- the expression's characters, and what follows its brace
 record Inner (cs : List ℕ) (n : ℕ) : Type 0 where
@@ -149,10 +150,10 @@ closing_within cs n e =
     let i = inner_at cs None n e in
     omega (arith, ap length i.are, length-append i.inner (125 ∷ i.rest), i.is_long)
 
-template_at : (scope : List Binding) (at place : ℕ) (rest left : List ℕ) (read : Read (List AvtPart)) → at ≡ place → rest ≡ left
-    → Template scope at rest read → Template scope place left read
-template_at scope at place rest left read e f h =
-    subst (λ at. Template scope at left read) e (subst (λ rest. Template scope at rest read) f h)
+template_at : (dialect : Dialect) (scope : List Binding) (at place : ℕ) (rest left : List ℕ) (read : Read (List AvtPart)) → at ≡ place → rest ≡ left
+    → Template dialect scope at rest read → Template dialect scope place left read
+template_at dialect scope at place rest left read e f h =
+    subst (λ at. Template dialect scope at left read) e (subst (λ rest. Template dialect scope at rest read) f h)
 
 not_brace : (inner rest : List ℕ) → has_at (λ c. nat_eq c 123) 0 (inner ++ 125 ∷ rest) ≡ false → (left : List ℕ) → inner ≢ 123 ∷ left
 not_brace inner rest f left e = not_next 123 (inner ++ 125 ∷ rest) (left ++ 125 ∷ rest) f (ap (λ cs. cs ++ 125 ∷ rest) e)
@@ -163,90 +164,90 @@ behind_brace inner rest =
     let long : length front ≡ length inner + 2 = omega (arith, length-append inner (125 ∷ [])) in
     ap (λ cs. drop (length inner + 2) (123 ∷ cs)) (sym (append_assoc inner (125 ∷ []) rest)) ∙ drop_at front rest (length inner + 2) long
 
-value_at : (scope : List Binding) (at : ℕ) (inner rest : List ℕ) (x : Expr) → has_at (λ c. nat_eq c 123) 0 (inner ++ 125 ∷ rest) ≡ false
-    → closing None (inner ++ 125 ∷ rest) ≡ Some (length inner) → Gives (grammar.Spells scope 1) (at + 1) inner (Ok x)
-    → Cuts scope at (123 ∷ (inner ++ 125 ∷ rest)) (Ok (record { piece = piece.Value x; len = length inner + 2 }))
-value_at scope at inner rest x f e g = (
+value_at : (dialect : Dialect) (scope : List Binding) (at : ℕ) (inner rest : List ℕ) (x : Expr) → has_at (λ c. nat_eq c 123) 0 (inner ++ 125 ∷ rest) ≡ false
+    → closing None (inner ++ 125 ∷ rest) ≡ Some (length inner) → Gives (grammar.Spells dialect scope 1) (at + 1) inner (Ok x)
+    → Cuts dialect scope at (123 ∷ (inner ++ 125 ∷ rest)) (Ok (record { piece = piece.Value x; len = length inner + 2 }))
+value_at dialect scope at inner rest x f e g = (
   omega arith,
   omega (arith, length-append inner (125 ∷ rest)),
   λ parts h.
       let place : at + (length inner + 2) ≡ at + length inner + 2 = omega arith in
-      Template.value at inner rest x (not_brace inner rest f) e g (template_at scope _ _ _ rest parts place (behind_brace inner rest) h),
+      Template.value at inner rest x (not_brace inner rest f) e g (template_at dialect scope _ _ _ rest parts place (behind_brace inner rest) h),
 )
 
-pub cut_value : (scope : List Binding) (at n : ℕ) (cs : List ℕ) (x : Expr) → has_at (λ c. nat_eq c 123) 0 cs ≡ false → closing None cs ≡ Some n
-    → Gives (grammar.Spells scope 1) (at + 1) (take n cs) (Ok x) → Cuts scope at (123 ∷ cs) (Ok (record { piece = piece.Value x; len = n + 2 }))
-cut_value scope at n cs x f e g = by (inner_at cs None n e)
+pub cut_value : (dialect : Dialect) (scope : List Binding) (at n : ℕ) (cs : List ℕ) (x : Expr) → has_at (λ c. nat_eq c 123) 0 cs ≡ false → closing None cs ≡ Some n
+    → Gives (grammar.Spells dialect scope 1) (at + 1) (take n cs) (Ok x) → Cuts dialect scope at (123 ∷ cs) (Ok (record { piece = piece.Value x; len = n + 2 }))
+cut_value dialect scope at n cs x f e g = by (inner_at cs None n e)
   where
-    by : Inner cs n → Cuts scope at (123 ∷ cs) (Ok (record { piece = piece.Value x; len = n + 2 }))
+    by : Inner cs n → Cuts dialect scope at (123 ∷ cs) (Ok (record { piece = piece.Value x; len = n + 2 }))
     by i =
         let front : take n cs ≡ i.inner = ap (take n) i.are ∙ take_at i.inner (125 ∷ i.rest) n i.is_long in
-        let all = value_at scope at i.inner i.rest x (ap (has_at (λ c. nat_eq c 123) 0) (sym i.are) ∙ f)
-        (ap (closing None) (sym i.are) ∙ e ∙ ap Some (sym i.is_long)) (subst (λ cs. Gives (grammar.Spells scope 1) (at + 1) cs (Ok x)) front g) in
-        subst (λ cs. Cuts scope at (123 ∷ cs) (Ok (record { piece = piece.Value x; len = n + 2 }))) (sym i.are)
-        (subst (λ n. Cuts scope at (123 ∷ (i.inner ++ 125 ∷ i.rest)) (Ok (record { piece = piece.Value x; len = n + 2 }))) i.is_long all)
+        let all = value_at dialect scope at i.inner i.rest x (ap (has_at (λ c. nat_eq c 123) 0) (sym i.are) ∙ f)
+        (ap (closing None) (sym i.are) ∙ e ∙ ap Some (sym i.is_long)) (subst (λ cs. Gives (grammar.Spells dialect scope 1) (at + 1) cs (Ok x)) front g) in
+        subst (λ cs. Cuts dialect scope at (123 ∷ cs) (Ok (record { piece = piece.Value x; len = n + 2 }))) (sym i.are)
+        (subst (λ n. Cuts dialect scope at (123 ∷ (i.inner ++ 125 ∷ i.rest)) (Ok (record { piece = piece.Value x; len = n + 2 }))) i.is_long all)
 
-pub cut_faulty : (scope : List Binding) (at n : ℕ) (cs : List ℕ) (why : PathFault) → has_at (λ c. nat_eq c 123) 0 cs ≡ false → closing None cs ≡ Some n
-    → Gives (grammar.Spells scope 1) (at + 1) (take n cs) (Err why) → Template scope at (123 ∷ cs) (Err why)
-cut_faulty scope at n cs why f e g = by (inner_at cs None n e)
+pub cut_faulty : (dialect : Dialect) (scope : List Binding) (at n : ℕ) (cs : List ℕ) (why : PathFault) → has_at (λ c. nat_eq c 123) 0 cs ≡ false → closing None cs ≡ Some n
+    → Gives (grammar.Spells dialect scope 1) (at + 1) (take n cs) (Err why) → Template dialect scope at (123 ∷ cs) (Err why)
+cut_faulty dialect scope at n cs why f e g = by (inner_at cs None n e)
   where
-    by : Inner cs n → Template scope at (123 ∷ cs) (Err why)
+    by : Inner cs n → Template dialect scope at (123 ∷ cs) (Err why)
     by i =
         let front : take n cs ≡ i.inner = ap (take n) i.are ∙ take_at i.inner (125 ∷ i.rest) n i.is_long in
         let same : closing None (i.inner ++ 125 ∷ i.rest) ≡ Some (length i.inner) = ap (closing None) (sym i.are) ∙ e ∙ ap Some (sym i.is_long) in
-        subst (λ cs. Template scope at (123 ∷ cs) (Err why)) (sym i.are)
+        subst (λ cs. Template dialect scope at (123 ∷ cs) (Err why)) (sym i.are)
         (Template.faulty at i.inner i.rest why (not_brace i.inner i.rest (ap (has_at (λ c. nat_eq c 123) 0) (sym i.are) ∙ f)) same
-        (subst (λ cs. Gives (grammar.Spells scope 1) (at + 1) cs (Err why)) front g))
+        (subst (λ cs. Gives (grammar.Spells dialect scope 1) (at + 1) cs (Err why)) front g))
 
 open_brace : (c : ℕ) → is_brace c ≡ true → c ≢ 125 → c ≡ 123
 open_brace c e ne = grind (arith, nat_tests)
 
-pub lone_by : (scope : List Binding) (at c : ℕ) (cs : List ℕ) (why : ParseFault) → c ≡ 125 → why ≡ fault.Path (record { kind = kind.Syntax; place = at })
-    → has_at (λ x. nat_eq x c) 0 cs ≡ false → Cuts scope at (c ∷ cs) (Err why)
-lone_by scope at c cs why e f g =
-    subst (λ why. Cuts scope at (c ∷ cs) (Err why)) (sym f)
-    (subst (λ c. Template scope at (c ∷ cs) (fault_of kind.Syntax at)) (sym e) (cut_lone scope at cs (subst (λ c. has_at (λ x. nat_eq x c) 0 cs ≡ false) e g)))
+pub lone_by : (dialect : Dialect) (scope : List Binding) (at c : ℕ) (cs : List ℕ) (why : ParseFault) → c ≡ 125 → why ≡ fault.Path (record { kind = kind.Syntax; place = at })
+    → has_at (λ x. nat_eq x c) 0 cs ≡ false → Cuts dialect scope at (c ∷ cs) (Err why)
+lone_by dialect scope at c cs why e f g =
+    subst (λ why. Cuts dialect scope at (c ∷ cs) (Err why)) (sym f)
+    (subst (λ c. Template dialect scope at (c ∷ cs) (fault_of kind.Syntax at)) (sym e) (cut_lone dialect scope at cs (subst (λ c. has_at (λ x. nat_eq x c) 0 cs ≡ false) e g)))
 
-pub unended_by : (scope : List Binding) (at c : ℕ) (cs : List ℕ) (why : ParseFault) → is_brace c ≡ true → c ≢ 125
-    → why ≡ fault.Path (record { kind = kind.Syntax; place = at }) → has_at (λ x. nat_eq x c) 0 cs ≡ false → closing None cs ≡ None → Cuts scope at (c ∷ cs) (Err why)
-unended_by scope at c cs why b ne f g h =
+pub unended_by : (dialect : Dialect) (scope : List Binding) (at c : ℕ) (cs : List ℕ) (why : ParseFault) → is_brace c ≡ true → c ≢ 125
+    → why ≡ fault.Path (record { kind = kind.Syntax; place = at }) → has_at (λ x. nat_eq x c) 0 cs ≡ false → closing None cs ≡ None → Cuts dialect scope at (c ∷ cs) (Err why)
+unended_by dialect scope at c cs why b ne f g h =
     let e = open_brace c b ne in
-    subst (λ why. Cuts scope at (c ∷ cs) (Err why)) (sym f)
-    (subst (λ c. Template scope at (c ∷ cs) (fault_of kind.Syntax at)) (sym e) (cut_unended scope at cs (subst (λ c. has_at (λ x. nat_eq x c) 0 cs ≡ false) e g) h))
+    subst (λ why. Cuts dialect scope at (c ∷ cs) (Err why)) (sym f)
+    (subst (λ c. Template dialect scope at (c ∷ cs) (fault_of kind.Syntax at)) (sym e) (cut_unended dialect scope at cs (subst (λ c. has_at (λ x. nat_eq x c) 0 cs ≡ false) e g) h))
 
-pub value_by : (scope : List Binding) (at c n : ℕ) (cs : List ℕ) (x : Expr) → is_brace c ≡ true → c ≢ 125 → has_at (λ x. nat_eq x c) 0 cs ≡ false
-    → closing None cs ≡ Some n → Gives (grammar.Spells scope 1) (at + 1) (take n cs) (Ok x) → Cuts scope at (c ∷ cs) (Ok (record { piece = piece.Value x; len = n + 2 }))
-value_by scope at c n cs x b ne g h r =
+pub value_by : (dialect : Dialect) (scope : List Binding) (at c n : ℕ) (cs : List ℕ) (x : Expr) → is_brace c ≡ true → c ≢ 125 → has_at (λ x. nat_eq x c) 0 cs ≡ false
+    → closing None cs ≡ Some n → Gives (grammar.Spells dialect scope 1) (at + 1) (take n cs) (Ok x) → Cuts dialect scope at (c ∷ cs) (Ok (record { piece = piece.Value x; len = n + 2 }))
+value_by dialect scope at c n cs x b ne g h r =
     let e = open_brace c b ne in
-    subst (λ c. Cuts scope at (c ∷ cs) (Ok (record { piece = piece.Value x; len = n + 2 }))) (sym e)
-    (cut_value scope at n cs x (subst (λ c. has_at (λ x. nat_eq x c) 0 cs ≡ false) e g) h r)
+    subst (λ c. Cuts dialect scope at (c ∷ cs) (Ok (record { piece = piece.Value x; len = n + 2 }))) (sym e)
+    (cut_value dialect scope at n cs x (subst (λ c. has_at (λ x. nat_eq x c) 0 cs ≡ false) e g) h r)
 
-pub faulty_by : (scope : List Binding) (at c n : ℕ) (cs : List ℕ) (why : ParseFault) → is_brace c ≡ true → c ≢ 125 → has_at (λ x. nat_eq x c) 0 cs ≡ false
-    → closing None cs ≡ Some n → Answers (Gives (grammar.Spells scope 1) (at + 1) (take n cs)) (Err why) → Cuts scope at (c ∷ cs) (Err why)
-faulty_by scope at c n cs (fault.Path f) b ne g h r =
+pub faulty_by : (dialect : Dialect) (scope : List Binding) (at c n : ℕ) (cs : List ℕ) (why : ParseFault) → is_brace c ≡ true → c ≢ 125 → has_at (λ x. nat_eq x c) 0 cs ≡ false
+    → closing None cs ≡ Some n → Answers (Gives (grammar.Spells dialect scope 1) (at + 1) (take n cs)) (Err why) → Cuts dialect scope at (c ∷ cs) (Err why)
+faulty_by dialect scope at c n cs (fault.Path f) b ne g h r =
     let e = open_brace c b ne in
-    subst (λ c. Template scope at (c ∷ cs) (Err f)) (sym e) (cut_faulty scope at n cs f (subst (λ c. has_at (λ x. nat_eq x c) 0 cs ≡ false) e g) h r)
-faulty_by scope at c n cs fault.Memory b ne g h r = tt
+    subst (λ c. Template dialect scope at (c ∷ cs) (Err f)) (sym e) (cut_faulty dialect scope at n cs f (subst (λ c. has_at (λ x. nat_eq x c) 0 cs ≡ false) e g) h r)
+faulty_by dialect scope at c n cs fault.Memory b ne g h r = tt
 
-pub rests_begin : (scope : List Binding) (text chars : List ℕ) → chars ≡ text → Rests scope text [] [] 0 chars
-rests_begin scope text chars e (Ok parts) h = subst (λ t. Template scope 0 t (Ok parts)) e h
-rests_begin scope text chars e (Err why) h = subst (λ t. Template scope 0 t (Err why)) e h
+pub rests_begin : (dialect : Dialect) (scope : List Binding) (text chars : List ℕ) → chars ≡ text → Rests dialect scope text [] [] 0 chars
+rests_begin dialect scope text chars e (Ok parts) h = subst (λ t. Template dialect scope 0 t (Ok parts)) e h
+rests_begin dialect scope text chars e (Err why) h = subst (λ t. Template dialect scope 0 t (Err why)) e h
 
 no_rest : (cs : List ℕ) → length cs ≡ 0 → cs ≡ []
 no_rest [] e = refl
 no_rest (c ∷ cs) e = absurd (omega (arith, e))
 
-pub piece_last : (scope : List Binding) (text : List ℕ) (before all : List AvtPart) (plain : List ℕ) (at : ℕ) (rest : List ℕ)
-    → Rests scope text before plain at rest → length rest ≡ 0 → all ≡ before ++ flushed plain → Template scope 0 text (Ok all)
-piece_last scope text before all plain at rest inv e is =
-    subst (λ parts. Template scope 0 text (Ok parts)) (sym is) (piece_end scope text before plain at rest inv (no_rest rest e))
+pub piece_last : (dialect : Dialect) (scope : List Binding) (text : List ℕ) (before all : List AvtPart) (plain : List ℕ) (at : ℕ) (rest : List ℕ)
+    → Rests dialect scope text before plain at rest → length rest ≡ 0 → all ≡ before ++ flushed plain → Template dialect scope 0 text (Ok all)
+piece_last dialect scope text before all plain at rest inv e is =
+    subst (λ parts. Template dialect scope 0 text (Ok parts)) (sym is) (piece_end dialect scope text before plain at rest inv (no_rest rest e))
 
-pub pieces_on : (scope : List Binding) (text : List ℕ) (before after : List AvtPart) (plain chars : List ℕ) (at c : ℕ) (rest behind next : List ℕ) (cut : Cut)
-    → Rests scope text before plain at rest → at + length rest ≡ length text → rest ≡ c ∷ behind → Cuts scope at (c ∷ behind) (Ok cut)
+pub pieces_on : (dialect : Dialect) (scope : List Binding) (text : List ℕ) (before after : List AvtPart) (plain chars : List ℕ) (at c : ℕ) (rest behind next : List ℕ) (cut : Cut)
+    → Rests dialect scope text before plain at rest → at + length rest ≡ length text → rest ≡ c ∷ behind → Cuts dialect scope at (c ∷ behind) (Ok cut)
     → Appended before plain cut.piece after chars → next ≡ drop cut.len rest
-    → Rests scope text after chars (at + cut.len) next × (at + cut.len + length next ≡ length text)
-pieces_on scope text before after plain chars at c rest behind next cut inv total is h a n =
-    let front : Cuts scope at rest (Ok cut) = subst (λ rest. Cuts scope at rest (Ok cut)) (sym is) h in (
-      subst (λ rest. Rests scope text after chars (at + cut.len) rest) (sym n) (one_piece scope text before after plain chars cut.piece at cut.len rest inv front.2 a),
+    → Rests dialect scope text after chars (at + cut.len) next × (at + cut.len + length next ≡ length text)
+pieces_on dialect scope text before after plain chars at c rest behind next cut inv total is h a n =
+    let front : Cuts dialect scope at rest (Ok cut) = subst (λ rest. Cuts dialect scope at rest (Ok cut)) (sym is) h in (
+      subst (λ rest. Rests dialect scope text after chars (at + cut.len) rest) (sym n) (one_piece dialect scope text before after plain chars cut.piece at cut.len rest inv front.2 a),
       omega (arith, total, front.1, ap length n, length-drop cut.len rest),
     )

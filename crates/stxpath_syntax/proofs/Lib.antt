@@ -13,6 +13,7 @@ pub mod Wording
 pub mod Heights
 pub mod Readable
 pub mod Shaping
+pub mod Evaluable
 pub mod WellMade
 pub mod Printing
 pub mod ReadingBack

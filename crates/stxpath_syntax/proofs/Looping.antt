@@ -2,6 +2,7 @@
 use Rattle.std.proofs.Common.{◌≡◌, ℕ, ◌+◌, ◌<◌, ◌≤◌, false, List, [], ◌∷◌, ◌++◌, Some, None, Option, Ok, Err, length, drop, sym, ◌∙◌, ap, subst, append_assoc, arith}
 use Rattle.std.proofs.lemmas.List.{append-nil, length-drop}
 use Rattle.stx_base.specs.declared.name.Binding.{Binding}
+use Rattle.stxpath_syntax.specs.declared.dialect.Dialect.{Dialect}
 use Rattle.stxpath_syntax.specs.declared.fault.ParseFault.{ParseFault}
 use Rattle.stxpath_syntax.specs.declared.fault.ParseFault.TheVariants as fault
 use Rattle.stxpath_syntax.specs.declared.fault.PathFault.{PathFault}
@@ -38,24 +39,24 @@ pub lex_end : (at : ℕ) (text : List ℕ) (found : List Placed) (before : Befor
 lex_end at text found before rest inv h = subst (λ ts. Tokens at text ts None) (append-nil found) (inv [] None h)
 
 -- tokens that lead from the beginning to a state, and those that are left
-abbrev pub Leads : List Binding → State → List Placed → List Placed → State → Type 0
-Leads scope begun ts rest state = (front : List Placed) × (ts ≡ front ++ rest) × (run scope front begun ≡ Some state)
+abbrev pub Leads : Dialect → List Binding → State → List Placed → List Placed → State → Type 0
+Leads dialect scope begun ts rest state = (front : List Placed) × (ts ≡ front ++ rest) × (run dialect scope front begun ≡ Some state)
 
-pub run_on : (scope : List Binding) (begun : State) (ts rest left : List Placed) (t : Placed) (state after : State)
-    → Leads scope begun ts rest state → rest ≡ t ∷ left → step scope state t ≡ Some after → Leads scope begun ts left after
-run_on scope begun ts rest left t state after (front, e, r) l s =
-    (front ++ t ∷ [], e ∙ ap (λ rest. front ++ rest) l ∙ sym (append_assoc front (t ∷ []) left), run_more scope front t begun state after r s)
+pub run_on : (dialect : Dialect) (scope : List Binding) (begun : State) (ts rest left : List Placed) (t : Placed) (state after : State)
+    → Leads dialect scope begun ts rest state → rest ≡ t ∷ left → step dialect scope state t ≡ Some after → Leads dialect scope begun ts left after
+run_on dialect scope begun ts rest left t state after (front, e, r) l s =
+    (front ++ t ∷ [], e ∙ ap (λ rest. front ++ rest) l ∙ sym (append_assoc front (t ∷ []) left), run_more dialect scope front t begun state after r s)
 
-pub run_fault : (scope : List Binding) (begun : State) (ts rest left : List Placed) (t : Placed) (state : State) (e : ParseFault)
-    → Leads scope begun ts rest state → rest ≡ t ∷ left → Nexts scope state t (Err e) → Runs scope begun ts (Err e)
-run_fault scope begun ts rest left t state (fault.Path f) (front, e, r) l h =
+pub run_fault : (dialect : Dialect) (scope : List Binding) (begun : State) (ts rest left : List Placed) (t : Placed) (state : State) (e : ParseFault)
+    → Leads dialect scope begun ts rest state → rest ≡ t ∷ left → Nexts dialect scope state t (Err e) → Runs dialect scope begun ts (Err e)
+run_fault dialect scope begun ts rest left t state (fault.Path f) (front, e, r) l h =
     (t, record { front = front; rest = left; state = state; are = e ∙ ap (λ rest. front ++ rest) l; leads = r; is_stuck = h.0 }, h.1)
-run_fault scope begun ts rest left t state fault.Memory w l h = tt
+run_fault dialect scope begun ts rest left t state fault.Memory w l h = tt
 
-pub run_end : (scope : List Binding) (begun : State) (ts rest : List Placed) (state : State) → Leads scope begun ts rest state → rest ≡ [] → Runs scope begun ts (Ok state)
-run_end scope begun ts rest state (front, e, r) l =
+pub run_end : (dialect : Dialect) (scope : List Binding) (begun : State) (ts rest : List Placed) (state : State) → Leads dialect scope begun ts rest state → rest ≡ [] → Runs dialect scope begun ts (Ok state)
+run_end dialect scope begun ts rest state (front, e, r) l =
     let all : ts ≡ front = e ∙ ap (λ rest. front ++ rest) l ∙ append-nil front in
-    subst (λ ts. run scope ts begun ≡ Some state) (sym all) r
+    subst (λ ts. run dialect scope ts begun ≡ Some state) (sym all) r
 
 -- one token that was read
 placed_at : Before → Token → ℕ → Placed

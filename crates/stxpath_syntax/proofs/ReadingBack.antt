@@ -10,6 +10,7 @@ use Rattle.stx_base.specs.declared.name.Binding.{Binding}
 use Rattle.stx_base.specs.declared.name.Name.{Name}
 use Rattle.stx_base.specs.declared.node.NodeTest.{NodeTest}
 use Rattle.stx_base.specs.declared.node.NodeTest.TheVariants as test
+use Rattle.stxpath_syntax.specs.declared.dialect.Dialect.{Dialect}
 use Rattle.stxpath_syntax.specs.declared.expr.Bin.{Bin}
 use Rattle.stxpath_syntax.specs.declared.expr.Expr.{Expr}
 use Rattle.stxpath_syntax.specs.declared.expr.Expr.TheVariants as e
@@ -111,19 +112,20 @@ within_no_slash : (prefix rest : List ℕ) → IsNc prefix → NoSlash (within_t
 within_no_slash [] rest nc = absurd nc
 within_no_slash (c ∷ cs) rest nc = name_no_slash (c ∷ cs) [] nc
 
-test_no_slash : (t : NodeTest) (rest : List ℕ) → GoodTest t → NoSlash (test_text t ++ rest)
-test_no_slash (test.Name name) rest (nc, p) = prefixed_no_slash name.prefix name.uri name.local rest nc p
-test_no_slash (test.Prefix binding) rest nc = within_no_slash binding.prefix rest nc
-test_no_slash test.AnyElement rest g = refl
-test_no_slash test.AnyNode rest g = refl
-test_no_slash test.Chars rest g = refl
-test_no_slash test.Comment rest g = refl
-test_no_slash test.AnyPi rest g = refl
-test_no_slash (test.Pi target) rest g = refl
-test_no_slash test.Document rest g = absurd g
-test_no_slash (test.AttrName name) rest g = absurd g
-test_no_slash (test.AttrPrefix binding) rest g = absurd g
-test_no_slash test.AnyAttr rest g = absurd g
+test_no_slash : (dialect : Dialect) (t : NodeTest) (rest : List ℕ) → GoodTest dialect t → NoSlash (test_text t ++ rest)
+test_no_slash dialect (test.Name name) rest (nc, p) = prefixed_no_slash name.prefix name.uri name.local rest nc p
+test_no_slash dialect (test.Prefix binding) rest nc = within_no_slash binding.prefix rest nc
+test_no_slash dialect test.AnyElement rest g = refl
+test_no_slash dialect test.AnyNode rest g = refl
+test_no_slash dialect test.Chars rest g = refl
+test_no_slash dialect test.CData rest g = refl
+test_no_slash dialect test.Comment rest g = refl
+test_no_slash dialect test.AnyPi rest g = refl
+test_no_slash dialect (test.Pi target) rest g = refl
+test_no_slash dialect test.Document rest g = absurd g
+test_no_slash dialect (test.AttrName name) rest g = absurd g
+test_no_slash dialect (test.AttrPrefix binding) rest g = absurd g
+test_no_slash dialect test.AnyAttr rest g = absurd g
 
 attr_no_slash : (t : NodeTest) (rest : List ℕ) → GoodAttr t → NoSlash (test_text t ++ rest)
 attr_no_slash (test.AttrName name) rest nc = refl
@@ -134,6 +136,7 @@ attr_no_slash (test.Prefix binding) rest g = absurd g
 attr_no_slash test.AnyElement rest g = absurd g
 attr_no_slash test.AnyNode rest g = absurd g
 attr_no_slash test.Chars rest g = absurd g
+attr_no_slash test.CData rest g = absurd g
 attr_no_slash test.Comment rest g = absurd g
 attr_no_slash test.AnyPi rest g = absurd g
 attr_no_slash (test.Pi target) rest g = absurd g
@@ -166,7 +169,7 @@ prefixed_within (c ∷ cs) nc = within (c ∷ cs) nc
 some_long : (c : ℕ) (cs : List ℕ) → nat_eq (length (c ∷ cs)) 0 ≡ false
 some_long c cs = grind (arith, nat_tests)
 
-module _ (other : List Binding) where
+module _ (dialect : Dialect) (other : List Binding) where
   agrees_front : (bs cs : List Binding) → Agrees other (bs ++ cs) → Agrees other bs
   agrees_front [] cs a = tt
   agrees_front (b ∷ bs) cs a = (a.0, agrees_front bs cs a.1)
@@ -190,23 +193,23 @@ module _ (other : List Binding) where
   -- ---- tests
 
   is_named : (name : Name) → GoodName name → Agrees other (prefix_bound name.prefix name.uri) → (ts : List Placed) → Tok (token.Name (written name.prefix name.local)) ts
-      → Test other ts (flat (test.Name name))
+      → Test dialect other ts (flat (test.Name name))
   is_named name (nc, pre) a ts (Tok.tok p) =
-      subst (λ m. Test other (at p (token.Name (written name.prefix name.local)) ∷ []) (made 0 test.Name m)) (name_is name.prefix name.uri name.local p pre a)
+      subst (λ m. Test dialect other (at p (token.Name (written name.prefix name.local)) ∷ []) (made 0 test.Name m)) (name_is name.prefix name.uri name.local p pre a)
       (Test.named p (written name.prefix name.local))
 
-  is_within : (b : Binding) → IsNc b.prefix → Agrees other (prefix_bound b.prefix b.uri) → (ts : List Placed) → Tok (token.Within b.prefix) ts → Test other ts (flat (test.Prefix b))
+  is_within : (b : Binding) → IsNc b.prefix → Agrees other (prefix_bound b.prefix b.uri) → (ts : List Placed) → Tok (token.Within b.prefix) ts → Test dialect other ts (flat (test.Prefix b))
   is_within b nc a ts (Tok.tok p) =
-      subst (λ m. Test other (at p (token.Within b.prefix) ∷ []) (made 0 test.Prefix m)) (binding_is b.prefix b.uri p nc a) (Test.within p b.prefix)
+      subst (λ m. Test dialect other (at p (token.Within b.prefix) ∷ []) (made 0 test.Prefix m)) (binding_is b.prefix b.uri p nc a) (Test.within p b.prefix)
 
-  is_any : (ts : List Placed) → Tok token.Star ts → Test other ts (flat test.AnyElement)
+  is_any : (ts : List Placed) → Tok token.Star ts → Test dialect other ts (flat test.AnyElement)
   is_any ts (Tok.tok p) = Test.any p
 
-  is_type : (word : List ℕ) (t : NodeTest) → type_of (written [] word) ≡ Some t → (ts : List Placed) → Three (plain_name word) token.Open token.Close ts → Test other ts (flat t)
+  is_type : (word : List ℕ) (t : NodeTest) → type_of dialect (written [] word) ≡ Some t → (ts : List Placed) → Three (plain_name word) token.Open token.Close ts → Test dialect other ts (flat t)
   is_type word t is ts (Three.three p o c) = Test.type p o c (written [] word) t is
 
-  is_target : (word target : List ℕ) → type_of (written [] word) ≡ Some test.AnyPi → (ts : List Placed)
-      → Four (plain_name word) token.Open (token.Literal target) token.Close ts → Test other ts (flat (test.Pi target))
+  is_target : (word target : List ℕ) → type_of dialect (written [] word) ≡ Some test.AnyPi → (ts : List Placed)
+      → Four (plain_name word) token.Open (token.Literal target) token.Close ts → Test dialect other ts (flat (test.Pi target))
   is_target word target is ts (Four.four p o q c) = Test.target p o q c (written [] word) target is
 
   type_piece : {p d : ℕ} (word : List ℕ) → IsNc word → d ≤ 63
@@ -222,14 +225,17 @@ module _ (other : List Binding) where
       (λ q. join (quotes target one) (λ r. close_bracket) (λ rest u. tt) (both_two (token.Literal target) token.Close))
       (λ rest u. tt) (both_four (plain_name word) token.Open (token.Literal target) token.Close)
 
-  test_piece : {p d : ℕ} (t : NodeTest) → GoodTest t → Agrees other (test_prefixes t) → d ≤ 63
-      → Piece (λ ts. Test other ts (flat t)) Breaks (test_text t) (before_at p d false) d true
+  test_piece : {p d : ℕ} (t : NodeTest) → GoodTest dialect t → Agrees other (test_prefixes t) → d ≤ 63
+      → Piece (λ ts. Test dialect other ts (flat t)) Breaks (test_text t) (before_at p d false) d true
   unfolding lib.Utf8.encode
   test_piece (test.Name name) n a l = becomes (is_named name n a) (prefixed_name name.prefix name.uri name.local n.0 n.1)
   test_piece (test.Prefix binding) nc a l = narrows (λ rest b. tt) (becomes (is_within binding nc a) (prefixed_within binding.prefix nc))
   test_piece test.AnyElement n a l = narrows (λ rest b. tt) (becomes is_any star)
   test_piece test.AnyNode n a l = narrows (λ rest b. tt) (becomes (is_type (codes "node") test.AnyNode refl) (type_piece (codes "node") (refl, refl) l))
   test_piece test.Chars n a l = narrows (λ rest b. tt) (becomes (is_type (codes "text") test.Chars refl) (type_piece (codes "text") (refl, refl) l))
+  test_piece test.CData n a l =
+      let is : type_of dialect (written [] (codes "cdata")) ≡ Some test.CData = ap (λ d. type_of d (written [] (codes "cdata"))) n in
+      narrows (λ rest b. tt) (becomes (is_type (codes "cdata") test.CData is) (type_piece (codes "cdata") (refl, refl) l))
   test_piece test.Comment n a l = narrows (λ rest b. tt) (becomes (is_type (codes "comment") test.Comment refl) (type_piece (codes "comment") (refl, refl) l))
   test_piece test.AnyPi n a l =
       narrows (λ rest b. tt) (becomes (is_type (codes "processing-instruction") test.AnyPi refl) (type_piece (codes "processing-instruction") (refl, refl) l))
@@ -268,6 +274,7 @@ module _ (other : List Binding) where
   attr_piece test.AnyElement n a = absurd n
   attr_piece test.AnyNode n a = absurd n
   attr_piece test.Chars n a = absurd n
+  attr_piece test.CData n a = absurd n
   attr_piece test.Comment n a = absurd n
   attr_piece test.AnyPi n a = absurd n
   attr_piece (test.Pi target) n a = absurd n
@@ -335,10 +342,10 @@ module _ (other : List Binding) where
   record Printable (x : Expr) (h : ℕ) (p : Printed) : Type 0 where
     is_operand : Bool
     ends : p.is_loose ≡ false → is_operand ≡ true
-    put : (place d : ℕ) → d + h ≤ 64 → Piece (λ ts. (n : ℕ) → Tight n p → Spells other n ts (Fine x h)) Closes p.text (before_at place d false) d is_operand
+    put : (place d : ℕ) → d + h ≤ 64 → Piece (λ ts. (n : ℕ) → Tight n p → Spells dialect other n ts (Fine x h)) Closes p.text (before_at place d false) d is_operand
 
   abbrev Means : Expr → ℕ → List Placed → Type 0
-  Means x h ts = (n : ℕ) → Spells other n ts (Fine x h)
+  Means x h ts = (n : ℕ) → Spells dialect other n ts (Fine x h)
 
   firm : {x : Expr} {h : ℕ} (text : List ℕ) → ((place d : ℕ) → d + h ≤ 64 → Piece (Means x h) Closes text (before_at place d false) d true) → Printable x h (closed text)
   firm text f = record { is_operand = true; ends = λ u. refl; put = λ place d l. becomes (λ ts s n t. s n) (f place d l) }
@@ -346,11 +353,11 @@ module _ (other : List Binding) where
   rewritten : {x : Expr} {h : ℕ} {p q : Printed} → p ≡ q → Printable x h p → Printable x h q
   rewritten {x} {h} {p} {q} same w = subst (λ p. Printable x h p) same w
 
-  in_brackets_again : (x : Expr) (h : ℕ) (ts us : List Placed) → ((n : ℕ) → n ≤ 1 → Spells other n ts (Fine x h)) → Tok token.Close us
-      → (n o : ℕ) → Spells other n (at o token.Open ∷ (ts ++ us)) (Fine x h)
+  in_brackets_again : (x : Expr) (h : ℕ) (ts us : List Placed) → ((n : ℕ) → n ≤ 1 → Spells dialect other n ts (Fine x h)) → Tok token.Close us
+      → (n o : ℕ) → Spells dialect other n (at o token.Open ∷ (ts ++ us)) (Fine x h)
   in_brackets_again x h ts us s (Tok.tok c) n o = Spells.single n o c (s 1 (omega arith))
 
-  opens_again : (x : Expr) (h : ℕ) (ts us : List Placed) → Tok token.Open ts → ((n o : ℕ) → Spells other n (at o token.Open ∷ us) (Fine x h)) → Means x h (ts ++ us)
+  opens_again : (x : Expr) (h : ℕ) (ts us : List Placed) → Tok token.Open ts → ((n o : ℕ) → Spells dialect other n (at o token.Open ∷ us) (Fine x h)) → Means x h (ts ++ us)
   opens_again x h ts us (Tok.tok o) s n = s n o
 
   as_operand : (x : Expr) (h : ℕ) (p : Printed) → Printable x h p → (place d : ℕ) → d + h + 1 ≤ 64 → Piece (Means x h) Closes (operand p) (before_at place d false) d true
@@ -366,9 +373,9 @@ module _ (other : List Binding) where
           (becomes (λ ts s n. s n (inr is)) (w.put place d (omega (arith, l))))
 
   is_negated : (x : Expr) (h : ℕ) → h + 1 ≤ 64 → (text : List ℕ) (ts us : List Placed) → Tok minus ts → Means x h us
-      → (n : ℕ) → Tight n (loose text) → Spells other n (ts ++ us) (Fine (e.Neg x) (h + 1))
+      → (n : ℕ) → Tight n (loose text) → Spells dialect other n (ts ++ us) (Fine (e.Neg x) (h + 1))
   is_negated x h l text ts us (Tok.tok p) s n (inl t) =
-      subst (λ m. Spells other n (at p minus ∷ us) m) (fits (e.Neg x) (h + 1) l) (Spells.negated n p (omega (arith, t)) (s 6))
+      subst (λ m. Spells dialect other n (at p minus ∷ us) m) (fits (e.Neg x) (h + 1) l) (Spells.negated n p (omega (arith, t)) (s 6))
   is_negated x h l text ts us (Tok.tok p) s n (inr t) = absurd (false≢true (sym t))
 
   negated : (x : Expr) (h : ℕ) (p : Printed) → h + 1 ≤ 64 → Printable x h p → Printable (e.Neg x) (h + 1) (loose (45 ∷ operand p))
@@ -380,7 +387,7 @@ module _ (other : List Binding) where
 
   -- an operator and its right operand, behind any left one
   abbrev Behind : Bin → Expr → ℕ → List Placed → Type 0
-  Behind b y g us = (n : ℕ) (ts : List Placed) (x : Meant Expr) → n ≤ 1 → Spells other (left_level (operator.Binary b)) ts x → Spells other n (ts ++ us) (binary b x (Fine y g))
+  Behind b y g us = (n : ℕ) (ts : List Placed) (x : Meant Expr) → n ≤ 1 → Spells dialect other (left_level (operator.Binary b)) ts x → Spells dialect other n (ts ++ us) (binary b x (Fine y g))
 
   level_from : (b : Bin) → 1 ≤ level (operator.Binary b)
   level_from b = (level_bounds (operator.Binary b)).2
@@ -390,9 +397,9 @@ module _ (other : List Binding) where
       let low = level_from b in Spells.operation n p (operator.Binary b) (omega arith) d (s (level (operator.Binary b) + 1))
 
   is_operation : (b : Bin) (x y : Expr) (h g : ℕ) → max h g + 1 ≤ 64 → (text : List ℕ) (ts us : List Placed) → Means x h ts → Behind b y g us
-      → (n : ℕ) → Tight n (loose text) → Spells other n (ts ++ us) (Fine (e.Binary b x y) (max h g + 1))
+      → (n : ℕ) → Tight n (loose text) → Spells dialect other n (ts ++ us) (Fine (e.Binary b x y) (max h g + 1))
   is_operation b x y h g l text ts us s f n (inl t) =
-      subst (λ m. Spells other n (ts ++ us) m) (fits (e.Binary b x y) (max h g + 1) l) (f n ts (Fine x h) t (s (left_level (operator.Binary b))))
+      subst (λ m. Spells dialect other n (ts ++ us) m) (fits (e.Binary b x y) (max h g + 1) l) (f n ts (Fine x h) t (s (left_level (operator.Binary b))))
   is_operation b x y h g l text ts us s f n (inr t) = absurd (false≢true (sym t))
 
   operation : (b : Bin) (x y : Expr) (h g : ℕ) (p q : Printed) → max h g + 1 ≤ 64 → Printable x h p → Printable y g q
@@ -409,7 +416,7 @@ module _ (other : List Binding) where
   is_variable : (name : Name) → GoodName name → Agrees other (prefix_bound name.prefix name.uri)
       → (ts us : List Placed) → Tok token.Dollar ts → Tok (token.Name (written name.prefix name.local)) us → Means (e.Var name) 1 (ts ++ us)
   is_variable name (nc, pre) a ts us (Tok.tok d) (Tok.tok p) n =
-      subst (λ m. Spells other n (at d token.Dollar ∷ at p (token.Name (written name.prefix name.local)) ∷ []) (var m))
+      subst (λ m. Spells dialect other n (at d token.Dollar ∷ at p (token.Name (written name.prefix name.local)) ∷ []) (var m))
       (name_is name.prefix name.uri name.local p pre a) (Spells.variable n d p (written name.prefix name.local))
 
   is_whole : (i : ℕ) (ts : List Placed) → Tok (token.Whole (pos i)) ts → Means (e.Whole (pos i)) 1 ts
@@ -418,7 +425,7 @@ module _ (other : List Binding) where
   is_literal : (text : List ℕ) (ts : List Placed) → Tok (token.Literal text) ts → Means (e.Literal text) 1 ts
   is_literal text ts (Tok.tok p) n = Spells.literal n p text
 
-  is_root : (ts : List Placed) → Tok token.Slash ts → (n : ℕ) → Tight n (loose (codes "/")) → Spells other n ts (Fine e.Root 1)
+  is_root : (ts : List Placed) → Tok token.Slash ts → (n : ℕ) → Tight n (loose (codes "/")) → Spells dialect other n ts (Fine e.Root 1)
   is_root ts (Tok.tok p) n t = Spells.root n p
 
   is_above : (k : ℕ) (t : Option NodeTest) (ts us : List Placed) → Parents other ts k → Ending other us (Fine t 0) → Means (e.Up k t) 1 (ts ++ us)
@@ -426,21 +433,21 @@ module _ (other : List Binding) where
 
   -- a path's steps behind some link
   abbrev Walks : List PathStep → ℕ → List Placed → Type 0
-  Walks steps h ts = (l : Link) × (l ≢ link.Start) × Steps other l ts (Fine steps h)
+  Walks steps h ts = (l : Link) × (l ≢ link.Start) × Steps dialect other l ts (Fine steps h)
 
   is_absolute : (steps : List PathStep) (t : Option NodeTest) (h : ℕ) → max h 0 + 1 ≤ 64 → (ts us : List Placed) → Walks steps h ts → Ending other us (Fine t 0)
       → Means (e.Abs steps t) (max h 0 + 1) (ts ++ us)
-  is_absolute steps t h l ts us (k, ne, d) f n = subst (λ m. Spells other n (ts ++ us) m) (fits (e.Abs steps t) (max h 0 + 1) l) (Spells.absolute n ne d f)
+  is_absolute steps t h l ts us (k, ne, d) f n = subst (λ m. Spells dialect other n (ts ++ us) m) (fits (e.Abs steps t) (max h 0 + 1) l) (Spells.absolute n ne d f)
 
   -- a list in parentheses
   record Listing (k : ℕ) (es : List Expr) (h : ℕ) (text : List ℕ) : Type 0 where
     is_operand : Bool
-    put : (place d : ℕ) → d + h ≤ 64 → Piece (λ ts. Listed other k ts (Fine es h)) Closes text (before_at place d false) d is_operand
+    put : (place d : ℕ) → d + h ≤ 64 → Piece (λ ts. Listed dialect other k ts (Fine es h)) Closes text (before_at place d false) d is_operand
 
-  closes_several : (k h : ℕ) (es : List Expr) → k ≢ 1 → h + 1 ≤ 64 → (ts us : List Placed) → Listed other k ts (Fine es h) → Tok token.Close us
-      → (n o : ℕ) → Spells other n (at o token.Open ∷ (ts ++ us)) (Fine (e.Seq es) (h + 1))
+  closes_several : (k h : ℕ) (es : List Expr) → k ≢ 1 → h + 1 ≤ 64 → (ts us : List Placed) → Listed dialect other k ts (Fine es h) → Tok token.Close us
+      → (n o : ℕ) → Spells dialect other n (at o token.Open ∷ (ts ++ us)) (Fine (e.Seq es) (h + 1))
   closes_several k h es ne l ts us d (Tok.tok c) n o =
-      subst (λ m. Spells other n (at o token.Open ∷ (ts ++ at c token.Close ∷ [])) m) (fits (e.Seq es) (h + 1) l) (Spells.several n o c d ne)
+      subst (λ m. Spells dialect other n (at o token.Open ∷ (ts ++ at c token.Close ∷ [])) m) (fits (e.Seq es) (h + 1) l) (Spells.several n o c d ne)
 
   several : (k h : ℕ) (es : List Expr) (text : List ℕ) → k ≢ 1 → h + 1 ≤ 64 → Listing k es h text → Printable (e.Seq es) (h + 1) (closed (in_parentheses text))
   several k h es text ne l w =
@@ -456,19 +463,19 @@ module _ (other : List Binding) where
       ap (λ o. called_by o p k (Fine es h)) is ∙ rw allowed (fits (e.Call f.fun es) (h + 1) l)
 
   closes_call : (name : List ℕ) (f : Function) (k h : ℕ) (es : List Expr) → function_named (encode_utf8_all name) ≡ Some f → permits f k ≡ true → h + 1 ≤ 64
-      → (ts us : List Placed) → Listed other k ts (Fine es h) → Tok token.Close us
-      → (n p o : ℕ) → Spells other n (at p (plain_name name) ∷ at o token.Open ∷ (ts ++ us)) (Fine (e.Call f.fun es) (h + 1))
+      → (ts us : List Placed) → Listed dialect other k ts (Fine es h) → Tok token.Close us
+      → (n p o : ℕ) → Spells dialect other n (at p (plain_name name) ∷ at o token.Open ∷ (ts ++ us)) (Fine (e.Call f.fun es) (h + 1))
   closes_call name f k h es is allowed l ts us d (Tok.tok c) n p o =
-      subst (λ m. Spells other n (at p (plain_name name) ∷ at o token.Open ∷ (ts ++ at c token.Close ∷ [])) m) (called_is name f k h es p is allowed l)
+      subst (λ m. Spells dialect other n (at p (plain_name name) ∷ at o token.Open ∷ (ts ++ at c token.Close ∷ [])) m) (called_is name f k h es p is allowed l)
       (Spells.call n p o c (written [] name) d)
 
   opens_call : (name : List ℕ) (x : Expr) (h : ℕ) (ts us : List Placed) → Tok token.Open ts
-      → ((n p o : ℕ) → Spells other n (at p (plain_name name) ∷ at o token.Open ∷ us) (Fine x h))
-      → (n p : ℕ) → Spells other n (at p (plain_name name) ∷ (ts ++ us)) (Fine x h)
+      → ((n p o : ℕ) → Spells dialect other n (at p (plain_name name) ∷ at o token.Open ∷ us) (Fine x h))
+      → (n p : ℕ) → Spells dialect other n (at p (plain_name name) ∷ (ts ++ us)) (Fine x h)
   opens_call name x h ts us (Tok.tok o) s n p = s n p o
 
   begins_call : (name : List ℕ) (x : Expr) (h : ℕ) (ts us : List Placed) → Tok (plain_name name) ts
-      → ((n p : ℕ) → Spells other n (at p (plain_name name) ∷ us) (Fine x h)) → Means x h (ts ++ us)
+      → ((n p : ℕ) → Spells dialect other n (at p (plain_name name) ∷ us) (Fine x h)) → Means x h (ts ++ us)
   begins_call name x h ts us (Tok.tok p) s n = s n p
 
   call : (name : List ℕ) (f : Function) (k h : ℕ) (es : List Expr) (text : List ℕ) → IsNc name → function_named (encode_utf8_all name) ≡ Some f → permits f k ≡ true
@@ -483,33 +490,33 @@ module _ (other : List Binding) where
       (λ rest b. Breaks.at_open ((text ++ 41 ∷ []) ++ rest)) (begins_call name (e.Call f.fun es) (h + 1)))
 
   is_leading : (k h g : ℕ) (es : List Expr) (x : Expr) → max h g + 0 ≤ 64 → (ts us : List Placed)
-      → ((vs : List Placed) → Tok token.Comma vs → Leading other (more k) (ts ++ vs) (Fine (es ++ x ∷ []) (max h g + 0))) → Tok token.Comma us
-      → Leading other (more k) (ts ++ us) (Fine (es ++ x ∷ []) (max h g + 0))
+      → ((vs : List Placed) → Tok token.Comma vs → Leading dialect other (more k) (ts ++ vs) (Fine (es ++ x ∷ []) (max h g + 0))) → Tok token.Comma us
+      → Leading dialect other (more k) (ts ++ us) (Fine (es ++ x ∷ []) (max h g + 0))
   is_leading k h g es x l ts us f c = f us c
 
-  leads : (k h g : ℕ) (es : List Expr) (x : Expr) → max h g + 0 ≤ 64 → (ts us : List Placed) → Leading other k ts (Fine es h)
-      → ((n : ℕ) → n ≤ 1 → Spells other n us (Fine x g)) → (vs : List Placed) → Tok token.Comma vs
-      → Leading other (more k) ((ts ++ us) ++ vs) (Fine (es ++ x ∷ []) (max h g + 0))
+  leads : (k h g : ℕ) (es : List Expr) (x : Expr) → max h g + 0 ≤ 64 → (ts us : List Placed) → Leading dialect other k ts (Fine es h)
+      → ((n : ℕ) → n ≤ 1 → Spells dialect other n us (Fine x g)) → (vs : List Placed) → Tok token.Comma vs
+      → Leading dialect other (more k) ((ts ++ us) ++ vs) (Fine (es ++ x ∷ []) (max h g + 0))
   leads k h g es x l ts us d s vs (Tok.tok p) =
-      subst (λ m. Leading other (more k) (ts ++ us ++ at p token.Comma ∷ []) m) (fits (es ++ x ∷ []) (max h g + 0) l) (Leading.further p d (s 1 (omega arith)))
+      subst (λ m. Leading dialect other (more k) (ts ++ us ++ at p token.Comma ∷ []) m) (fits (es ++ x ∷ []) (max h g + 0) l) (Leading.further p d (s 1 (omega arith)))
 
-  is_last : (k h g : ℕ) (es : List Expr) (x : Expr) → max h g + 0 ≤ 64 → (ts us : List Placed) → Leading other k ts (Fine es h)
-      → ((n : ℕ) → n ≤ 1 → Spells other n us (Fine x g)) → Listed other (more k) (ts ++ us) (Fine (es ++ x ∷ []) (max h g + 0))
-  is_last k h g es x l ts us d s = subst (λ m. Listed other (more k) (ts ++ us) m) (fits (es ++ x ∷ []) (max h g + 0) l) (Listed.last d (s 1 (omega arith)))
+  is_last : (k h g : ℕ) (es : List Expr) (x : Expr) → max h g + 0 ≤ 64 → (ts us : List Placed) → Leading dialect other k ts (Fine es h)
+      → ((n : ℕ) → n ≤ 1 → Spells dialect other n us (Fine x g)) → Listed dialect other (more k) (ts ++ us) (Fine (es ++ x ∷ []) (max h g + 0))
+  is_last k h g es x l ts us d s = subst (λ m. Listed dialect other (more k) (ts ++ us) m) (fits (es ++ x ∷ []) (max h g + 0) l) (Listed.last d (s 1 (omega arith)))
 
-  closes_predicate : (h g : ℕ) (es : List Expr) (x : Expr) → max h g + 0 ≤ 64 → (us vs : List Placed) → ((n : ℕ) → n ≤ 1 → Spells other n us (Fine x g)) → Tok token.ClosePredicate vs
-      → (o : ℕ) (ts : List Placed) → Predicates other ts (Fine es h) → Predicates other (ts ++ at o token.OpenPredicate ∷ (us ++ vs)) (Fine (es ++ x ∷ []) (max h g + 0))
+  closes_predicate : (h g : ℕ) (es : List Expr) (x : Expr) → max h g + 0 ≤ 64 → (us vs : List Placed) → ((n : ℕ) → n ≤ 1 → Spells dialect other n us (Fine x g)) → Tok token.ClosePredicate vs
+      → (o : ℕ) (ts : List Placed) → Predicates dialect other ts (Fine es h) → Predicates dialect other (ts ++ at o token.OpenPredicate ∷ (us ++ vs)) (Fine (es ++ x ∷ []) (max h g + 0))
   closes_predicate h g es x l us vs s (Tok.tok c) o ts d =
-      subst (λ m. Predicates other (ts ++ at o token.OpenPredicate ∷ (us ++ at c token.ClosePredicate ∷ [])) m) (fits (es ++ x ∷ []) (max h g + 0) l)
+      subst (λ m. Predicates dialect other (ts ++ at o token.OpenPredicate ∷ (us ++ at c token.ClosePredicate ∷ [])) m) (fits (es ++ x ∷ []) (max h g + 0) l)
       (Predicates.filtered o c d (s 1 (omega arith)))
 
   opens_predicate : (h k : ℕ) (es fs : List Expr) (us vs : List Placed) → Tok token.OpenPredicate us
-      → ((o : ℕ) (ts : List Placed) → Predicates other ts (Fine es h) → Predicates other (ts ++ at o token.OpenPredicate ∷ vs) (Fine fs k))
-      → (ts : List Placed) → Predicates other ts (Fine es h) → Predicates other (ts ++ (us ++ vs)) (Fine fs k)
+      → ((o : ℕ) (ts : List Placed) → Predicates dialect other ts (Fine es h) → Predicates dialect other (ts ++ at o token.OpenPredicate ∷ vs) (Fine fs k))
+      → (ts : List Placed) → Predicates dialect other ts (Fine es h) → Predicates dialect other (ts ++ (us ++ vs)) (Fine fs k)
   opens_predicate h k es fs us vs (Tok.tok o) f ts d = f o ts d
 
-  adds_predicate : (h k : ℕ) (es fs : List Expr) (ts us : List Placed) → Predicates other ts (Fine es h)
-      → ((ts : List Placed) → Predicates other ts (Fine es h) → Predicates other (ts ++ us) (Fine fs k)) → Predicates other (ts ++ us) (Fine fs k)
+  adds_predicate : (h k : ℕ) (es fs : List Expr) (ts us : List Placed) → Predicates dialect other ts (Fine es h)
+      → ((ts : List Placed) → Predicates dialect other ts (Fine es h) → Predicates dialect other (ts ++ us) (Fine fs k)) → Predicates dialect other (ts ++ us) (Fine fs k)
   adds_predicate h k es fs ts us d f = f ts d
 
   abbrev AllAgree : List Expr → Type 0
@@ -537,25 +544,25 @@ module _ (other : List Binding) where
   link_piece link.Slash ne = becomes slash_linked slash
   link_piece link.Deep ne = narrows (λ rest n. tt) (becomes deep_linked slashes)
 
-  is_tested : (l : Link) (t : NodeTest) (ts us : List Placed) → (p : ℕ) × (ts ≡ link_tokens l p) → Test other us (flat t)
-      → (vs : List Placed) (es : Meant (List Expr)) → Predicates other vs es → Step other l ((ts ++ us) ++ vs) (step l (flat t) es)
-  is_tested l t ts us (p, same) d vs es f = subst (λ ts. Step other l ((ts ++ us) ++ vs) (step l (flat t) es)) (sym same) (Step.tested l p d f)
+  is_tested : (l : Link) (t : NodeTest) (ts us : List Placed) → (p : ℕ) × (ts ≡ link_tokens l p) → Test dialect other us (flat t)
+      → (vs : List Placed) (es : Meant (List Expr)) → Predicates dialect other vs es → Step dialect other l ((ts ++ us) ++ vs) (step l (flat t) es)
+  is_tested l t ts us (p, same) d vs es f = subst (λ ts. Step dialect other l ((ts ++ us) ++ vs) (step l (flat t) es)) (sym same) (Step.tested l p d f)
 
   is_step : (l : Link) (t : NodeTest) (es : List Expr) (h : ℕ) → max 0 h + 0 ≤ 64 → (ts us : List Placed)
-      → ((vs : List Placed) (es : Meant (List Expr)) → Predicates other vs es → Step other l (ts ++ vs) (step l (flat t) es))
-      → Predicates other us (Fine es h) → Step other l (ts ++ us) (Fine (step_of l t es) (max 0 h + 0))
-  is_step l t es h m ts us f d = subst (λ s. Step other l (ts ++ us) s) (fits (step_of l t es) (max 0 h + 0) m) (f us (Fine es h) d)
+      → ((vs : List Placed) (es : Meant (List Expr)) → Predicates dialect other vs es → Step dialect other l (ts ++ vs) (step l (flat t) es))
+      → Predicates dialect other us (Fine es h) → Step dialect other l (ts ++ us) (Fine (step_of l t es) (max 0 h + 0))
+  is_step l t es h m ts us f d = subst (λ s. Step dialect other l (ts ++ us) s) (fits (step_of l t es) (max 0 h + 0) m) (f us (Fine es h) d)
 
   -- a step behind some link
   abbrev Stepped : PathStep → ℕ → List Placed → Type 0
-  Stepped s h ts = (l : Link) × (l ≢ link.Start) × Step other l ts (Fine s h)
+  Stepped s h ts = (l : Link) × (l ≢ link.Start) × Step dialect other l ts (Fine s h)
 
   walks_one : (s : PathStep) (h : ℕ) → max 0 h + 0 ≤ 64 → (ts : List Placed) → Stepped s h ts → Walks (s ∷ []) (max 0 h + 0) ts
-  walks_one s h m ts (l, ne, d) = (l, ne, subst (λ m. Steps other l ts m) (fits (s ∷ []) (max 0 h + 0) m) (Steps.one_step d))
+  walks_one s h m ts (l, ne, d) = (l, ne, subst (λ m. Steps dialect other l ts m) (fits (s ∷ []) (max 0 h + 0) m) (Steps.one_step d))
 
   walks_on : (steps : List PathStep) (s : PathStep) (h g : ℕ) → max h g + 0 ≤ 64 → (ts us : List Placed) → Walks steps h ts → Stepped s g us
       → Walks (steps ++ s ∷ []) (max h g + 0) (ts ++ us)
-  walks_on steps s h g m ts us (l, ne, d) (k, nf, f) = (l, ne, subst (λ m. Steps other l (ts ++ us) m) (fits (steps ++ s ∷ []) (max h g + 0) m) (Steps.next_step nf d f))
+  walks_on steps s h g m ts us (l, ne, d) (k, nf, f) = (l, ne, subst (λ m. Steps dialect other l (ts ++ us) m) (fits (steps ++ s ∷ []) (max h g + 0) m) (Steps.next_step nf d f))
 
   predicates_break : (ps : List Printed) (rest : List ℕ) → Breaks rest → Breaks (predicates ps ++ rest)
   predicates_break [] rest b = b
@@ -566,13 +573,13 @@ module _ (other : List Binding) where
   link_breaks link.Slash more rest ne = Breaks.at_slash (more ++ rest)
   link_breaks link.Deep more rest ne = Breaks.at_slash ((47 ∷ more) ++ rest)
 
-  step_breaks : {s : PathStep} {h : ℕ} → GoodStep s h → (rest : List ℕ) → Breaks (step_text s ++ rest)
+  step_breaks : {s : PathStep} {h : ℕ} → GoodStep dialect s h → (rest : List ℕ) → Breaks (step_text s ++ rest)
   step_breaks (GoodStep.tested l t k h es ne n all m) rest =
       subst (λ w. Breaks (w ++ rest)) (sym (printed_step l t es ∙ append_assoc (link_text l) (test_text t) (predicates (map printed es))))
       (link_breaks l (test_text t ++ predicates (map printed es)) rest ne)
 
   mutual
-    write : {x : Expr} {h : ℕ} → Good x h → Agrees other (prefixes_in x) → Printable x h (printed x)
+    write : {x : Expr} {h : ℕ} → Good dialect x h → Agrees other (prefixes_in x) → Printable x h (printed x)
     write (Good.whole n small) a =
         rewritten (sym (printed_whole (pos n))) (firm (decimal n) (λ place d l. narrows closes_break (becomes (is_whole n) (whole n small))))
     write (Good.literal text one) a =
@@ -615,8 +622,8 @@ module _ (other : List Binding) where
         let b = subst (Agrees other) (prefixes_attr t) a in
         rewritten (sym (printed_attr t)) (firm (test_text t) (λ place d m. narrows closes_break (becomes (λ ts d n. Spells.attributes n d) (attr_piece t n b))))
 
-    write_led : {k : ℕ} {es : List Expr} {h : ℕ} → GoodAll k es h → AllAgree es → (place d : ℕ) → d + h ≤ 64
-        → Piece (λ ts. Leading other k ts (Fine es h)) Any (led (map printed es)) (before_at place d false) d false
+    write_led : {k : ℕ} {es : List Expr} {h : ℕ} → GoodAll dialect k es h → AllAgree es → (place d : ℕ) → d + h ≤ 64
+        → Piece (λ ts. Leading dialect other k ts (Fine es h)) Any (led (map printed es)) (before_at place d false) d false
     write_led GoodAll.start a place d l = nothing Leading.start
     write_led (GoodAll.further k h g es x all w m) a place d l =
         let b = all_front es x a in
@@ -629,7 +636,7 @@ module _ (other : List Binding) where
         (join (write_led all b.0 place d (omega (arith, l))) (λ q. becomes (λ ts s n t. s n (inl t)) (v.put q d (omega (arith, l)))) (λ rest c. tt) (leads k h g es x m))
         (λ q. before_space comma (λ rest. tt)) (λ rest c. Closes.at_comma (32 ∷ rest)) (is_leading k h g es x m))
 
-    write_listed : {k : ℕ} {es : List Expr} {h : ℕ} → GoodAll k es h → AllAgree es → Listing k es h (listed (map printed es))
+    write_listed : {k : ℕ} {es : List Expr} {h : ℕ} → GoodAll dialect k es h → AllAgree es → Listing k es h (listed (map printed es))
     write_listed GoodAll.start a = record { is_operand = false; put = λ place d l. nothing Listed.empty }
     write_listed (GoodAll.further k h g es x all w m) a =
         let b = all_front es x a in
@@ -643,8 +650,8 @@ module _ (other : List Binding) where
               (join (write_led all b.0 place d (omega (arith, l))) (λ q. becomes (λ ts s n t. s n (inl t)) (v.put q d (omega (arith, l)))) (λ rest c. tt) (is_last k h g es x m));
         }
 
-    write_predicates : {k : ℕ} {es : List Expr} {h : ℕ} → GoodAll k es h → AllAgree es → (place d : ℕ) → d + h + 1 ≤ 64
-        → Piece (λ ts. Predicates other ts (Fine es h)) Breaks (predicates (map printed es)) (before_at place d true) d true
+    write_predicates : {k : ℕ} {es : List Expr} {h : ℕ} → GoodAll dialect k es h → AllAgree es → (place d : ℕ) → d + h + 1 ≤ 64
+        → Piece (λ ts. Predicates dialect other ts (Fine es h)) Breaks (predicates (map printed es)) (before_at place d true) d true
     write_predicates GoodAll.start a place d l = nothing Predicates.unfiltered
     write_predicates (GoodAll.further k h g es x all w m) a place d l =
         let b = all_front es x a in
@@ -659,7 +666,7 @@ module _ (other : List Binding) where
         (λ rest c. tt) (opens_predicate h (max h g + 0) es (es ++ x ∷ [])))
         (λ rest c. Breaks.at_open_predicate (((printed x).text ++ 93 ∷ []) ++ rest)) (adds_predicate h (max h g + 0) es (es ++ x ∷ [])))
 
-    write_step : {s : PathStep} {h : ℕ} → GoodStep s h → Agrees other (prefixes_in_step s) → (place d : ℕ) (b : Bool) → d + h + 1 ≤ 64
+    write_step : {s : PathStep} {h : ℕ} → GoodStep dialect s h → Agrees other (prefixes_in_step s) → (place d : ℕ) (b : Bool) → d + h + 1 ≤ 64
         → Piece (Stepped s h) Breaks (step_text s) (before_at place d b) d true
     write_step (GoodStep.tested l t k h es ne n all m) a place d b few =
         let both = subst (Agrees other) (prefixes_step l t es) a in
@@ -667,10 +674,10 @@ module _ (other : List Binding) where
         let back = agrees_back (test_prefixes t) (all_prefixes (map prefixes_in es)) both in
         retext (sym (printed_step l t es))
         (becomes (λ ts d. (l, ne, d))
-        (join (join (link_piece l ne) (λ q. test_piece t n front (omega (arith, few))) (λ rest c. test_no_slash t rest n) (is_tested l t))
+        (join (join (link_piece l ne) (λ q. test_piece t n front (omega (arith, few))) (λ rest c. test_no_slash dialect t rest n) (is_tested l t))
         (λ q. write_predicates all back q d (omega (arith, few))) (λ rest c. predicates_break (map printed es) rest c) (is_step l t es h m)))
 
-    write_steps : {steps : List PathStep} {h : ℕ} → GoodSteps steps h → Agrees other (all_prefixes (map prefixes_in_step steps)) → (place d : ℕ) (b : Bool) → d + h + 1 ≤ 64
+    write_steps : {steps : List PathStep} {h : ℕ} → GoodSteps dialect steps h → Agrees other (all_prefixes (map prefixes_in_step steps)) → (place d : ℕ) (b : Bool) → d + h + 1 ≤ 64
         → Piece (Walks steps h) Breaks (concat (map step_text steps)) (before_at place d b) d true
     write_steps (GoodSteps.one_step s h w m) a place d b few =
         retext (sym (append-nil (step_text s)))
@@ -687,7 +694,7 @@ module _ (other : List Binding) where
         (join (write_steps all front place d b (omega (arith, few))) (λ q. write_step w back q d true (omega (arith, few)))
         (λ rest c. step_breaks w rest) (walks_on steps s h g m))
 
-small : {x : Expr} {h : ℕ} → Good x h → 0 + h ≤ 64
+small : {dialect : Dialect} {x : Expr} {h : ℕ} → Good dialect x h → 0 + h ≤ 64
 small (Good.whole n l) = lit≤ tt
 small (Good.literal text o) = lit≤ tt
 small (Good.variable name n) = lit≤ tt
@@ -701,11 +708,11 @@ small (Good.above k t l n) = lit≤ tt
 small (Good.attributes t n) = lit≤ tt
 
 -- what is printed of an expression that was read, is read as it
-pub reads_back : (scope other : List Binding) (from place : ℕ) (text : List ℕ) (x : Expr) → IsExpression scope from text (Ok x) → Agrees other (prefixes_in x)
-    → IsExpression other place (printed x).text (Ok x)
-reads_back scope other from place text _ (Gives.read ts x height l d) a =
-    let w = write other (good scope d (well_made (begun from) text ts None l)) a in
-    let p = w.put place 0 (small (good scope d (well_made (begun from) text ts None l))) in
+pub reads_back : (dialect : Dialect) (scope other : List Binding) (from place : ℕ) (text : List ℕ) (x : Expr) → IsExpression dialect scope from text (Ok x) → Agrees other (prefixes_in x)
+    → IsExpression dialect other place (printed x).text (Ok x)
+reads_back dialect scope other from place text _ (Gives.read ts x height l d) a =
+    let w = write dialect other (good dialect scope d (well_made (begun from) text ts None l)) a in
+    let p = w.put place 0 (small (good dialect scope d (well_made (begun from) text ts None l))) in
     let cut : Tokens place ((printed x).text ++ []) (p.tokens ++ []) None = p.cut.cuts [] Closes.ended [] refl in
     Gives.read p.tokens x height
     (subst (λ ts. Tokens place (printed x).text ts None) (append-nil p.tokens) (subst (λ w. Tokens place w (p.tokens ++ []) None) (append-nil (printed x).text) cut))

@@ -11,6 +11,7 @@ use Rattle.stx_base.specs.declared.name.Binding.{Binding}
 use Rattle.stx_base.specs.declared.name.Name.{Name}
 use Rattle.stx_base.specs.declared.node.NodeTest.{NodeTest}
 use Rattle.stx_base.specs.declared.node.NodeTest.TheVariants as test
+use Rattle.stxpath_syntax.specs.declared.dialect.Dialect.{Dialect}
 use Rattle.stxpath_syntax.specs.declared.expr.Alternative.{Alternative}
 use Rattle.stxpath_syntax.specs.declared.expr.Alternative.TheVariants as alternative
 use Rattle.stxpath_syntax.specs.declared.expr.AvtPart.{AvtPart}
@@ -131,11 +132,11 @@ high_abs : (steps : List PathStep) (t : Option NodeTest) → height (e.Abs steps
 unfolding height height_of_step
 high_abs steps t = ap height (sym (rolls-Abs steps t)) ∙ fold-roll-Expr ℕ ℕ layer_height step_height (Expr-F.Abs steps t)
 
-called_step : (l : Link) (t : NodeTest) (es : List Expr) → is_step_called_well (step_of l t es) ≡ all_true (map is_called_well es)
+pub called_step : (l : Link) (t : NodeTest) (es : List Expr) → is_step_called_well (step_of l t es) ≡ all_true (map is_called_well es)
 unfolding is_called_well is_step_called_well
 called_step l t es = fold-roll-PathStep Bool Bool layer_called_well step_called_well (record { link = l; test = t; predicates = es })
 
-high_step : (l : Link) (t : NodeTest) (es : List Expr) → height_of_step (step_of l t es) ≡ greatest (map height es)
+pub high_step : (l : Link) (t : NodeTest) (es : List Expr) → height_of_step (step_of l t es) ≡ greatest (map height es)
 unfolding height height_of_step
 high_step l t es = fold-roll-PathStep ℕ ℕ layer_height step_height (record { link = l; test = t; predicates = es })
 
@@ -300,12 +301,12 @@ binding_flat : (prefix : List ℕ) (p : ℕ) (o : Option (List ℕ)) → IfFine 
 binding_flat prefix p None = tt
 binding_flat prefix p (Some uri) = refl
 
-test_flat : (scope : List Binding) {ts : List Placed} {t : Meant NodeTest} → Test scope ts t → IfFine Flat t
-test_flat scope (Test.named p name) = flat_on test.Name (name_of scope name p) (named_flat scope name p)
-test_flat scope (Test.within p prefix) = flat_on test.Prefix (binding_of scope prefix p) (binding_flat prefix p (uri_of scope prefix))
-test_flat scope (Test.any p) = refl
-test_flat scope (Test.type p o c name t e) = refl
-test_flat scope (Test.target p o q c name text e) = refl
+test_flat : (dialect : Dialect) (scope : List Binding) {ts : List Placed} {t : Meant NodeTest} → Test dialect scope ts t → IfFine Flat t
+test_flat dialect scope (Test.named p name) = flat_on test.Name (name_of scope name p) (named_flat scope name p)
+test_flat dialect scope (Test.within p prefix) = flat_on test.Prefix (binding_of scope prefix p) (binding_flat prefix p (uri_of scope prefix))
+test_flat dialect scope (Test.any p) = refl
+test_flat dialect scope (Test.type p o c name t e) = refl
+test_flat dialect scope (Test.target p o q c name text e) = refl
 
 attr_flat : (scope : List Binding) {ts : List Placed} {t : Meant NodeTest} → AttrTest scope ts t → IfFine Flat t
 attr_flat scope (AttrTest.named a p name) = flat_on test.AttrName (name_of scope name p) (named_flat scope name p)
@@ -382,9 +383,9 @@ WellStep = Well is_step_called_well height_of_step
 stepped : (l : Link) (t : Meant NodeTest) (es : Meant (List Expr)) → IfFine Flat t → IfFine WellExprs es → IfFine WellStep (step l t es)
 stepped l t es z a = joined_fine Flat WellExprs WellStep 0 (step_of l) t es z a (λ t es h g z a m. step_well l t es h g z a m)
 
-module _ (scope : List Binding) where
+module _ (dialect : Dialect) (scope : List Binding) where
   mutual
-    well : {n : ℕ} {ts : List Placed} {m : Meant Expr} → Spells scope n ts m → IfFine WellExpr m
+    well : {n : ℕ} {ts : List Placed} {m : Meant Expr} → Spells dialect scope n ts m → IfFine WellExpr m
     well (Spells.whole n p i) = leaf_well (e.Whole i) (called_whole i) (high_whole i)
     well (Spells.literal n p text) = leaf_well (e.Literal text) (called_literal text) (high_literal text)
     well (Spells.variable n d p name) =
@@ -403,29 +404,29 @@ module _ (scope : List Binding) where
         leaf_on (e.Up k) t (ending_flat scope f) (λ t. leaf_well (e.Up k t) (called_up k t) (high_up k t))
     well (Spells.attributes n {ts} {t} d) = leaf_on e.Attr t (attr_flat scope d) (λ t. leaf_well (e.Attr t) (called_attr t) (high_attr t))
 
-    well_leading : {k : ℕ} {ts : List Placed} {es : Meant (List Expr)} → Leading scope k ts es → IfFine (Counted k) es
+    well_leading : {k : ℕ} {ts : List Placed} {es : Meant (List Expr)} → Leading dialect scope k ts es → IfFine (Counted k) es
     well_leading Leading.start = none_counted
     well_leading (Leading.further p {k} {ts} {us} {es} {x} d f) = further_counted k es x (well_leading d) (well f)
 
-    well_listed : {k : ℕ} {ts : List Placed} {es : Meant (List Expr)} → Listed scope k ts es → IfFine (Counted k) es
+    well_listed : {k : ℕ} {ts : List Placed} {es : Meant (List Expr)} → Listed dialect scope k ts es → IfFine (Counted k) es
     well_listed Listed.empty = none_counted
     well_listed (Listed.last {k} {ts} {us} {es} {x} d f) = further_counted k es x (well_leading d) (well f)
 
-    well_predicates : {ts : List Placed} {es : Meant (List Expr)} → Predicates scope ts es → IfFine WellExprs es
+    well_predicates : {ts : List Placed} {es : Meant (List Expr)} → Predicates dialect scope ts es → IfFine WellExprs es
     well_predicates Predicates.unfiltered = none_well is_called_well height
     well_predicates (Predicates.filtered o c {ts} {us} {es} {x} d f) = also_well is_called_well height es x (well_predicates d) (well f)
 
-    well_step : {l : Link} {ts : List Placed} {s : Meant PathStep} → Step scope l ts s → IfFine WellStep s
-    well_step (Step.tested l p {ts} {us} {t} {es} d f) = stepped l t es (test_flat scope d) (well_predicates f)
+    well_step : {l : Link} {ts : List Placed} {s : Meant PathStep} → Step dialect scope l ts s → IfFine WellStep s
+    well_step (Step.tested l p {ts} {us} {t} {es} d f) = stepped l t es (test_flat dialect scope d) (well_predicates f)
 
-    well_steps : {l : Link} {ts : List Placed} {steps : Meant (List PathStep)} → Steps scope l ts steps → IfFine WellSteps steps
+    well_steps : {l : Link} {ts : List Placed} {steps : Meant (List PathStep)} → Steps dialect scope l ts steps → IfFine WellSteps steps
     well_steps (Steps.one_step {l} {ts} {s} d) =
         also_well is_step_called_well height_of_step none s (none_well is_step_called_well height_of_step) (well_step d)
     well_steps (Steps.next_step {l} {m} {ts} {us} {steps} {s} ne d f) = also_well is_step_called_well height_of_step steps s (well_steps d) (well_step f)
 
   -- ---- patterns
 
-  well_attribute : {l : Link} {ts : List Placed} {s : Meant PathStep} → AttrStep scope l ts s → IfFine WellStep s
+  well_attribute : {l : Link} {ts : List Placed} {s : Meant PathStep} → AttrStep dialect scope l ts s → IfFine WellStep s
   well_attribute (AttrStep.tested l p {ts} {us} {t} {es} d f) = stepped l t es (attr_flat scope d) (well_predicates f)
 
   abbrev WellAlternative : Alternative → ℕ → Type 0
@@ -440,7 +441,7 @@ module _ (scope : List Binding) where
         is_low = l;
       })
 
-  well_alternative : {ts : List Placed} {a : Meant Alternative} → Alternates scope ts a → IfFine WellAlternative a
+  well_alternative : {ts : List Placed} {a : Meant Alternative} → Alternates dialect scope ts a → IfFine WellAlternative a
   well_alternative (Alternates.root p) = record { is_well = refl; is_high = refl; is_low = lit≤ tt }
   well_alternative (Alternates.steps l {ts} {steps} d) = steps_alternative steps (well_steps d)
   well_alternative (Alternates.attribute l {ts} {s} d) =
@@ -448,7 +449,7 @@ module _ (scope : List Binding) where
   well_alternative (Alternates.attributes l m {ts} {us} {steps} {s} ne d f) =
       steps_alternative (and_also steps s) (also_well is_step_called_well height_of_step steps s (well_steps d) (well_attribute f))
 
-  well_pattern : {ts : List Placed} {all : Meant (List Alternative)} → Pattern scope ts all → IfFine (AllWell is_alternative_called_well alternative_height) all
+  well_pattern : {ts : List Placed} {all : Meant (List Alternative)} → Pattern dialect scope ts all → IfFine (AllWell is_alternative_called_well alternative_height) all
   well_pattern (Pattern.one {ts} {a} d) =
       also_well is_alternative_called_well alternative_height none a (none_well is_alternative_called_well alternative_height) (well_alternative d)
   well_pattern (Pattern.further p {ts} {us} {all} {a} d f) =
@@ -456,16 +457,16 @@ module _ (scope : List Binding) where
 
   -- ---- what texts are read as
 
-  pub expression_called : (at : ℕ) (text : List ℕ) (x : Expr) → IsExpression scope at text (Ok x) → is_called_well x ≡ true
+  pub expression_called : (at : ℕ) (text : List ℕ) (x : Expr) → IsExpression dialect scope at text (Ok x) → is_called_well x ≡ true
   expression_called at text _ (Gives.read ts x h l d) = (well d).is_well
 
-  pub expression_low : (at : ℕ) (text : List ℕ) (x : Expr) → IsExpression scope at text (Ok x) → height x ≤ 64
+  pub expression_low : (at : ℕ) (text : List ℕ) (x : Expr) → IsExpression dialect scope at text (Ok x) → height x ≤ 64
   expression_low at text _ (Gives.read ts x h l d) = let w : WellExpr x h = well d in omega (arith, w.is_high, w.is_low)
 
-  pub pattern_called : (text : List ℕ) (all : List Alternative) → IsPattern scope text (Ok all) → list_all is_alternative_called_well all ≡ true
+  pub pattern_called : (text : List ℕ) (all : List Alternative) → IsPattern dialect scope text (Ok all) → list_all is_alternative_called_well all ≡ true
   pattern_called text _ (Gives.read ts all h l d) = (well_pattern d).are_well
 
-  pub pattern_low : (text : List ℕ) (all : List Alternative) → IsPattern scope text (Ok all) → greatest (map alternative_height all) ≤ 64
+  pub pattern_low : (text : List ℕ) (all : List Alternative) → IsPattern dialect scope text (Ok all) → greatest (map alternative_height all) ≤ 64
   pattern_low text _ (Gives.read ts all h l d) =
       let w : AllWell is_alternative_called_well alternative_height all h = well_pattern d in omega (arith, w.are_high, w.are_low)
 
@@ -494,7 +495,7 @@ module _ (scope : List Binding) where
     are_low = (let m = p.are_low in omega (arith, l, m));
   }
 
-  template_parts : {at : ℕ} {text : List ℕ} {parts : Read (List AvtPart)} → Template scope at text parts → IfRead parts
+  template_parts : {at : ℕ} {text : List ℕ} {parts : Read (List AvtPart)} → Template dialect scope at text parts → IfRead parts
   template_parts (Template.end at) = record { are_well = refl; are_low = lit≤ tt }
   template_parts (Template.plain at c {text} {parts} b d) = char_on c parts (template_parts d)
   template_parts (Template.doubled at c {text} {parts} b d) = char_on c parts (template_parts d)
@@ -504,15 +505,15 @@ module _ (scope : List Binding) where
       value_on x parts (expression_called (at + 1) inner x g) (expression_low (at + 1) inner x g) (template_parts d)
   template_parts (Template.faulty at inner text why n e g) = tt
 
-  pub template_called : (text : List ℕ) (parts : List AvtPart) → IsTemplate scope text (Ok parts) → list_all is_part_called_well parts ≡ true
+  pub template_called : (text : List ℕ) (parts : List AvtPart) → IsTemplate dialect scope text (Ok parts) → list_all is_part_called_well parts ≡ true
   template_called text parts d = let p : Parts parts = template_parts d in p.are_well
 
-  pub template_low : (text : List ℕ) (parts : List AvtPart) → IsTemplate scope text (Ok parts) → greatest (map part_height parts) ≤ 64
+  pub template_low : (text : List ℕ) (parts : List AvtPart) → IsTemplate dialect scope text (Ok parts) → greatest (map part_height parts) ≤ 64
   template_low text parts d = let p : Parts parts = template_parts d in p.are_low
 
   -- ---- what calls answer
 
-  pub expression_answer : (text : List ℕ) (r : Result Expr ParseFault) → Answers (IsExpression scope 0 text) r
+  pub expression_answer : (text : List ℕ) (r : Result Expr ParseFault) → Answers (IsExpression dialect scope 0 text) r
       → IfOk r (λ x. is_called_well x ≡ true) × IfOk r (λ x. height x ≤ 64)
   expression_answer text (Ok x) a = (expression_called 0 text x a, expression_low 0 text x a)
   expression_answer text (Err why) a = (tt, tt)

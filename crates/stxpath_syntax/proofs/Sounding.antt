@@ -8,6 +8,7 @@ use Rattle.stx_base.specs.declared.name.Binding.{Binding}
 use Rattle.stx_base.specs.declared.expression.Op.TheVariants as op
 use Rattle.stx_base.specs.declared.node.NodeTest.{NodeTest}
 use Rattle.stx_base.specs.declared.node.NodeTest.TheVariants as test
+use Rattle.stxpath_syntax.specs.declared.dialect.Dialect.{Dialect}
 use Rattle.stxpath_syntax.specs.declared.expr.Alternative.{Alternative}
 use Rattle.stxpath_syntax.specs.declared.expr.Alternative.TheVariants as alternative
 use Rattle.stxpath_syntax.specs.declared.expr.Bin.TheVariants as bin
@@ -42,10 +43,10 @@ use Rattle.stxpath_syntax.proofs.Completing.{level_bounds}
 use Rattle.stxpath_syntax.proofs.Gathering.{gathered_bound, gathered_loose}
 use Rattle.stxpath_syntax.proofs.Running.{in_state}
 
-module _ (scope : List Binding) where
+module _ (dialect : Dialect) (scope : List Binding) where
   -- tokens of an expression that binds tighter than any operator
   abbrev pub Tight : List Placed → Meant Expr → Type 0
-  Tight ts m = (n : ℕ) → Spells scope n ts m
+  Tight ts m = (n : ℕ) → Spells dialect scope n ts m
 
   -- whether a path may begin with this link: in a pattern with any, else with a slash
   abbrev pub MayBegin : Bool → Link → Type 0
@@ -55,22 +56,22 @@ module _ (scope : List Binding) where
   -- the tokens of a path that waits for a step's test
   pub data Opening : Bool → Begun → List Placed → Type 0 where
     at_first : (b : Bool) (l : Link) (p : ℕ) → MayBegin b l → Opening b (first l) (link_tokens l p)
-    at_next : (b : Bool) (l m : Link) (p : ℕ) {steps : Meant (List PathStep)} {ts : List Placed} → MayBegin b l → m ≢ link.Start → Steps scope l ts steps
+    at_next : (b : Bool) (l m : Link) (p : ℕ) {steps : Meant (List PathStep)} {ts : List Placed} → MayBegin b l → m ≢ link.Start → Steps dialect scope l ts steps
         → Opening b (record { steps = steps; link = m; is_first = false }) (ts ++ link_tokens m p)
 
   -- the tokens of a path with its last step
   pub data Walking : Bool → Walk → List Placed → Type 0 where
     nodes : {b : Bool} {begun : Begun} {t : Meant NodeTest} {es : Meant (List Expr)} {ts us vs : List Placed}
-        → Opening b begun ts → Test scope us t → Predicates scope vs es
+        → Opening b begun ts → Test dialect scope us t → Predicates dialect scope vs es
         → Walking b (record { steps = begun.steps; link = begun.link; test = t; predicates = es; is_attribute = false }) (ts ++ us ++ vs)
     attributes : {begun : Begun} {t : Meant NodeTest} {es : Meant (List Expr)} {ts us vs : List Placed}
-        → Opening true begun ts → AttrTest scope us t → Predicates scope vs es
+        → Opening true begun ts → AttrTest scope us t → Predicates dialect scope vs es
         → Walking true (record { steps = begun.steps; link = begun.link; test = t; predicates = es; is_attribute = true }) (ts ++ us ++ vs)
 
   -- alternatives, each with a bar behind it
   pub data Barred : Meant (List Alternative) → List Placed → Type 0 where
     start : Barred none []
-    further : (p : ℕ) {all : Meant (List Alternative)} {ts : List Placed} → g.Pattern scope ts all → Barred all (ts ++ at p token.Bar ∷ [])
+    further : (p : ℕ) {all : Meant (List Alternative)} {ts : List Placed} → g.Pattern dialect scope ts all → Barred all (ts ++ at p token.Bar ∷ [])
 
   mutual
     -- what a stack has read that waits for an operand of this level; at its bottom is an expression or a pattern
@@ -79,12 +80,12 @@ module _ (scope : List Binding) where
       negated : {whole : Bool} (k p : ℕ) {fs : List Frame} {ts : List Placed} → Below whole k fs ts → k ≤ 6
           → Below whole 6 (Negated ∷ fs) (ts ++ at p minus ∷ [])
       left : {whole : Bool} (k p : ℕ) (o : Operator) {x : Meant Expr} {fs : List Frame} {ts us : List Placed}
-          → Below whole k fs ts → Spells scope (left_level o) us x → k ≤ level o
+          → Below whole k fs ts → Spells dialect scope (left_level o) us x → k ≤ level o
           → Below whole (level o + 1) (Left x o p ∷ fs) (ts ++ us ++ at p (token.Operator o) ∷ [])
       group : {whole : Bool} (k q : ℕ) {c : ℕ} {items : Meant (List Expr)} {fs : List Frame} {ts us : List Placed}
-          → Below whole k fs ts → Leading scope c us items → Below whole 1 (Group items c ∷ fs) (ts ++ at q token.Open ∷ us)
+          → Below whole k fs ts → Leading dialect scope c us items → Below whole 1 (Group items c ∷ fs) (ts ++ at q token.Open ∷ us)
       call : {whole : Bool} (k p q : ℕ) (name : Written) {c : ℕ} {items : Meant (List Expr)} {fs : List Frame} {ts us : List Placed}
-          → Below whole k fs ts → Leading scope c us items
+          → Below whole k fs ts → Leading dialect scope c us items
           → Below whole 1 (Call name p items c ∷ fs) (ts ++ at p (token.Name name) ∷ at q token.Open ∷ us)
       predicate : {whole : Bool} (b : Bool) (q : ℕ) {walk : Walk} {fs : List Frame} {ts us : List Placed}
           → Waits whole b fs ts → Walking b walk us → Below whole 1 (Predicate walk ∷ fs) (ts ++ us ++ at q token.OpenPredicate ∷ [])
@@ -100,7 +101,7 @@ module _ (scope : List Binding) where
     of_here : (p : ℕ) → Owning false owner.Here (at p token.At ∷ [])
     of_above : (s p : ℕ) {n : ℕ} {ts : List Placed} → Parents scope ts n
         → Owning false (owner.Above n) (ts ++ at s token.Slash ∷ at p token.At ∷ [])
-    of_path : (l : Link) (s p : ℕ) {steps : Meant (List PathStep)} {ts : List Placed} → l ≢ link.Start → Steps scope l ts steps
+    of_path : (l : Link) (s p : ℕ) {steps : Meant (List PathStep)} {ts : List Placed} → l ≢ link.Start → Steps dialect scope l ts steps
         → Owning false (owner.Path steps) (ts ++ at s token.Slash ∷ at p token.At ∷ [])
     of_last : (p : ℕ) {begun : Begun} {ts : List Placed} → Opening true begun ts
         → Owning true (owner.Last begun) (ts ++ at p token.At ∷ [])
@@ -115,9 +116,9 @@ module _ (scope : List Binding) where
     in_step : {b : Bool} {begun : Begun} {ts : List Placed} → Opening b begun ts → Behind b (Step begun) ts
     in_named : {b : Bool} (p : ℕ) (name : Written) {begun : Begun} {ts : List Placed} → Opening b begun ts
         → Behind b (AfterName (record { begun = begun; name = name; at = p })) (ts ++ at p (token.Name name) ∷ [])
-    in_kind : {b : Bool} (p o : ℕ) (name : Written) {begun : Begun} {t : NodeTest} {ts : List Placed} → Opening b begun ts → type_of name ≡ Some t
+    in_kind : {b : Bool} (p o : ℕ) (name : Written) {begun : Begun} {t : NodeTest} {ts : List Placed} → Opening b begun ts → type_of dialect name ≡ Some t
         → Behind b (Kind begun t) (ts ++ at p (token.Name name) ∷ at o token.Open ∷ [])
-    in_target : {b : Bool} (p o q : ℕ) (name : Written) (text : List ℕ) {begun : Begun} {ts : List Placed} → Opening b begun ts → type_of name ≡ Some test.AnyPi
+    in_target : {b : Bool} (p o q : ℕ) (name : Written) (text : List ℕ) {begun : Begun} {ts : List Placed} → Opening b begun ts → type_of dialect name ≡ Some test.AnyPi
         → Behind b (Target begun text) (ts ++ at p (token.Name name) ∷ at o token.Open ∷ at q (token.Literal text) ∷ [])
     in_walked : {b : Bool} {walk : Walk} {ts : List Placed} → Walking b walk ts → Behind b (Walked walk) ts
     in_attribute : {b : Bool} {whose : Owner} {ts : List Placed} → Owning b whose ts → Behind b (Attribute whose) ts
@@ -147,14 +148,14 @@ module _ (scope : List Binding) where
   walking_at : {b : Bool} {walk : Walk} {ts us : List Placed} → ts ≡ us → Walking b walk ts → Walking b walk us
   walking_at {b} {walk} e h = subst (λ ts. Walking b walk ts) e h
 
-  steps_at : {l : Link} {steps : Meant (List PathStep)} {ts us : List Placed} → ts ≡ us → Steps scope l ts steps → Steps scope l us steps
-  steps_at {l} {steps} e h = subst (λ ts. Steps scope l ts steps) e h
+  steps_at : {l : Link} {steps : Meant (List PathStep)} {ts us : List Placed} → ts ≡ us → Steps dialect scope l ts steps → Steps dialect scope l us steps
+  steps_at {l} {steps} e h = subst (λ ts. Steps dialect scope l ts steps) e h
 
-  alternates_at : {a : Meant Alternative} {ts us : List Placed} → ts ≡ us → g.Alternates scope ts a → g.Alternates scope us a
-  alternates_at {a} e h = subst (λ ts. g.Alternates scope ts a) e h
+  alternates_at : {a : Meant Alternative} {ts us : List Placed} → ts ≡ us → g.Alternates dialect scope ts a → g.Alternates dialect scope us a
+  alternates_at {a} e h = subst (λ ts. g.Alternates dialect scope ts a) e h
 
-  pattern_at : {all : Meant (List Alternative)} {ts us : List Placed} → ts ≡ us → g.Pattern scope ts all → g.Pattern scope us all
-  pattern_at {all} e h = subst (λ ts. g.Pattern scope ts all) e h
+  pattern_at : {all : Meant (List Alternative)} {ts us : List Placed} → ts ≡ us → g.Pattern dialect scope ts all → g.Pattern dialect scope us all
+  pattern_at {all} e h = subst (λ ts. g.Pattern dialect scope ts all) e h
 
   behind_at : {b : Bool} {mode : Mode} {ts us : List Placed} → ts ≡ us → Behind b mode ts → Behind b mode us
   behind_at {b} {mode} e h = subst (λ ts. Behind b mode ts) e h
@@ -162,8 +163,8 @@ module _ (scope : List Binding) where
   below_at : {whole : Bool} {n : ℕ} {fs : List Frame} {ts us : List Placed} → ts ≡ us → Below whole n fs ts → Below whole n fs us
   below_at {whole} {n} {fs} e h = subst (λ ts. Below whole n fs ts) e h
 
-  pub spells_at : {n : ℕ} {m : Meant Expr} {ts us : List Placed} → ts ≡ us → Spells scope n ts m → Spells scope n us m
-  spells_at {n} {m} e h = subst (λ ts. Spells scope n ts m) e h
+  pub spells_at : {n : ℕ} {m : Meant Expr} {ts us : List Placed} → ts ≡ us → Spells dialect scope n ts m → Spells dialect scope n us m
+  spells_at {n} {m} e h = subst (λ ts. Spells dialect scope n ts m) e h
 
   -- the stack is as it was, and these tokens are the last that were read behind it
   stays_on : (behind us : List Placed) {whole b : Bool} {frames : List Frame} {mode : Mode} {before : List Placed}
@@ -203,7 +204,7 @@ module _ (scope : List Binding) where
     below : Below whole n frames before
     fits : n ≤ c
     least : k ≤ c
-    spells : (j : ℕ) → j ≤ c → Spells scope j behind m
+    spells : (j : ℕ) → j ≤ c → Spells dialect scope j behind m
     are : ts ≡ before ++ behind
     loose : top_binds k frames ≡ false
 
@@ -221,7 +222,7 @@ module _ (scope : List Binding) where
       subst (λ r. Gathered whole k r.0 r.1 ts) (sym (gathered_loose k (Left x o p) fs m e)) (loose e)
 
   gather_sound : {whole : Bool} {n : ℕ} {frames : List Frame} {before : List Placed} → Below whole n frames before
-      → (k c : ℕ) (behind : List Placed) (m : Meant Expr) → k ≤ 5 → n ≤ c → k ≤ c → ((j : ℕ) → j ≤ c → Spells scope j behind m)
+      → (k c : ℕ) (behind : List Placed) (m : Meant Expr) → k ≤ 5 → n ≤ c → k ≤ c → ((j : ℕ) → j ≤ c → Spells dialect scope j behind m)
       → Gathered whole k (gathered k frames m).0 (gathered k frames m).1 (before ++ behind)
   unfolding gathered
   gather_sound Below.bottom k c behind m h f l s =
@@ -283,7 +284,7 @@ module _ (scope : List Binding) where
   more_some : (k : ℕ) → more k ≢ 0
   more_some k e = absurd (omega arith)
 
-  leading_none : {k : ℕ} {ts : List Placed} {es : Meant (List Expr)} → Leading scope k ts es → k ≡ 0 → (ts ≡ []) × (es ≡ none)
+  leading_none : {k : ℕ} {ts : List Placed} {es : Meant (List Expr)} → Leading dialect scope k ts es → k ≡ 0 → (ts ≡ []) × (es ≡ none)
   leading_none Leading.start e = (refl, refl)
   leading_none (Leading.further p {k = k} d x) e = absurd (more_some k e)
 
@@ -292,7 +293,7 @@ module _ (scope : List Binding) where
 
   -- `)` behind an expression in brackets
   group_by : (q p c : ℕ) (b : Bool) (x : Meant Expr) (us behind : List Placed) {whole : Bool} {i : ℕ} {items : Meant (List Expr)} {fs : List Frame} {ts : List Placed}
-      → nat_eq c 0 ≡ b → Below whole i fs ts → Leading scope c us items → Spells scope 1 behind x
+      → nat_eq c 0 ≡ b → Below whole i fs ts → Leading dialect scope c us items → Spells dialect scope 1 behind x
       → Holds whole fs (Complete (cond b x (seq (and_also items x)))) (ts ++ at q token.Open ∷ ((us ++ behind) ++ at p token.Close ∷ []))
   group_by q p c true x us behind {ts = ts} e w d s =
       let n = leading_none d (eq_true c 0 e) in
@@ -300,7 +301,7 @@ module _ (scope : List Binding) where
   group_by q p c false x us behind e w d s = ends_operand w (λ j. Spells.several j q p (Listed.last d s) (not_one c e))
 
   close_sound : {whole : Bool} {n : ℕ} {fs : List Frame} {before : List Placed} → Below whole n fs before
-      → (p c : ℕ) (behind : List Placed) (m : Meant Expr) → n ≤ c → ((j : ℕ) → j ≤ c → Spells scope j behind m)
+      → (p c : ℕ) (behind : List Placed) (m : Meant Expr) → n ≤ c → ((j : ℕ) → j ≤ c → Spells dialect scope j behind m)
       → HoldsNext whole ((before ++ behind) ++ at p token.Close ∷ []) (close (fs, m))
   close_sound Below.bottom p c behind m f s = tt
   close_sound (Below.negated i q w g) p c behind m f s = tt
@@ -312,7 +313,7 @@ module _ (scope : List Binding) where
   close_sound (Below.predicate b q w d) p c behind m f s = tt
 
   separate_sound : {whole : Bool} {n : ℕ} {fs : List Frame} {before : List Placed} → Below whole n fs before
-      → (p c : ℕ) (behind : List Placed) (m : Meant Expr) → n ≤ c → ((j : ℕ) → j ≤ c → Spells scope j behind m)
+      → (p c : ℕ) (behind : List Placed) (m : Meant Expr) → n ≤ c → ((j : ℕ) → j ≤ c → Spells dialect scope j behind m)
       → HoldsNext whole ((before ++ behind) ++ at p token.Comma ∷ []) (separate (fs, m))
   separate_sound Below.bottom p c behind m f s = tt
   separate_sound (Below.negated i q w g) p c behind m f s = tt
@@ -323,7 +324,7 @@ module _ (scope : List Binding) where
   separate_sound (Below.predicate b q w d) p c behind m f s = tt
 
   -- a path's last step with one more predicate
-  filtered_walk : {b : Bool} {walk : Walk} {us : List Placed} → Walking b walk us → (q p : ℕ) (behind : List Placed) (x : Meant Expr) → Spells scope 1 behind x
+  filtered_walk : {b : Bool} {walk : Walk} {us : List Placed} → Walking b walk us → (q p : ℕ) (behind : List Placed) (x : Meant Expr) → Spells dialect scope 1 behind x
       → Walking b (filtered walk x) (us ++ at q token.OpenPredicate ∷ (behind ++ at p token.ClosePredicate ∷ []))
   filtered_walk {b = b} (Walking.nodes {begun = begun} {ts = ts} {us = us} {vs = vs} o t d) q p behind x s =
       walking_at (sym (append_assoc (ts ++ us) vs _)) (Walking.nodes o t (Predicates.filtered q p d s))
@@ -331,7 +332,7 @@ module _ (scope : List Binding) where
       walking_at (sym (append_assoc (ts ++ us) vs _)) (Walking.attributes o t (Predicates.filtered q p d s))
 
   filter_sound : {whole : Bool} {n : ℕ} {fs : List Frame} {before : List Placed} → Below whole n fs before
-      → (p c : ℕ) (behind : List Placed) (m : Meant Expr) → n ≤ c → ((j : ℕ) → j ≤ c → Spells scope j behind m)
+      → (p c : ℕ) (behind : List Placed) (m : Meant Expr) → n ≤ c → ((j : ℕ) → j ≤ c → Spells dialect scope j behind m)
       → HoldsNext whole ((before ++ behind) ++ at p token.ClosePredicate ∷ []) (close_predicate (fs, m))
   filter_sound Below.bottom p c behind m f s = tt
   filter_sound (Below.negated i q w g) p c behind m f s = tt
@@ -384,7 +385,7 @@ module _ (scope : List Binding) where
 
   -- the steps of a path of nodes
   all_read : {b : Bool} {walk : Walk} {us : List Placed} → Walking b walk us → walk.is_attribute ≡ false
-      → (l : Link) × MayBegin b l × Steps scope l us (all_steps walk)
+      → (l : Link) × MayBegin b l × Steps dialect scope l us (all_steps walk)
   all_read (Walking.nodes (Opening.at_first b l p h) t d) e = (l, h, Steps.one_step (g.Step.tested l p t d))
   all_read (Walking.nodes (Opening.at_next b l m p h ne s) t d) e =
       (l, h, steps_at (simp append_assoc) (Steps.next_step ne s (g.Step.tested m p t d)))
@@ -393,25 +394,25 @@ module _ (scope : List Binding) where
   walk_tight : {walk : Walk} {us : List Placed} → Walking false walk us → walk.is_attribute ≡ false → Tight us (whole_path walk)
   walk_tight {walk} {us} w e =
       let r = all_read w e in
-      λ n. subst (λ ts. Spells scope n ts (whole_path walk)) (append-nil us) (Spells.absolute n r.1 r.2 Ending.without)
+      λ n. subst (λ ts. Spells dialect scope n ts (whole_path walk)) (append-nil us) (Spells.absolute n r.1 r.2 Ending.without)
 
   nodes_only : {walk : Walk} {us : List Placed} → Walking false walk us → walk.is_attribute ≡ false
   nodes_only (Walking.nodes o t d) = refl
 
-  walk_alternates : {walk : Walk} {us : List Placed} → Walking true walk us → g.Alternates scope us (whole_alternative walk)
+  walk_alternates : {walk : Walk} {us : List Placed} → Walking true walk us → g.Alternates dialect scope us (whole_alternative walk)
   walk_alternates (Walking.nodes o t d) = let r = all_read (Walking.nodes o t d) refl in g.Alternates.steps r.0 r.2
   walk_alternates (Walking.attributes (Opening.at_first b l p h) t d) = g.Alternates.attribute l (g.AttrStep.tested l p t d)
   walk_alternates (Walking.attributes (Opening.at_next b l m p h ne s) t d) =
       alternates_at (simp append_assoc) (g.Alternates.attributes l m ne s (g.AttrStep.tested m p t d))
 
-  barred_alternative : {all : Meant (List Alternative)} {ts us : List Placed} {a : Meant Alternative} → Barred all ts → g.Alternates scope us a
-      → g.Pattern scope (ts ++ us) (and_also all a)
+  barred_alternative : {all : Meant (List Alternative)} {ts us : List Placed} {a : Meant Alternative} → Barred all ts → g.Alternates dialect scope us a
+      → g.Pattern dialect scope (ts ++ us) (and_also all a)
   barred_alternative Barred.start d = g.Pattern.one d
   barred_alternative {us = us} (Barred.further p {ts = ts} h) d =
       pattern_at (sym (append_assoc ts (at p token.Bar ∷ []) us)) (g.Pattern.further p h d)
 
   end_of_alternative_sound : {all : Meant (List Alternative)} {before : List Placed} → Barred all before → (behind : List Placed) (a : Meant Alternative)
-      → g.Alternates scope behind a → (p : ℕ) (t : Token)
+      → g.Alternates dialect scope behind a → (p : ℕ) (t : Token)
       → HoldsNext true ((before ++ behind) ++ at p t ∷ []) (end_of_alternative (Alternatives all ∷ []) a t)
   end_of_alternative_sound {before = before} h behind a d p token.Bar = record {
     in_pattern = true;
@@ -449,7 +450,7 @@ module _ (scope : List Binding) where
   walk_sound w h p token.SlashSlash = linked_sound w h link.Deep p deep_ne
   walk_sound w h p t = end_of_path_sound w h p t
 
-  plain_walk : {b : Bool} {begun : Begun} {t : Meant NodeTest} {ts us : List Placed} → Opening b begun ts → Test scope us t
+  plain_walk : {b : Bool} {begun : Begun} {t : Meant NodeTest} {ts us : List Placed} → Opening b begun ts → Test dialect scope us t
       → Walking b (walk_of begun t false) (ts ++ us)
   plain_walk {b} {begun} {t} o d = subst (λ ts. Walking b (walk_of begun t false) ts) (append-nil _) (Walking.nodes o d Predicates.unfiltered)
 
@@ -473,7 +474,7 @@ module _ (scope : List Binding) where
   begin_sound w o p _ = tt
 
   type_by : {whole b : Bool} {frames : List Frame} {before ts : List Placed} {begun : Begun} (q : ℕ) (name : Written) (p : ℕ) (found : Option NodeTest)
-      → type_of name ≡ found → Waits whole b frames before → Opening b begun ts
+      → type_of dialect name ≡ found → Waits whole b frames before → Opening b begun ts
       → HoldsNext whole ((before ++ (ts ++ at q (token.Name name) ∷ [])) ++ at p token.Open ∷ []) (at_stack frames (option_map (Kind begun) found))
   type_by q name p None e w o = tt
   type_by {ts = ts} q name p (Some t) e w o =
@@ -481,20 +482,20 @@ module _ (scope : List Binding) where
 
   named_sound : {whole b : Bool} {frames : List Frame} {before ts : List Placed} {begun : Begun} (q : ℕ) (name : Written) → Waits whole b frames before → Opening b begun ts
       → (p : ℕ) (t : Token)
-      → HoldsNext whole ((before ++ (ts ++ at q (token.Name name) ∷ [])) ++ at p t ∷ []) (after_name scope frames (record { begun = begun; name = name; at = q }) p t)
+      → HoldsNext whole ((before ++ (ts ++ at q (token.Name name) ∷ [])) ++ at p t ∷ []) (after_name dialect scope frames (record { begun = begun; name = name; at = q }) p t)
   unfolding after_name
-  named_sound q name w o p token.Open = type_by q name p (type_of name) refl w o
+  named_sound q name w o p token.Open = type_by q name p (type_of dialect name) refl w o
   named_sound q name w o p t = walk_sound w (plain_walk o (Test.named q name)) p t
 
   targeted_sound : {whole b : Bool} {frames : List Frame} {before ts : List Placed} {begun : Begun} (q r : ℕ) (name : Written) (t : NodeTest) (p : ℕ) (text : List ℕ)
-      → type_of name ≡ Some t → Waits whole b frames before → Opening b begun ts
+      → type_of dialect name ≡ Some t → Waits whole b frames before → Opening b begun ts
       → HoldsNext whole ((before ++ (ts ++ at q (token.Name name) ∷ at r token.Open ∷ [])) ++ at p (token.Literal text) ∷ []) (at_stack frames (targeted begun t text))
   targeted_sound {ts = ts} q r name test.AnyPi p text e w o =
       stays_on _ (at p (token.Literal text) ∷ []) w
       (behind_at (sym (append_assoc ts (at q (token.Name name) ∷ at r token.Open ∷ []) (at p (token.Literal text) ∷ []))) (Behind.in_target q r p name text o e))
   targeted_sound q r name _ p text e w o = tt
 
-  kind_sound : {whole b : Bool} {frames : List Frame} {before ts : List Placed} {begun : Begun} (q r : ℕ) (name : Written) (t : NodeTest) → type_of name ≡ Some t
+  kind_sound : {whole b : Bool} {frames : List Frame} {before ts : List Placed} {begun : Begun} (q r : ℕ) (name : Written) (t : NodeTest) → type_of dialect name ≡ Some t
       → Waits whole b frames before → Opening b begun ts → (p : ℕ) (next : Token)
       → HoldsNext whole ((before ++ (ts ++ at q (token.Name name) ∷ at r token.Open ∷ [])) ++ at p next ∷ []) (at_stack frames (after_type begun t next))
   kind_sound {ts = ts} q r name t e w o p token.Close =
@@ -503,7 +504,7 @@ module _ (scope : List Binding) where
   kind_sound q r name t e w o p (token.Literal text) = targeted_sound q r name t p text e w o
   kind_sound q r name t e w o p _ = tt
 
-  target_sound : {whole b : Bool} {frames : List Frame} {before ts : List Placed} {begun : Begun} (q r u : ℕ) (name : Written) (text : List ℕ) → type_of name ≡ Some test.AnyPi
+  target_sound : {whole b : Bool} {frames : List Frame} {before ts : List Placed} {begun : Begun} (q r u : ℕ) (name : Written) (text : List ℕ) → type_of dialect name ≡ Some test.AnyPi
       → Waits whole b frames before → Opening b begun ts → (p : ℕ) (next : Token)
       → HoldsNext whole ((before ++ (ts ++ at q (token.Name name) ∷ at r token.Open ∷ at u (token.Literal text) ∷ [])) ++ at p next ∷ [])
       (at_stack frames (after_target begun text next))
@@ -590,7 +591,7 @@ module _ (scope : List Binding) where
   alternative_sound w p t = begin_sound w (Opening.at_first true link.Start 0 tt) p t
 
   empty_group_by : (b : Bool) (q p c : ℕ) (items : Meant (List Expr)) (us : List Placed) {whole : Bool} {i : ℕ} {fs : List Frame} {ts : List Placed}
-      → nat_eq c 0 ≡ b → Below whole i fs ts → Leading scope c us items
+      → nat_eq c 0 ≡ b → Below whole i fs ts → Leading dialect scope c us items
       → HoldsNext whole (ts ++ at q token.Open ∷ (us ++ at p token.Close ∷ [])) (at_stack fs (cond b (Some (Complete (seq items))) None))
   empty_group_by false q p c items us e w d = tt
   empty_group_by true q p c items us {whole = whole} {fs = fs} {ts = ts} e w d =
@@ -599,7 +600,7 @@ module _ (scope : List Binding) where
       (moved (ap (λ us. ts ++ at q token.Open ∷ (us ++ at p token.Close ∷ [])) (sym n.0)) (ends_operand w (λ j. Spells.several j q p Listed.empty (λ e. cc))))
 
   empty_call_by : (b : Bool) (name : Written) (r q p c : ℕ) (items : Meant (List Expr)) (us : List Placed) {whole : Bool} {i : ℕ} {fs : List Frame} {ts : List Placed}
-      → nat_eq c 0 ≡ b → Below whole i fs ts → Leading scope c us items
+      → nat_eq c 0 ≡ b → Below whole i fs ts → Leading dialect scope c us items
       → HoldsNext whole (ts ++ at r (token.Name name) ∷ at q token.Open ∷ (us ++ at p token.Close ∷ []))
       (at_stack fs (cond b (Some (Complete (called name r 0 items))) None))
   empty_call_by false name r q p c items us e w d = tt
@@ -658,7 +659,7 @@ module _ (scope : List Binding) where
   function_sound q name w p _ = tt
 
   turn_sound : {whole b : Bool} {frames : List Frame} {mode : Mode} {before behind : List Placed} → Waits whole b frames before → Behind b mode behind
-      → (p : ℕ) (t : Token) → HoldsNext whole ((before ++ behind) ++ at p t ∷ []) (turn scope frames mode p t)
+      → (p : ℕ) (t : Token) → HoldsNext whole ((before ++ behind) ++ at p t ∷ []) (turn dialect scope frames mode p t)
   turn_sound (Waits.expression n w) Behind.in_operand p t = operand_sound w p t
   turn_sound w (Behind.in_variable q) p t = variable_sound q w p t
   turn_sound (Waits.expression n w) (Behind.in_function q name) p t = function_sound q name w p t
@@ -675,29 +676,29 @@ module _ (scope : List Binding) where
   turn_sound (Waits.expression n w) (Behind.in_complete d) p t = complete_sound w _ _ d p t
 
   pub step_sound : {whole : Bool} {frames : List Frame} {mode : Mode} {ts : List Placed} → Holds whole frames mode ts → (t : Placed)
-      → HoldsNext whole (ts ++ t ∷ []) (turn scope frames mode t.at t.token)
+      → HoldsNext whole (ts ++ t ∷ []) (turn dialect scope frames mode t.at t.token)
   step_sound {whole} h t = moved_next whole _ (ap (λ us. us ++ t ∷ []) (sym h.are)) (turn_sound h.stack h.mode_is t.at t.token)
 
   run_next : {whole : Bool} {us : List Placed} (ts : List Placed) (next : Next) (s : State) → HoldsNext whole us next
-      → ((frames : List Frame) (mode : Mode) → Holds whole frames mode us → run scope ts (in_state frames mode) ≡ Some s → Holds whole s.stack s.mode (us ++ ts))
-      → option_and_then (run scope ts) (option_map state_of next) ≡ Some s → Holds whole s.stack s.mode (us ++ ts)
+      → ((frames : List Frame) (mode : Mode) → Holds whole frames mode us → run dialect scope ts (in_state frames mode) ≡ Some s → Holds whole s.stack s.mode (us ++ ts))
+      → option_and_then (run dialect scope ts) (option_map state_of next) ≡ Some s → Holds whole s.stack s.mode (us ++ ts)
   run_next ts None s h ih e = cc
   run_next ts (Some next) s h ih e = ih next.0 next.1 h e
 
   pub run_sound : (ts : List Placed) {whole : Bool} {frames : List Frame} {mode : Mode} {us : List Placed} → Holds whole frames mode us
-      → (s : State) → run scope ts (in_state frames mode) ≡ Some s → Holds whole s.stack s.mode (us ++ ts)
+      → (s : State) → run dialect scope ts (in_state frames mode) ≡ Some s → Holds whole s.stack s.mode (us ++ ts)
   unfolding run step
   run_sound [] {whole} {frames} {mode} {us} h s e =
       let same : in_state frames mode ≡ s = cc in
       moved (sym (append-nil us)) (subst (λ s. Holds whole s.stack s.mode us) same h)
   run_sound (t ∷ ts) {whole} {frames} {mode} {us} h s e =
       moved (append_assoc us (t ∷ []) ts)
-      (run_next ts (turn scope frames mode t.at t.token) s (step_sound h t) (λ frames mode h e. run_sound ts h s e) e)
+      (run_next ts (turn dialect scope frames mode t.at t.token) s (step_sound h t) (λ frames mode h e. run_sound ts h s e) e)
 
   alone_sound : {whole : Bool} {n : ℕ} {fs : List Frame} {before : List Placed} → Below whole n fs before
-      → (c : ℕ) (behind : List Placed) (x m : Meant Expr) → n ≤ c → ((j : ℕ) → j ≤ c → Spells scope j behind x)
-      → alone scope (fs, x) ≡ Some m → Spells scope 1 (before ++ behind) m
-  alone_sound Below.bottom c behind x m f s e = let same : x ≡ m = cc in subst (λ y. Spells scope 1 behind y) same (s 1 f)
+      → (c : ℕ) (behind : List Placed) (x m : Meant Expr) → n ≤ c → ((j : ℕ) → j ≤ c → Spells dialect scope j behind x)
+      → alone scope (fs, x) ≡ Some m → Spells dialect scope 1 (before ++ behind) m
+  alone_sound Below.bottom c behind x m f s e = let same : x ≡ m = cc in subst (λ y. Spells dialect scope 1 behind y) same (s 1 f)
   alone_sound (Below.negated i q w g) c behind x m f s e = cc
   alone_sound (Below.left i q o w d g) c behind x m f s e = cc
   alone_sound (Below.group i q w d) c behind x m f s e = cc
@@ -706,7 +707,7 @@ module _ (scope : List Binding) where
 
   last_sound : {whole : Bool} {n : ℕ} {frames : List Frame} {before : List Placed} → Below whole n frames before
       → (behind : List Placed) (last m : Meant Expr) → Tight behind last → alone scope (gathered 0 frames last) ≡ Some m
-      → Spells scope 1 (before ++ behind) m
+      → Spells dialect scope 1 (before ++ behind) m
   last_sound {frames = frames} w behind last m d e =
       let r = gather_sound w 0 7 behind last (lit≤ tt) (omega (arith, below_bound w)) (lit≤ tt) (λ j h. d j) in
       spells_at (sym r.are) (alone_sound r.below r.c r.behind (gathered 0 frames last).1 m r.fits r.spells e)
@@ -718,7 +719,7 @@ module _ (scope : List Binding) where
 
   expression_ends : {whole b : Bool} {frames : List Frame} {mode : Mode} {before behind : List Placed} → Waits whole b frames before → Behind b mode behind
       → (m : Meant Expr) → option_and_then (λ last. alone scope (gathered 0 frames last)) (last_operand scope mode) ≡ Some m
-      → Spells scope 1 (before ++ behind) m
+      → Spells dialect scope 1 (before ++ behind) m
   expression_ends w Behind.in_operand m e = cc
   expression_ends w (Behind.in_variable q) m e = cc
   expression_ends w (Behind.in_function q name) m e = cc
@@ -739,7 +740,7 @@ module _ (scope : List Binding) where
   expression_ends (Waits.expression n w) (Behind.in_complete {m = last} d) m e = last_sound w _ last m d e
 
   pub expression_sound : {whole : Bool} {ts : List Placed} (s : State) → Holds whole s.stack s.mode ts → (m : Meant Expr)
-      → end_of_expression scope s ≡ Some m → Spells scope 1 ts m
+      → end_of_expression scope s ≡ Some m → Spells dialect scope 1 ts m
   unfolding end_of_expression
   expression_sound s h m e = spells_at (sym h.are) (expression_ends h.stack h.mode_is m e)
 
@@ -755,14 +756,14 @@ module _ (scope : List Binding) where
       → with_last scope fs a ≡ Some all → A
   not_last {fs = fs} w a all e = let none : with_last scope fs a ≡ None = below_last w a in cc
 
-  last_alternative_sound : {all whole : Meant (List Alternative)} {before behind : List Placed} {a : Meant Alternative} → Barred all before → g.Alternates scope behind a
-      → Some (and_also all a) ≡ Some whole → g.Pattern scope (before ++ behind) whole
+  last_alternative_sound : {all whole : Meant (List Alternative)} {before behind : List Placed} {a : Meant Alternative} → Barred all before → g.Alternates dialect scope behind a
+      → Some (and_also all a) ≡ Some whole → g.Pattern dialect scope (before ++ behind) whole
   last_alternative_sound {all} {whole} {before} {behind} {a} h d e =
-      let same : and_also all a ≡ whole = cc in subst (λ v. g.Pattern scope (before ++ behind) v) same (barred_alternative h d)
+      let same : and_also all a ≡ whole = cc in subst (λ v. g.Pattern dialect scope (before ++ behind) v) same (barred_alternative h d)
 
   pattern_ends : {whole b : Bool} {frames : List Frame} {mode : Mode} {before behind : List Placed} → Waits whole b frames before → Behind b mode behind
       → (all : Meant (List Alternative)) → option_and_then (with_last scope frames) (last_alternative scope mode) ≡ Some all
-      → g.Pattern scope (before ++ behind) all
+      → g.Pattern dialect scope (before ++ behind) all
   pattern_ends w Behind.in_operand all e = cc
   pattern_ends w (Behind.in_variable q) all e = cc
   pattern_ends w (Behind.in_function q name) all e = cc
@@ -782,14 +783,14 @@ module _ (scope : List Binding) where
   pattern_ends w (Behind.in_complete d) all e = cc
 
   pub pattern_sound : {whole : Bool} {ts : List Placed} (s : State) → Holds whole s.stack s.mode ts → (all : Meant (List Alternative))
-      → end_of_pattern scope s ≡ Some all → g.Pattern scope ts all
+      → end_of_pattern scope s ≡ Some all → g.Pattern dialect scope ts all
   unfolding end_of_pattern
   pattern_sound s h all e = pattern_at (sym h.are) (pattern_ends h.stack h.mode_is all e)
 
   -- some tokens that begin so are an expression, or a pattern
   abbrev pub Goes : Bool → List Placed → Type 0
-  Goes false ts = GoesOn (Spells scope 1) ts
-  Goes true ts = GoesOn (g.Pattern scope) ts
+  Goes false ts = GoesOn (Spells dialect scope 1) ts
+  Goes true ts = GoesOn (g.Pattern dialect scope) ts
 
   goes_at : (whole : Bool) {ts us : List Placed} → ts ≡ us → Goes whole ts → Goes whole us
   goes_at whole e h = subst (λ ts. Goes whole ts) e h
@@ -799,11 +800,11 @@ module _ (scope : List Binding) where
   goes_front true ts us (rest, m, d) = (us ++ rest, m, pattern_at (append_assoc ts us rest) d)
 
   barred_goes : {all : Meant (List Alternative)} {before : List Placed} → Barred all before → (behind : List Placed) (a : Meant Alternative)
-      → g.Alternates scope behind a → Goes true (before ++ behind)
+      → g.Alternates dialect scope behind a → Goes true (before ++ behind)
   barred_goes {all} {before} h behind a d = ([], and_also all a, pattern_at (sym (append-nil (before ++ behind))) (barred_alternative h d))
 
-  bracketed : (b : Bool) (q p c : ℕ) {us behind : List Placed} {items : Meant (List Expr)} {x : Meant Expr} → nat_eq c 0 ≡ b → Leading scope c us items → Spells scope 1 behind x
-      → (n : ℕ) → (m : Meant Expr) × Spells scope n (at q token.Open ∷ ((us ++ behind) ++ at p token.Close ∷ [])) m
+  bracketed : (b : Bool) (q p c : ℕ) {us behind : List Placed} {items : Meant (List Expr)} {x : Meant Expr} → nat_eq c 0 ≡ b → Leading dialect scope c us items → Spells dialect scope 1 behind x
+      → (n : ℕ) → (m : Meant Expr) × Spells dialect scope n (at q token.Open ∷ ((us ++ behind) ++ at p token.Close ∷ [])) m
   bracketed true q p c {us} {behind} {items} {x} e d s n =
       let none = leading_none d (eq_true c 0 e) in
       (x, spells_at (ap (λ us. at q token.Open ∷ ((us ++ behind) ++ at p token.Close ∷ [])) (sym none.0)) (Spells.single n q p s))
@@ -811,7 +812,7 @@ module _ (scope : List Binding) where
 
   mutual
     -- an operand completes what waits for it
-    pub fill : {whole : Bool} {n : ℕ} {fs : List Frame} {ts : List Placed} → Below whole n fs ts → (us : List Placed) (x : Meant Expr) → Spells scope n us x
+    pub fill : {whole : Bool} {n : ℕ} {fs : List Frame} {ts : List Placed} → Below whole n fs ts → (us : List Placed) (x : Meant Expr) → Spells dialect scope n us x
         → Goes whole (ts ++ us)
     fill Below.bottom us x s = ([], x, spells_at (sym (append-nil us)) s)
     fill {whole} (Below.negated i p {ts = ts} w g) us x s =

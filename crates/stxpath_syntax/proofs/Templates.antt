@@ -2,6 +2,7 @@
 use Rattle.std.proofs.Common.{◌≡◌, ◌≢◌, ℕ, ◌+◌, true, false, List, [], ◌∷◌, ◌++◌, Some, None, Ok, Err, length, sym, ◌∙◌, refl, ap, subst, arith}
 use Rattle.std.proofs.lemmas.Bool.{false≢true}
 use Rattle.stx_base.specs.declared.name.Binding.{Binding}
+use Rattle.stxpath_syntax.specs.declared.dialect.Dialect.{Dialect}
 use Rattle.stxpath_syntax.specs.declared.expr.AvtPart.{AvtPart}
 use Rattle.stxpath_syntax.specs.declared.expr.Expr.{Expr}
 use Rattle.stxpath_syntax.specs.Template.{is_brace, closing, Read, Template, IsExpression, with_char, with_value}
@@ -25,7 +26,7 @@ split (x ∷ xs) (y ∷ ys) us vs k e =
     let r = split xs ys us vs l t in
     (ap (λ z. z ∷ xs) h ∙ ap (λ zs. y ∷ zs) r.0, r.1)
 
-module _ (scope : List Binding) (one : (at : ℕ) (text : List ℕ) (a b : Read Expr) → IsExpression scope at text a → IsExpression scope at text b → a ≡ b) where
+module _ (dialect : Dialect) (scope : List Binding) (one : (at : ℕ) (text : List ℕ) (a b : Read Expr) → IsExpression dialect scope at text a → IsExpression dialect scope at text b → a ≡ b) where
   -- one expression in braces
   one_inner : (inner vs us ws : List ℕ) → closing None (inner ++ 125 ∷ us) ≡ Some (length inner) → closing None (vs ++ 125 ∷ ws) ≡ Some (length vs)
       → inner ++ 125 ∷ us ≡ vs ++ 125 ∷ ws → (length inner ≡ length vs) × (inner ≡ vs) × (us ≡ ws)
@@ -35,10 +36,10 @@ module _ (scope : List Binding) (one : (at : ℕ) (text : List ℕ) (a b : Read 
       let s = split inner vs us ws k e in
       (k, s.0, s.1)
 
-  same_inner : (at : ℕ) (inner vs : List ℕ) (a b : Read Expr) → inner ≡ vs → IsExpression scope (at + 1) inner a → IsExpression scope (at + 1) vs b → a ≡ b
-  same_inner at inner vs a b e g h = one (at + 1) inner a b g (subst (λ w. IsExpression scope (at + 1) w b) (sym e) h)
+  same_inner : (at : ℕ) (inner vs : List ℕ) (a b : Read Expr) → inner ≡ vs → IsExpression dialect scope (at + 1) inner a → IsExpression dialect scope (at + 1) vs b → a ≡ b
+  same_inner at inner vs a b e g h = one (at + 1) inner a b g (subst (λ w. IsExpression dialect scope (at + 1) w b) (sym e) h)
 
-  template_twice : {at : ℕ} {t u : List ℕ} {a b : Read (List AvtPart)} → Template scope at t a → Template scope at u b → t ≡ u → a ≡ b
+  template_twice : {at : ℕ} {t u : List ℕ} {a b : Read (List AvtPart)} → Template dialect scope at t a → Template dialect scope at u b → t ≡ u → a ≡ b
   template_twice (Template.end at) (Template.end at') e = refl
   template_twice (Template.end at) (Template.plain at' c' {text = text'} {parts = p'} b' d') e = cc
   template_twice (Template.end at) (Template.doubled at' c' {text = text'} {parts = p'} b' d') e = cc
@@ -84,7 +85,7 @@ module _ (scope : List Binding) (one : (at : ℕ) (text : List ℕ) (a b : Read 
       let s = one_inner i i' text text' l l' r in
       let same : Ok x ≡ Ok x' = same_inner at i i' (Ok x) (Ok x') s.1 g g' in
       let is : x ≡ x' = cc in
-      let rest : p ≡ p' = template_twice d (subst (λ n. Template scope (at + n + 2) text' p') (sym s.0) d') s.2 in
+      let rest : p ≡ p' = template_twice d (subst (λ n. Template dialect scope (at + n + 2) text' p') (sym s.0) d') s.2 in
       ap (λ v. with_value v p) is ∙ ap (with_value x') rest
   template_twice (Template.value at i text x {parts = p} n l g d) (Template.faulty at' i' text' y' n' l' g') e =
       let r : i ++ 125 ∷ text ≡ i' ++ 125 ∷ text' = cc in
@@ -108,5 +109,5 @@ module _ (scope : List Binding) (one : (at : ℕ) (text : List ℕ) (a b : Read 
       let is : y ≡ y' = cc in
       ap Err is
 
-  pub one_template : (at : ℕ) (text : List ℕ) (a b : Read (List AvtPart)) → Template scope at text a → Template scope at text b → a ≡ b
+  pub one_template : (at : ℕ) (text : List ℕ) (a b : Read (List AvtPart)) → Template dialect scope at text a → Template dialect scope at text b → a ≡ b
   one_template at text a b d f = template_twice d f refl

@@ -1,9 +1,10 @@
--- Which tokens spell what: the grammar, each rule once.
+-- Which tokens spell what: the grammar of a dialect, each rule once.
 use Rattle.std.specs.Prelude.{◌≡◌, ◌≢◌, ℕ, ◌+◌, ◌≤◌, ℤ, List, [], ◌∷◌, ◌++◌, Option, Some}
 use Rattle.stx_base.specs.declared.name.Binding.{Binding}
 use Rattle.stx_base.specs.declared.expression.Op.TheVariants as op
 use Rattle.stx_base.specs.declared.node.NodeTest.{NodeTest}
 use Rattle.stx_base.specs.declared.node.NodeTest.TheVariants as test
+use Rattle.stxpath_syntax.specs.declared.dialect.Dialect.{Dialect}
 use Rattle.stxpath_syntax.specs.declared.expr.Bin.TheVariants as bin
 use Rattle.stxpath_syntax.specs.declared.expr.Expr.{Expr}
 use Rattle.stxpath_syntax.specs.declared.expr.Expr.TheVariants as e
@@ -53,16 +54,6 @@ link_tokens link.Slash place = at place token.Slash ∷ []
 link_tokens link.Deep place = at place token.SlashSlash ∷ []
 
 module _ (scope : List Binding) where
-  -- the test of a step
-  pub data Test : List Placed → Meant NodeTest → Type 0 where
-    named : (p : ℕ) (name : Written) → Test (at p (token.Name name) ∷ []) (element_named scope name p)
-    within : (p : ℕ) (prefix : List ℕ) → Test (at p (token.Within prefix) ∷ []) (element_within scope prefix p)
-    any : (p : ℕ) → Test (at p token.Star ∷ []) (flat test.AnyElement)
-    type : (p o c : ℕ) (name : Written) (t : NodeTest) → type_of name ≡ Some t
-        → Test (at p (token.Name name) ∷ at o token.Open ∷ at c token.Close ∷ []) (flat t)
-    target : (p o q c : ℕ) (name : Written) (text : List ℕ) → type_of name ≡ Some test.AnyPi
-        → Test (at p (token.Name name) ∷ at o token.Open ∷ at q (token.Literal text) ∷ at c token.Close ∷ []) (flat (test.Pi text))
-
   -- `@` and the test of attributes
   pub data AttrTest : List Placed → Meant NodeTest → Type 0 where
     named : (a p : ℕ) (name : Written) → AttrTest (at a token.At ∷ at p (token.Name name) ∷ []) (attribute_named scope name p)
@@ -79,6 +70,17 @@ module _ (scope : List Binding) where
     here : (p : ℕ) → Parents (at p token.Dot ∷ []) 0
     one : (p : ℕ) → Parents (at p token.DotDot ∷ []) 1
     further : (s p : ℕ) {ts : List Placed} {n : ℕ} → Parents ts n → n ≢ 0 → Parents (ts ++ at s token.Slash ∷ at p token.DotDot ∷ []) (more n)
+
+module _ (dialect : Dialect) (scope : List Binding) where
+  -- the test of a step
+  pub data Test : List Placed → Meant NodeTest → Type 0 where
+    named : (p : ℕ) (name : Written) → Test (at p (token.Name name) ∷ []) (element_named scope name p)
+    within : (p : ℕ) (prefix : List ℕ) → Test (at p (token.Within prefix) ∷ []) (element_within scope prefix p)
+    any : (p : ℕ) → Test (at p token.Star ∷ []) (flat test.AnyElement)
+    type : (p o c : ℕ) (name : Written) (t : NodeTest) → type_of dialect name ≡ Some t
+        → Test (at p (token.Name name) ∷ at o token.Open ∷ at c token.Close ∷ []) (flat t)
+    target : (p o q c : ℕ) (name : Written) (text : List ℕ) → type_of dialect name ≡ Some test.AnyPi
+        → Test (at p (token.Name name) ∷ at o token.Open ∷ at q (token.Literal text) ∷ at c token.Close ∷ []) (flat (test.Pi text))
 
   mutual
     -- an expression in which operators that bind looser than the level stand in brackets
@@ -99,10 +101,10 @@ module _ (scope : List Binding) where
           → Spells n (ts ++ at p (token.Operator o) ∷ us) (operated o p x y)
       root : (n p : ℕ) → Spells n (at p token.Slash ∷ []) meaning.root
       absolute : (n : ℕ) {l : Link} {ts us : List Placed} {steps : Meant (List PathStep)} {t : Meant (Option NodeTest)}
-          → l ≢ link.Start → Steps l ts steps → Ending us t → Spells n (ts ++ us) (abs steps t)
-      above : (n : ℕ) {k : ℕ} {ts us : List Placed} {t : Meant (Option NodeTest)} → Parents ts k → Ending us t
+          → l ≢ link.Start → Steps l ts steps → Ending scope us t → Spells n (ts ++ us) (abs steps t)
+      above : (n : ℕ) {k : ℕ} {ts us : List Placed} {t : Meant (Option NodeTest)} → Parents scope ts k → Ending scope us t
           → Spells n (ts ++ us) (up k t)
-      attributes : (n : ℕ) {ts : List Placed} {t : Meant NodeTest} → AttrTest ts t → Spells n ts (attr t)
+      attributes : (n : ℕ) {ts : List Placed} {t : Meant NodeTest} → AttrTest scope ts t → Spells n ts (attr t)
 
     -- so many expressions, each with a comma behind it
     pub data Leading : ℕ → List Placed → Meant (List Expr) → Type 0 where
@@ -135,7 +137,7 @@ module _ (scope : List Binding) where
 
   -- a step of a pattern that tests attributes, behind its link
   pub data AttrStep : Link → List Placed → Meant PathStep → Type 0 where
-    tested : (l : Link) (p : ℕ) {ts us : List Placed} {t : Meant NodeTest} {es : Meant (List Expr)} → AttrTest ts t → Predicates us es
+    tested : (l : Link) (p : ℕ) {ts us : List Placed} {t : Meant NodeTest} {es : Meant (List Expr)} → AttrTest scope ts t → Predicates us es
         → AttrStep l (link_tokens l p ++ ts ++ us) (step l t es)
 
   -- an alternative of a pattern: `/`, or steps of which the last may test attributes

@@ -1,6 +1,7 @@
 -- What the grammar promises.
-use Rattle.std.specs.Prelude.{◌≡◌, ℕ, List, Ok}
+use Rattle.std.specs.Prelude.{◌≡◌, ℕ, List, Ok, All}
 use Rattle.stx_base.specs.declared.name.Binding.{Binding}
+use Rattle.stxpath_syntax.specs.declared.dialect.Dialect.{Dialect}
 use Rattle.stxpath_syntax.specs.declared.expr.Alternative.{Alternative}
 use Rattle.stxpath_syntax.specs.declared.expr.AvtPart.{AvtPart}
 use Rattle.stxpath_syntax.specs.declared.expr.Expr.{Expr}
@@ -8,25 +9,34 @@ use Rattle.stxpath_syntax.specs.declared.meant.Meant.{Meant}
 use Rattle.stxpath_syntax.specs.declared.token.Placed.{Placed}
 use Rattle.stxpath_syntax.specs.Grammar as grammar
 use Rattle.stxpath_syntax.specs.Printing.{Agrees, prefixes_in, printed}
+use Rattle.stxpath_syntax.specs.Readable.{IsReadable, IsReadableAlternative, IsReadableTemplate, IsReadablePart}
+use Rattle.stxpath_syntax.specs.Shape.{CanBeEvaluated, PredicatesCanBeEvaluated}
 use Rattle.stxpath_syntax.specs.Template.{IsExpression, IsPattern, IsTemplate, Read}
 
 -- tokens spell one expression at most, and make one pattern at most
 abbrev pub OneReading : Type 0
 OneReading =
-    (scope : List Binding) (ts : List Placed)
-    → ((a b : Meant Expr) → grammar.Spells scope 1 ts a → grammar.Spells scope 1 ts b → a ≡ b)
-    × ((a b : Meant (List Alternative)) → grammar.Pattern scope ts a → grammar.Pattern scope ts b → a ≡ b)
+    (dialect : Dialect) (scope : List Binding) (ts : List Placed)
+    → ((a b : Meant Expr) → grammar.Spells dialect scope 1 ts a → grammar.Spells dialect scope 1 ts b → a ≡ b)
+    × ((a b : Meant (List Alternative)) → grammar.Pattern dialect scope ts a → grammar.Pattern dialect scope ts b → a ≡ b)
 
 -- what is printed of an expression that was read is read as it again, where each of its prefixes stands for its URI
 abbrev pub ReadsBack : Type 0
 ReadsBack =
-    (scope other : List Binding) (from place : ℕ) (text : List ℕ) (x : Expr) → IsExpression scope from text (Ok x)
-    → Agrees other (prefixes_in x) → IsExpression other place (printed x).text (Ok x)
+    (dialect : Dialect) (scope other : List Binding) (from place : ℕ) (text : List ℕ) (x : Expr)
+    → IsExpression dialect scope from text (Ok x) → Agrees other (prefixes_in x) → IsExpression dialect other place (printed x).text (Ok x)
 
 -- a text is read as one expression, pattern or template, or has one first fault
 abbrev pub OneAnswer : Type 0
 OneAnswer =
-    (scope : List Binding) (text : List ℕ)
-    → ((at : ℕ) (a b : Read Expr) → IsExpression scope at text a → IsExpression scope at text b → a ≡ b)
-    × ((a b : Read (List Alternative)) → IsPattern scope text a → IsPattern scope text b → a ≡ b)
-    × ((a b : Read (List AvtPart)) → IsTemplate scope text a → IsTemplate scope text b → a ≡ b)
+    (dialect : Dialect) (scope : List Binding) (text : List ℕ)
+    → ((at : ℕ) (a b : Read Expr) → IsExpression dialect scope at text a → IsExpression dialect scope at text b → a ≡ b)
+    × ((a b : Read (List Alternative)) → IsPattern dialect scope text a → IsPattern dialect scope text b → a ≡ b)
+    × ((a b : Read (List AvtPart)) → IsTemplate dialect scope text a → IsTemplate dialect scope text b → a ≡ b)
+
+-- whatever is read can be evaluated: expressions, the predicates of patterns, and the expressions of templates, which are read as such
+abbrev pub CanAllBeEvaluated : Type 0
+CanAllBeEvaluated =
+    ((x : Expr) → IsReadable x → CanBeEvaluated x)
+    × ((a : Alternative) → IsReadableAlternative a → PredicatesCanBeEvaluated a)
+    × ((parts : List AvtPart) → IsReadableTemplate parts → All IsReadablePart parts)

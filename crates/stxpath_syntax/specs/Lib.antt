@@ -6,10 +6,11 @@ pub mod Grammar
 pub mod Reading
 pub mod Template
 pub mod Templating
+pub mod Readable
 pub mod Stacks
 pub mod Machine
 pub mod Ending
 pub mod Running
-pub mod Laws
 pub mod Printing
 pub mod Shape
+pub mod Laws

@@ -8,6 +8,7 @@ use Rattle.stx_base.specs.declared.node.NodeTest.{NodeTest}
 use Rattle.stx_base.specs.declared.node.NodeTest.TheVariants as test
 use Rattle.stxpath_syntax.specs.declared.meant.Meant.{Meant}
 use Rattle.stxpath_syntax.specs.declared.meant.Meant.TheVariants.{Fine}
+use Rattle.stxpath_syntax.specs.declared.dialect.Dialect.{Dialect}
 use Rattle.stxpath_syntax.specs.declared.expr.Alternative.{Alternative}
 use Rattle.stxpath_syntax.specs.declared.expr.Alternative.TheVariants as alternative
 use Rattle.stxpath_syntax.specs.declared.expr.Bin.TheVariants as bin
@@ -261,8 +262,8 @@ begin_attribute frames begun =
     else if not begun.is_first && is_slash begun.link then Some (Attribute (owner.Path begun.steps)) else None
 
 -- `(` behind the name of a node type
-abbrev pub begin_type : Begun → Written → Option Mode
-begin_type begun name = option_map (Kind begun) (type_of name)
+abbrev pub begin_type : Dialect → Begun → Written → Option Mode
+begin_type dialect begun name = option_map (Kind begun) (type_of dialect name)
 
 abbrev pub state_of : List Frame × Mode → State
 state_of next = record { stack = next.0; mode = next.1 }
@@ -299,11 +300,6 @@ module _ (scope : List Binding) where
   abbrev pub named_walk : Named → Walk
   named_walk named = walk_of named.begun (element_named scope named.name named.at) false
 
-  -- a token behind a name that begins a step
-  unfoldable pub after_name : List Frame → Named → ℕ → Token → Next
-  after_name frames named at token.Open = at_stack frames (begin_type named.begun named.name)
-  after_name frames named at t = walk_on frames (named_walk named) at t
-
   -- the name behind `$`
   abbrev pub variable : ℕ → Token → Option Mode
   variable at (token.Name name) = Some (Complete (var (name_of scope name at)))
@@ -312,30 +308,6 @@ module _ (scope : List Binding) where
   -- a token behind `@`
   abbrev pub attribute : Owner → ℕ → Token → Option Mode
   attribute whose at t = option_map (owned whose) (attribute_test at t)
-
-  abbrev pub turn : List Frame → Mode → ℕ → Token → Next
-  turn frames Operand at t = operand frames at t
-  turn frames (Complete last) at t = complete frames last at t
-  turn frames Variable at t = at_stack frames (variable at t)
-  turn frames (Function name place) at t = function frames name place t
-  turn frames Root at t = after_root frames at t
-  turn frames AlternativeBegins at t = begin_alternative frames at t
-  turn frames (Step begun) at t = begin_step frames begun at t
-  turn frames (AfterName named) at t = after_name frames named at t
-  turn frames (Kind begun t) at next = at_stack frames (after_type begun t next)
-  turn frames (Target begun target) at t = at_stack frames (after_target begun target t)
-  turn frames (Walked walk) at t = walk_on frames walk at t
-  turn frames (Attribute whose) at t = at_stack frames (attribute whose at t)
-  turn frames (Above n) at t = above frames n at t
-  turn frames (Higher n) at t = at_stack frames (higher n t)
-
-  unfoldable pub step : State → Placed → Option State
-  step state t = option_map state_of (turn state.stack state.mode t.at t.token)
-
-  -- the state behind tokens, if each of them can follow those before it
-  unfoldable pub run : List Placed → State → Option State
-  run [] state = Some state
-  run (t ∷ ts) state = option_and_then (run ts) (step state t)
 
   -- the operand that ends with the last token
   abbrev pub last_operand : Mode → Option (Meant Expr)
@@ -366,6 +338,36 @@ module _ (scope : List Binding) where
 
   unfoldable pub end_of_pattern : State → Option (Meant (List Alternative))
   end_of_pattern state = option_and_then (with_last state.stack) (last_alternative state.mode)
+
+module _ (dialect : Dialect) (scope : List Binding) where
+  -- a token behind a name that begins a step
+  unfoldable pub after_name : List Frame → Named → ℕ → Token → Next
+  after_name frames named at token.Open = at_stack frames (begin_type dialect named.begun named.name)
+  after_name frames named at t = walk_on frames (named_walk scope named) at t
+
+  abbrev pub turn : List Frame → Mode → ℕ → Token → Next
+  turn frames Operand at t = operand frames at t
+  turn frames (Complete last) at t = complete frames last at t
+  turn frames Variable at t = at_stack frames (variable scope at t)
+  turn frames (Function name place) at t = function frames name place t
+  turn frames Root at t = after_root scope frames at t
+  turn frames AlternativeBegins at t = begin_alternative scope frames at t
+  turn frames (Step begun) at t = begin_step scope frames begun at t
+  turn frames (AfterName named) at t = after_name frames named at t
+  turn frames (Kind begun t) at next = at_stack frames (after_type begun t next)
+  turn frames (Target begun target) at t = at_stack frames (after_target begun target t)
+  turn frames (Walked walk) at t = walk_on frames walk at t
+  turn frames (Attribute whose) at t = at_stack frames (attribute scope whose at t)
+  turn frames (Above n) at t = above frames n at t
+  turn frames (Higher n) at t = at_stack frames (higher n t)
+
+  unfoldable pub step : State → Placed → Option State
+  step state t = option_map state_of (turn state.stack state.mode t.at t.token)
+
+  -- the state behind tokens, if each of them can follow those before it
+  unfoldable pub run : List Placed → State → Option State
+  run [] state = Some state
+  run (t ∷ ts) state = option_and_then (run ts) (step state t)
 
 -- what a step answers: the next state, or that there is none, or want of memory
 abbrev pub Takes : {A : Type 0} → Option A → Result A Stop → Type 0

@@ -4,6 +4,7 @@ use Rattle.stx_base.specs.declared.name.Name.{Name}
 use Rattle.stx_base.specs.declared.name.Binding.{Binding}
 use Rattle.stx_base.specs.declared.node.NodeTest.{NodeTest}
 use Rattle.stx_base.specs.declared.node.NodeTest.TheVariants as test
+use Rattle.stxpath_syntax.specs.declared.dialect.Dialect.{Dialect}
 use Rattle.stxpath_syntax.specs.declared.expr.Alternative.{Alternative}
 use Rattle.stxpath_syntax.specs.declared.expr.Alternative.TheVariants as alternative
 use Rattle.stxpath_syntax.specs.declared.expr.Bin.{Bin}
@@ -146,8 +147,8 @@ abbrev pub attribute_within : List Binding → List ℕ → ℕ → Meant NodeTe
 attribute_within scope prefix at = made 0 test.AttrPrefix (binding_of scope prefix at)
 
 -- a node type has no prefix
-abbrev pub type_of : Written → Option NodeTest
-type_of written = if length written.prefix == 0 then type_named (encode_utf8_all written.local) else None
+abbrev pub type_of : Dialect → Written → Option NodeTest
+type_of dialect written = if length written.prefix == 0 then type_named dialect (encode_utf8_all written.local) else None
 
 -- a function has no prefix
 abbrev pub function_of : Written → Option Function

@@ -106,6 +106,7 @@ test_text (test.Prefix binding) = within_text binding.prefix
 test_text test.AnyElement = codes "*"
 test_text test.AnyNode = codes "node()"
 test_text test.Chars = codes "text()"
+test_text test.CData = codes "cdata()"
 test_text test.Comment = codes "comment()"
 test_text test.AnyPi = codes "processing-instruction()"
 test_text (test.Pi target) = codes "processing-instruction(" ++ quoted target ++ codes ")"

@@ -1,6 +1,7 @@
 -- What running tokens through the machine answers.
 use Rattle.std.specs.Prelude.{◌≡◌, ℕ, List, ◌∷◌, ◌++◌, Option, Some, None, Result, Ok, Err}
 use Rattle.stx_base.specs.declared.name.Binding.{Binding}
+use Rattle.stxpath_syntax.specs.declared.dialect.Dialect.{Dialect}
 use Rattle.stxpath_syntax.specs.declared.expr.Alternative.{Alternative}
 use Rattle.stxpath_syntax.specs.declared.expr.Expr.{Expr}
 use Rattle.stxpath_syntax.specs.declared.fault.ParseFault.{ParseFault}
@@ -24,24 +25,24 @@ stopped stop.Stuck place = syntax place
 stopped stop.Memory place = fault.Memory
 
 -- the first token that no state follows, behind those that lead to this state
-pub record Sticks (scope : List Binding) (begun : State) (ts : List Placed) (t : Placed) : Type 0 where
+pub record Sticks (dialect : Dialect) (scope : List Binding) (begun : State) (ts : List Placed) (t : Placed) : Type 0 where
   pub front : List Placed
   pub rest : List Placed
   pub state : State
   pub are : ts ≡ front ++ t ∷ rest
-  pub leads : run scope front begun ≡ Some state
-  pub is_stuck : step scope state t ≡ None
+  pub leads : run dialect scope front begun ≡ Some state
+  pub is_stuck : step dialect scope state t ≡ None
 
 -- the state behind all tokens, or the first token that no state follows
-abbrev pub Runs : List Binding → State → List Placed → Result State ParseFault → Type 0
-Runs scope begun ts (Ok state) = run scope ts begun ≡ Some state
-Runs scope begun ts (Err (fault.Path f)) = (t : Placed) × Sticks scope begun ts t × (f ≡ record { kind = kind.Syntax; place = t.at })
-Runs scope begun ts (Err fault.Memory) = Unit {0}
+abbrev pub Runs : Dialect → List Binding → State → List Placed → Result State ParseFault → Type 0
+Runs dialect scope begun ts (Ok state) = run dialect scope ts begun ≡ Some state
+Runs dialect scope begun ts (Err (fault.Path f)) = (t : Placed) × Sticks dialect scope begun ts t × (f ≡ record { kind = kind.Syntax; place = t.at })
+Runs dialect scope begun ts (Err fault.Memory) = Unit {0}
 
-abbrev pub Nexts : List Binding → State → Placed → Result State ParseFault → Type 0
-Nexts scope state t (Ok next) = step scope state t ≡ Some next
-Nexts scope state t (Err (fault.Path f)) = (step scope state t ≡ None) × (f ≡ record { kind = kind.Syntax; place = t.at })
-Nexts scope state t (Err fault.Memory) = Unit {0}
+abbrev pub Nexts : Dialect → List Binding → State → Placed → Result State ParseFault → Type 0
+Nexts dialect scope state t (Ok next) = step dialect scope state t ≡ Some next
+Nexts dialect scope state t (Err (fault.Path f)) = (step dialect scope state t ≡ None) × (f ≡ record { kind = kind.Syntax; place = t.at })
+Nexts dialect scope state t (Err fault.Memory) = Unit {0}
 
 -- what a text is read as whose tokens run through, by what they mean; or its fault at the end, where they are no whole
 abbrev pub whole_read : {A : Type 0} → Option (Meant A) → ℕ → Read A

@@ -1,5 +1,5 @@
 -- Expressions as trees: how many arguments each call has, and how high a tree is.
-use Rattle.std.specs.Prelude.{ℕ, ◌+◌, max, ◌==◌, nat_le, Bool, true, ◌&&◌, List, [], ◌∷◌, length, map}
+use Rattle.std.specs.Prelude.{◌≡◌, ℕ, ◌+◌, ◌≤◌, All, max, ◌==◌, nat_le, Bool, true, ◌&&◌, List, [], ◌∷◌, length, map}
 use Rattle.std.specs.List.{list_all}
 use Rattle.stx_base.specs.declared.expression.Fun.{Fun}
 use Rattle.stx_base.specs.declared.expression.Fun.TheVariants as fun
@@ -113,3 +113,12 @@ alternative_height (alternative.Steps steps) = greatest (map height_of_step step
 abbrev pub part_height : AvtPart → ℕ
 part_height (part.Chars text) = 0
 part_height (part.Value x) = height x
+
+-- what evaluation asks of an expression: permitted numbers of arguments, and at most 64 levels
+abbrev pub CanBeEvaluated : Expr → Type 0
+CanBeEvaluated x = (is_called_well x ≡ true) × (height x ≤ 64)
+
+-- the same of each predicate of an alternative
+abbrev pub PredicatesCanBeEvaluated : Alternative → Type 0
+PredicatesCanBeEvaluated alternative.Root = Unit {0}
+PredicatesCanBeEvaluated (alternative.Steps steps) = All (λ step. All CanBeEvaluated step.predicates) steps

@@ -2,6 +2,7 @@
 use Rattle.std.specs.Prelude.{◌≡◌, ◌≢◌, ℕ, ◌+◌, Bool, true, false, ◌||◌, ◌==◌, List, [], ◌∷◌, ◌++◌, Option, Some, None, Result, Ok, Err, length, if◌then◌else◌}
 use Rattle.std.specs.Option.{option_map}
 use Rattle.stx_base.specs.declared.name.Binding.{Binding}
+use Rattle.stxpath_syntax.specs.declared.dialect.Dialect.{Dialect}
 use Rattle.stxpath_syntax.specs.declared.meant.Meant.{Meant}
 use Rattle.stxpath_syntax.specs.declared.meant.Meant.TheVariants.{Fine, High, Bad}
 use Rattle.stxpath_syntax.specs.declared.expr.Avt.{Avt}
@@ -43,7 +44,7 @@ abbrev pub with_value : Expr → Read (List AvtPart) → Read (List AvtPart)
 with_value value (Ok parts) = Ok (Value value ∷ parts)
 with_value value (Err fault) = Err fault
 
-module _ (scope : List Binding) where
+module _ (dialect : Dialect) (scope : List Binding) where
   -- what characters that begin at a place are read as, or the first fault, in their order
   pub data Template : ℕ → List ℕ → Read (List AvtPart) → Type 0 where
     end : (at : ℕ) → Template at [] (Ok [])
@@ -56,11 +57,11 @@ module _ (scope : List Binding) where
         → Template at (123 ∷ text) (fault_of kind.Syntax at)
     value : (at : ℕ) (inner text : List ℕ) (x : Expr) {parts : Read (List AvtPart)} → ((rest : List ℕ) → inner ≢ 123 ∷ rest)
         → closing None (inner ++ 125 ∷ text) ≡ Some (length inner)
-        → Gives (grammar.Spells scope 1) (at + 1) inner (Ok x) → Template (at + length inner + 2) text parts
+        → Gives (grammar.Spells dialect scope 1) (at + 1) inner (Ok x) → Template (at + length inner + 2) text parts
         → Template at (123 ∷ (inner ++ 125 ∷ text)) (with_value x parts)
     faulty : (at : ℕ) (inner text : List ℕ) (why : PathFault) → ((rest : List ℕ) → inner ≢ 123 ∷ rest)
         → closing None (inner ++ 125 ∷ text) ≡ Some (length inner)
-        → Gives (grammar.Spells scope 1) (at + 1) inner (Err why)
+        → Gives (grammar.Spells dialect scope 1) (at + 1) inner (Err why)
         → Template at (123 ∷ (inner ++ 125 ∷ text)) (Err why)
 
 -- what a call that reads answers: what its text is read as, its first fault, or want of memory
@@ -69,14 +70,14 @@ Answers Is (Ok a) = Is (Ok a)
 Answers Is (Err (fault.Path why)) = Is (Err why)
 Answers Is (Err fault.Memory) = Unit {0}
 
-abbrev pub IsExpression : List Binding → ℕ → List ℕ → Read Expr → Type 0
-IsExpression scope at text = Gives (grammar.Spells scope 1) at text
+abbrev pub IsExpression : Dialect → List Binding → ℕ → List ℕ → Read Expr → Type 0
+IsExpression dialect scope at text = Gives (grammar.Spells dialect scope 1) at text
 
-abbrev pub IsPattern : List Binding → List ℕ → Read (List Alternative) → Type 0
-IsPattern scope text = Gives (grammar.Pattern scope) 0 text
+abbrev pub IsPattern : Dialect → List Binding → List ℕ → Read (List Alternative) → Type 0
+IsPattern dialect scope text = Gives (grammar.Pattern dialect scope) 0 text
 
-abbrev pub IsTemplate : List Binding → List ℕ → Read (List AvtPart) → Type 0
-IsTemplate scope text = Template scope 0 text
+abbrev pub IsTemplate : Dialect → List Binding → List ℕ → Read (List AvtPart) → Type 0
+IsTemplate dialect scope text = Template dialect scope 0 text
 
 abbrev pub alternatives_of : Result Pattern ParseFault → Result (List Alternative) ParseFault
 alternatives_of (Ok pattern) = Ok pattern.alternatives

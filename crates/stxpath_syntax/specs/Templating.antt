@@ -4,6 +4,7 @@ use Rattle.stx_base.specs.declared.name.Binding.{Binding}
 use Rattle.stxpath_syntax.specs.declared.avt.Cut.{Cut}
 use Rattle.stxpath_syntax.specs.declared.avt.Piece.{Piece}
 use Rattle.stxpath_syntax.specs.declared.avt.Piece.TheVariants as piece
+use Rattle.stxpath_syntax.specs.declared.dialect.Dialect.{Dialect}
 use Rattle.stxpath_syntax.specs.declared.expr.AvtPart.{AvtPart}
 use Rattle.stxpath_syntax.specs.declared.expr.AvtPart.TheVariants.{Chars, Value}
 use Rattle.stxpath_syntax.specs.declared.fault.ParseFault.{ParseFault}
@@ -16,12 +17,12 @@ with_piece (piece.Plain c) = with_char c
 with_piece (piece.Value value) = with_value value
 
 -- the piece at the front, whatever follows it, or the fault there
-abbrev pub Cuts : List Binding → ℕ → List ℕ → Result Cut ParseFault → Type 0
-Cuts scope at text (Ok cut) =
+abbrev pub Cuts : Dialect → List Binding → ℕ → List ℕ → Result Cut ParseFault → Type 0
+Cuts dialect scope at text (Ok cut) =
     (0 < cut.len) × (cut.len ≤ length text)
-    × ((parts : Read (List AvtPart)) → Template scope (at + cut.len) (drop cut.len text) parts → Template scope at text (with_piece cut.piece parts))
-Cuts scope at text (Err (fault.Path f)) = Template scope at text (Err f)
-Cuts scope at text (Err fault.Memory) = Unit {0}
+    × ((parts : Read (List AvtPart)) → Template dialect scope (at + cut.len) (drop cut.len text) parts → Template dialect scope at text (with_piece cut.piece parts))
+Cuts dialect scope at text (Err (fault.Path f)) = Template dialect scope at text (Err f)
+Cuts dialect scope at text (Err fault.Memory) = Unit {0}
 
 -- plain characters as a part, if there are some
 abbrev pub flushed : List ℕ → List AvtPart

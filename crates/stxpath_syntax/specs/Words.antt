@@ -6,6 +6,8 @@ use Rattle.stx_base.specs.declared.name.Binding.{Binding}
 use Rattle.stx_base.specs.declared.expression.Op.TheVariants as op
 use Rattle.stx_base.specs.declared.node.NodeTest.{NodeTest}
 use Rattle.stx_base.specs.declared.node.NodeTest.TheVariants as test
+use Rattle.stxpath_syntax.specs.declared.dialect.Dialect.{Dialect}
+use Rattle.stxpath_syntax.specs.declared.dialect.Dialect.TheVariants.{One, OneOne}
 use Rattle.stxpath_syntax.specs.declared.expr.Bin.TheVariants as bin
 use Rattle.stxpath_syntax.specs.declared.token.Operator.{Operator}
 use Rattle.stxpath_syntax.specs.declared.token.Operator.TheVariants as operator
@@ -22,11 +24,17 @@ operator_named word =
     else if bytes_eq word (codes "mod") then Some (operator.Binary (bin.Arith op.Mod))
     else None
 
+-- what `cdata()` tests: CDATA nodes, in dialect 1.1 alone
+abbrev pub cdata_test : Dialect → Option NodeTest
+cdata_test One = None
+cdata_test OneOne = Some test.CData
+
 -- the tests that are written as a node type and empty parentheses
-abbrev pub type_named : List ℕ → Option NodeTest
-type_named word =
+abbrev pub type_named : Dialect → List ℕ → Option NodeTest
+type_named dialect word =
     if bytes_eq word (codes "node") then Some test.AnyNode
     else if bytes_eq word (codes "text") then Some test.Chars
+    else if bytes_eq word (codes "cdata") then cdata_test dialect
     else if bytes_eq word (codes "comment") then Some test.Comment
     else if bytes_eq word (codes "processing-instruction") then Some test.AnyPi
     else None

@@ -7,6 +7,7 @@ ghost use Rattle.stxpath_syntax.specs.Template as spec;
 ghost use Rattle.stxpath_syntax.specs.Templating as templating;
 ghost use Rattle.stxpath_syntax.specs.Tokens.{has_at};
 
+use crate::dialect::Dialect;
 use crate::expr::{Avt, AvtPart, Expr};
 use crate::fault::{ParseFault, PathFault, PathKind};
 use crate::parse::expression;
@@ -75,10 +76,11 @@ fn braced(
     rest: &[char],
     at: usize,
     scope: &List<Binding>,
+    dialect: Dialect,
 ) -> Result<Cut, ParseFault>
     requires brace { spec.is_brace c ≡ true }
     requires room { at + length rest.now + 1 < 2 ^ 64 }
-    ensures { templating.Cuts scope.now at (c ∷ rest.now) result }
+    ensures { templating.Cuts dialect scope.now at (c ∷ rest.now) result }
 {
     if follows(c, 0, rest) {
         let piece = Piece::Plain(c);
@@ -90,7 +92,7 @@ fn braced(
     let Some(len) = closing(rest) else {
         return Err(syntax(at));
     };
-    let value = expression(alloc, &rest[..len], at + 1, scope)?;
+    let value = expression(alloc, &rest[..len], at + 1, scope, dialect)?;
     let piece = Piece::Value(value);
     Ok(Cut {
         piece,
@@ -105,12 +107,13 @@ fn front(
     rest: &[char],
     at: usize,
     scope: &List<Binding>,
+    dialect: Dialect,
 ) -> Result<Cut, ParseFault>
     requires { at + length rest.now + 1 < 2 ^ 64 }
-    ensures { templating.Cuts scope.now at (c ∷ rest.now) result }
+    ensures { templating.Cuts dialect scope.now at (c ∷ rest.now) result }
 {
     if is_brace(c) {
-        return braced(alloc, c, rest, at, scope);
+        return braced(alloc, c, rest, at, scope, dialect);
     }
     let piece = Piece::Plain(c);
     Ok(Cut { piece, len: 1 })
@@ -166,16 +169,21 @@ fn skip(text: &[char], len: usize) -> &[char]
 }
 
 /// The parts of the template that characters write.
-fn parts(alloc: Global, text: &[char], scope: &List<Binding>) -> Result<List<AvtPart>, ParseFault>
+fn parts(
+    alloc: Global,
+    text: &[char],
+    scope: &List<Binding>,
+    dialect: Dialect,
+) -> Result<List<AvtPart>, ParseFault>
     requires { length text.now < 2 ^ 64 }
-    ensures { spec.Answers (spec.IsTemplate scope.now text.now) result }
+    ensures { spec.Answers (spec.IsTemplate dialect scope.now text.now) result }
 {
     let mut parts = List::new(alloc);
     let mut plain = Text::new(alloc);
     let mut at = 0;
     let mut rest = text;
     'parts: while let Some((c, behind)) = rest.split_first() {
-        let cut = front(alloc, *c, behind, at, scope)?;
+        let cut = front(alloc, *c, behind, at, scope, dialect)?;
         append(alloc, &mut parts, &mut plain, cut.piece)?;
         at += cut.len;
         rest = skip(rest, cut.len);
@@ -184,13 +192,27 @@ fn parts(alloc: Global, text: &[char], scope: &List<Binding>) -> Result<List<Avt
     Ok(parts)
 }
 
-/// Reads an attribute value template; the fault is the first one.
-pub fn parse_avt(alloc: Global, text: &Text, scope: &List<Binding>) -> Result<Avt, ParseFault>
-    ensures reads { spec.Answers (spec.IsTemplate scope.now text.now) (spec.parts_of result) }
+/// Reads an attribute value template of a dialect; the fault is the first one.
+pub fn read_avt(
+    alloc: Global,
+    text: &Text,
+    scope: &List<Binding>,
+    dialect: Dialect,
+) -> Result<Avt, ParseFault>
+    ensures reads { spec.Answers (spec.IsTemplate dialect scope.now text.now) (spec.parts_of result) }
     ensures called_well { IfOk result (λ template. list_all shape.is_part_called_well template.parts ≡ true) }
     ensures low { IfOk result (λ template. shape.greatest (map shape.part_height template.parts) ≤ 64) }
 {
     let chars: Vec<char> = text.as_str().chars().collect(alloc)?;
-    let parts = parts(alloc, &chars, scope)?;
+    let parts = parts(alloc, &chars, scope, dialect)?;
     Ok(Avt { parts })
+}
+
+/// Reads an attribute value template of version 1.0.
+pub fn parse_avt(alloc: Global, text: &Text, scope: &List<Binding>) -> Result<Avt, ParseFault>
+    ensures reads { spec.Answers (spec.IsTemplate Dialect.One scope.now text.now) (spec.parts_of result) }
+    ensures called_well { IfOk result (λ template. list_all shape.is_part_called_well template.parts ≡ true) }
+    ensures low { IfOk result (λ template. shape.greatest (map shape.part_height template.parts) ≤ 64) }
+{
+    read_avt(alloc, text, scope, Dialect::One)
 }

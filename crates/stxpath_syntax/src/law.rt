@@ -16,3 +16,9 @@ pub fn one_answer()
 pub fn reads_back()
     ensures { law.ReadsBack }
 {}
+
+/// What some text is read as can be evaluated: its calls have permitted numbers of arguments, and it has at most 64
+/// levels.
+pub fn can_be_evaluated()
+    ensures { law.CanAllBeEvaluated }
+{}

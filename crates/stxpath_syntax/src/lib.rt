@@ -2,6 +2,7 @@
 #![tactic(auto)]
 
 mod avt;
+mod dialect;
 mod expr;
 mod fault;
 pub mod law;
@@ -18,8 +19,9 @@ mod stop;
 mod token;
 mod words;
 
-pub use avt::parse_avt;
+pub use avt::{parse_avt, read_avt};
+pub use dialect::Dialect;
 pub use expr::{Alternative, Avt, AvtPart, Bin, Expr, Link, PathStep, Pattern};
 pub use fault::{ParseFault, PathFault, PathKind};
-pub use parse::{parse_expr, parse_pattern};
+pub use parse::{parse_expr, parse_pattern, read_expr, read_pattern};
 pub use print::print_expr;

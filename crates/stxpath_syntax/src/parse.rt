@@ -6,6 +6,7 @@ ghost use Rattle.stxpath_syntax.specs.Running as running;
 ghost use Rattle.stxpath_syntax.specs.Shape as shape;
 ghost use Rattle.stxpath_syntax.specs.Template as spec;
 
+use crate::dialect::Dialect;
 use crate::expr::{Alternative, Expr, Pattern};
 use crate::fault::{ParseFault, PathFault, PathKind};
 use crate::lex::tokens;
@@ -34,14 +35,15 @@ fn stopped(stop: Stop, place: usize) -> ParseFault
 /// One token's step, or the fault where no reading goes on with it.
 fn next(
     alloc: Global,
+    dialect: Dialect,
     scope: &List<Binding>,
     state: State,
     placed: Placed,
 ) -> Result<State, ParseFault>
-    ensures { running.Nexts scope.now state placed result }
+    ensures { running.Nexts dialect scope.now state placed result }
 {
     let at = placed.at;
-    match step(alloc, scope, state, placed) {
+    match step(alloc, dialect, scope, state, placed) {
         Ok(next) => Ok(next),
         Err(stop) => Err(stopped(stop, at)),
     }
@@ -50,16 +52,17 @@ fn next(
 /// The state behind all tokens, or the fault at the first with which no reading goes on.
 fn run(
     alloc: Global,
+    dialect: Dialect,
     scope: &List<Binding>,
     begun: State,
     tokens: List<Placed>,
 ) -> Result<State, ParseFault>
-    ensures { running.Runs scope.now begun tokens result }
+    ensures { running.Runs dialect scope.now begun tokens result }
 {
     let mut rest = Stack::from_list(tokens);
     let mut state = begun;
     'tokens: while let Some(placed) = rest.pop() {
-        state = next(alloc, scope, state, placed)?;
+        state = next(alloc, dialect, scope, state, placed)?;
     }
     Ok(state)
 }
@@ -98,27 +101,42 @@ pub fn expression(
     text: &[char],
     at: usize,
     scope: &List<Binding>,
+    dialect: Dialect,
 ) -> Result<Expr, ParseFault>
     requires { at + length text.now < 2 ^ 64 }
-    ensures { spec.Answers (spec.IsExpression scope.now at text.now) result }
+    ensures { spec.Answers (spec.IsExpression dialect scope.now at text.now) result }
 {
     let tokens = tokens(alloc, text, at)?;
     let begun = State {
         stack: Stack::new(alloc),
         mode: Mode::Operand,
     };
-    let state = run(alloc, scope, begun, tokens)?;
+    let state = run(alloc, dialect, scope, begun, tokens)?;
     whole_expression(alloc, scope, state, at + text.len())
 }
 
-/// Reads an expression, its prefixes by the last binding of each; the fault is the first one.
-pub fn parse_expr(alloc: Global, text: &Text, scope: &List<Binding>) -> Result<Expr, ParseFault>
-    ensures reads { spec.Answers (spec.IsExpression scope.now 0 text.now) result }
+/// Reads an expression of a dialect, its prefixes by the last binding of each; the fault is the first one.
+pub fn read_expr(
+    alloc: Global,
+    text: &Text,
+    scope: &List<Binding>,
+    dialect: Dialect,
+) -> Result<Expr, ParseFault>
+    ensures reads { spec.Answers (spec.IsExpression dialect scope.now 0 text.now) result }
     ensures called_well { IfOk result (λ expr. shape.is_called_well expr ≡ true) }
     ensures low { IfOk result (λ expr. shape.height expr ≤ 64) }
 {
     let chars: Vec<char> = text.as_str().chars().collect(alloc)?;
-    expression(alloc, &chars, 0, scope)
+    expression(alloc, &chars, 0, scope, dialect)
+}
+
+/// Reads an expression of version 1.0.
+pub fn parse_expr(alloc: Global, text: &Text, scope: &List<Binding>) -> Result<Expr, ParseFault>
+    ensures reads { spec.Answers (spec.IsExpression Dialect.One scope.now 0 text.now) result }
+    ensures called_well { IfOk result (λ expr. shape.is_called_well expr ≡ true) }
+    ensures low { IfOk result (λ expr. shape.height expr ≤ 64) }
+{
+    read_expr(alloc, text, scope, Dialect::One)
 }
 
 /// The alternatives that are a whole pattern with this state, or the fault at the end.
@@ -141,9 +159,10 @@ fn alternatives(
     alloc: Global,
     text: &[char],
     scope: &List<Binding>,
+    dialect: Dialect,
 ) -> Result<List<Alternative>, ParseFault>
     requires { length text.now < 2 ^ 64 }
-    ensures { spec.Answers (spec.IsPattern scope.now text.now) result }
+    ensures { spec.Answers (spec.IsPattern dialect scope.now text.now) result }
 {
     let tokens = tokens(alloc, text, 0)?;
     let mut stack = Stack::new(alloc);
@@ -152,21 +171,35 @@ fn alternatives(
         stack,
         mode: Mode::Alternative,
     };
-    let state = run(alloc, scope, begun, tokens)?;
+    let state = run(alloc, dialect, scope, begun, tokens)?;
     whole_pattern(alloc, scope, state, text.len())
 }
 
-/// Reads a pattern; the fault is the first one.
+/// Reads a pattern of a dialect; the fault is the first one.
+pub fn read_pattern(
+    alloc: Global,
+    text: &Text,
+    scope: &List<Binding>,
+    dialect: Dialect,
+) -> Result<Pattern, ParseFault>
+    ensures reads { spec.Answers (spec.IsPattern dialect scope.now text.now) (spec.alternatives_of result) }
+    ensures called_well { IfOk result (λ pattern. list_all shape.is_alternative_called_well pattern.alternatives ≡ true) }
+    ensures low { IfOk result (λ pattern. shape.greatest (map shape.alternative_height pattern.alternatives) ≤ 64) }
+{
+    let chars: Vec<char> = text.as_str().chars().collect(alloc)?;
+    let alternatives = alternatives(alloc, &chars, scope, dialect)?;
+    Ok(Pattern { alternatives })
+}
+
+/// Reads a pattern of version 1.0.
 pub fn parse_pattern(
     alloc: Global,
     text: &Text,
     scope: &List<Binding>,
 ) -> Result<Pattern, ParseFault>
-    ensures reads { spec.Answers (spec.IsPattern scope.now text.now) (spec.alternatives_of result) }
+    ensures reads { spec.Answers (spec.IsPattern Dialect.One scope.now text.now) (spec.alternatives_of result) }
     ensures called_well { IfOk result (λ pattern. list_all shape.is_alternative_called_well pattern.alternatives ≡ true) }
     ensures low { IfOk result (λ pattern. shape.greatest (map shape.alternative_height pattern.alternatives) ≤ 64) }
 {
-    let chars: Vec<char> = text.as_str().chars().collect(alloc)?;
-    let alternatives = alternatives(alloc, &chars, scope)?;
-    Ok(Pattern { alternatives })
+    read_pattern(alloc, text, scope, Dialect::One)
 }

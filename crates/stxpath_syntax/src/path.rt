@@ -4,6 +4,7 @@ ghost use Rattle.std.specs.Prelude.{◌≡◌, false, IfOk};
 ghost use Rattle.stxpath_syntax.specs.Machine as spec;
 ghost use Rattle.stxpath_syntax.specs.Meaning as meaning;
 
+use crate::dialect::Dialect;
 use crate::expr::{Alternative, Link, PathStep};
 use crate::meant;
 use crate::meant::Meant;
@@ -274,10 +275,10 @@ pub fn begin_alternative(
 }
 
 /// `(` behind the name of a node type.
-fn begin_type(begun: Begun, name: &Written) -> Result<Mode, Stop>
-    ensures { spec.Takes (spec.begin_type begun name.now) result }
+fn begin_type(dialect: Dialect, begun: Begun, name: &Written) -> Result<Mode, Stop>
+    ensures { spec.Takes (spec.begin_type dialect begun name.now) result }
 {
-    match type_of(name) {
+    match type_of(dialect, name) {
         Some(test) => Ok(Mode::Kind { begun, test }),
         None => Err(Stop::Stuck),
     }
@@ -287,15 +288,16 @@ fn begin_type(begun: Begun, name: &Written) -> Result<Mode, Stop>
 #[tactic(auto, unfolding(crate::specs::Machine::after_name))]
 pub fn after_name(
     alloc: Global,
+    dialect: Dialect,
     scope: &List<Binding>,
     stack: &mut Stack<Frame>,
     named: Named,
     placed: Placed,
 ) -> Result<Mode, Stop>
-    ensures { spec.Turns (spec.after_name scope.now stack.old named placed.at placed.token) result stack.new }
+    ensures { spec.Turns (spec.after_name dialect scope.now stack.old named placed.at placed.token) result stack.new }
 {
     if matches!(placed.token, Token::Open) {
-        return begin_type(named.begun, &named.name);
+        return begin_type(dialect, named.begun, &named.name);
     }
     let walk = named_walk(alloc, scope, named)?;
     walk_on(alloc, stack, walk, placed)

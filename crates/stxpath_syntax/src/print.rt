@@ -263,6 +263,7 @@ fn put_test(text: &mut Text, test: &NodeTest) -> Result<(), Memory>
         NodeTest::AnyElement => text.push('*'),
         NodeTest::AnyNode => text.push_str("node()"),
         NodeTest::Chars => text.push_str("text()"),
+        NodeTest::CData => text.push_str("cdata()"),
         NodeTest::Comment => text.push_str("comment()"),
         NodeTest::AnyPi => text.push_str("processing-instruction()"),
         NodeTest::Pi(target) => put_target(text, target),

@@ -3,6 +3,7 @@
 ghost use Rattle.std.specs.Prelude.{◌≡◌, IfOk};
 ghost use Rattle.stxpath_syntax.specs.Machine as spec;
 
+use crate::dialect::Dialect;
 use crate::expr::{Alternative, Expr};
 use crate::meant;
 use crate::meant::Meant;
@@ -35,12 +36,13 @@ fn variable(alloc: Global, scope: &List<Binding>, placed: Placed) -> Result<Mode
 
 fn turn(
     alloc: Global,
+    dialect: Dialect,
     scope: &List<Binding>,
     stack: &mut Stack<Frame>,
     mode: Mode,
     placed: Placed,
 ) -> Result<Mode, Stop>
-    ensures { spec.Turns (spec.turn scope.now stack.old mode placed.at placed.token) result stack.new }
+    ensures { spec.Turns (spec.turn dialect scope.now stack.old mode placed.at placed.token) result stack.new }
 {
     match mode {
         Mode::Operand => operand(alloc, stack, placed),
@@ -50,7 +52,7 @@ fn turn(
         Mode::Root => after_root(alloc, scope, stack, placed),
         Mode::Alternative => begin_alternative(alloc, scope, stack, placed),
         Mode::Step(begun) => begin_step(alloc, scope, stack, begun, placed),
-        Mode::Named(named) => after_name(alloc, scope, stack, named, placed),
+        Mode::Named(named) => after_name(alloc, dialect, scope, stack, named, placed),
         Mode::Kind { begun, test } => after_type(alloc, begun, test, placed.token),
         Mode::Target { begun, target } => after_target(alloc, begun, target, placed.token),
         Mode::Walked(walk) => walk_on(alloc, stack, walk, placed),
@@ -64,14 +66,15 @@ fn turn(
 #[tactic(auto, unfolding(crate::specs::Machine::step))]
 pub fn step(
     alloc: Global,
+    dialect: Dialect,
     scope: &List<Binding>,
     state: State,
     placed: Placed,
 ) -> Result<State, Stop>
-    ensures { spec.Takes (spec.step scope.now state placed) result }
+    ensures { spec.Takes (spec.step dialect scope.now state placed) result }
 {
     let State { mut stack, mode } = state;
-    let mode = turn(alloc, scope, &mut stack, mode, placed)?;
+    let mode = turn(alloc, dialect, scope, &mut stack, mode, placed)?;
     Ok(State { stack, mode })
 }
 

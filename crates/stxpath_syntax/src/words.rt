@@ -5,6 +5,7 @@ ghost use Rattle.std.specs.Option.{option_copied};
 ghost use Rattle.stxpath_syntax.specs.Meaning as meaning;
 ghost use Rattle.stxpath_syntax.specs.Words as spec;
 
+use crate::dialect::Dialect;
 use crate::fault::PathKind;
 use crate::meant::{Meant, flat, of_height, refused};
 use crate::token::Written;
@@ -305,14 +306,26 @@ pub fn function_of(name: &Written) -> Option<Function>
     }
 }
 
+/// What `cdata()` tests.
+fn cdata_test(dialect: Dialect) -> Option<NodeTest>
+    ensures { result ≡ spec.cdata_test dialect }
+{
+    match dialect {
+        Dialect::One => None,
+        Dialect::OneOne => Some(NodeTest::CData),
+    }
+}
+
 /// The test that a node type with empty parentheses writes.
-fn type_named(word: &str) -> Option<NodeTest>
-    ensures { result ≡ spec.type_named word.now }
+fn type_named(dialect: Dialect, word: &str) -> Option<NodeTest>
+    ensures { result ≡ spec.type_named dialect word.now }
 {
     if word == "node" {
         Some(NodeTest::AnyNode)
     } else if word == "text" {
         Some(NodeTest::Chars)
+    } else if word == "cdata" {
+        cdata_test(dialect)
     } else if word == "comment" {
         Some(NodeTest::Comment)
     } else if word == "processing-instruction" {
@@ -323,11 +336,11 @@ fn type_named(word: &str) -> Option<NodeTest>
 }
 
 /// The node type that a name means: one has no prefix.
-pub fn type_of(name: &Written) -> Option<NodeTest>
-    ensures { result ≡ meaning.type_of name.now }
+pub fn type_of(dialect: Dialect, name: &Written) -> Option<NodeTest>
+    ensures { result ≡ meaning.type_of dialect name.now }
 {
     if name.prefix.is_empty() {
-        type_named(name.local.as_str())
+        type_named(dialect, name.local.as_str())
     } else {
         None
     }

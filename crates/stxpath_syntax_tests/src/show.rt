@@ -191,6 +191,7 @@ fn show_test(test: &NodeTest, out: &mut String) -> Result<(), Fail> {
         NodeTest::AnyElement => out.push('*')?,
         NodeTest::AnyNode => out.push_str("node()")?,
         NodeTest::Chars => out.push_str("text()")?,
+        NodeTest::CData => out.push_str("cdata()")?,
         NodeTest::Comment => out.push_str("comment()")?,
         NodeTest::AnyPi => out.push_str("pi()")?,
         NodeTest::Pi(target) => write!(out, "pi('{}')", target.as_str())?,

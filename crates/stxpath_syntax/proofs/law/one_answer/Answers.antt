@@ -8,8 +8,8 @@ use Rattle.stxpath_syntax.proofs.Templates.{one_template}
 use Rattle.stxpath_syntax.proofs.law.one_answer.Goals as goal
 
 pub returns : goal.returns
-returns c = λ scope text. (
-  λ at. one_answer Expr (grammar.Spells scope 1) (one_expression scope) at text,
-  one_answer (List Alternative) (grammar.Pattern scope) (one_pattern scope) 0 text,
-  one_template scope (λ at text. one_answer Expr (grammar.Spells scope 1) (one_expression scope) at text) 0 text,
+returns c = λ dialect scope text. (
+  λ at. one_answer Expr (grammar.Spells dialect scope 1) (one_expression dialect scope) at text,
+  one_answer (List Alternative) (grammar.Pattern dialect scope) (one_pattern dialect scope) 0 text,
+  one_template dialect scope (λ at text. one_answer Expr (grammar.Spells dialect scope 1) (one_expression dialect scope) at text) 0 text,
 )

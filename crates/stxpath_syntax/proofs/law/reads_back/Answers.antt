@@ -2,4 +2,4 @@ use Rattle.stxpath_syntax.proofs.ReadingBack.{reads_back}
 use Rattle.stxpath_syntax.proofs.law.reads_back.Goals as goal
 
 pub returns : goal.returns
-returns c = λ scope other from place text x h a. reads_back scope other from place text x h a
+returns c = λ dialect scope other from place text x h a. reads_back dialect scope other from place text x h a

@@ -9,5 +9,5 @@ tokens-init c = ([], sym c.from_list-rest.ensures, refl)
 
 pub tokens-preserved : goal.tokens-preserved
 tokens-preserved c =
-    run_on c.args.scope.now c.args.begun c.args.tokens c.tokens.rest c.pop.new.self c.in-Some.placed c.tokens.state c.in_ok-state.state
+    run_on c.args.dialect c.args.scope.now c.args.begun c.args.tokens c.tokens.rest c.pop.new.self c.in-Some.placed c.tokens.state c.in_ok-state.state
     c.tokens.invariant c.in-Some.ensures c.in_ok-state.ensures

@@ -11,6 +11,10 @@ pub returns-in-Chars : goal.returns-in-Chars
 unfolding chars
 returns-in-Chars c = subst (λ t. OnOk c.push_str-in-Chars.result (c.push_str-in-Chars.new.self ≡ c.args.text.now ++ test_text t)) (sym c.in-Chars.is) c.push_str-in-Chars.ensures.ok
 
+pub returns-in-CData : goal.returns-in-CData
+unfolding chars
+returns-in-CData c = subst (λ t. OnOk c.push_str-in-CData.result (c.push_str-in-CData.new.self ≡ c.args.text.now ++ test_text t)) (sym c.in-CData.is) c.push_str-in-CData.ensures.ok
+
 pub returns-in-Comment : goal.returns-in-Comment
 unfolding chars
 returns-in-Comment c = subst (λ t. OnOk c.push_str-in-Comment.result (c.push_str-in-Comment.new.self ≡ c.args.text.now ++ test_text t)) (sym c.in-Comment.is) c.push_str-in-Comment.ensures.ok

@@ -4,22 +4,22 @@ use Rattle.std.proofs.lemmas.Result.{err_from_is_err_and}
 use Rattle.std.proofs.lemmas.Str.{chars_from_encodes}
 use Rattle.stxpath_syntax.specs.Template.{Answers, IsTemplate}
 use Rattle.stxpath_syntax.proofs.Shaping.{template_called, template_low}
-use Rattle.stxpath_syntax.proofs.avt.parse_avt.Goals as goal
+use Rattle.stxpath_syntax.proofs.avt.read_avt.Goals as goal
 
 pub returns-in_err-parts-clause-reads : goal.returns-in_err-parts-clause-reads
 returns-in_err-parts-clause-reads c =
     let p = err_from_is_err_and c.from_residual-in_err-parts.result c.from_residual-in_err-parts.ensures.1 in
     let e : c.in_ok-chars.chars.items ≡ chars c.as_str.result.now = search (rules, chars_from_encodes) in
-    let h = subst (λ text. Answers (IsTemplate c.args.scope.now text) (Err c.in_err-parts.field-0.0)) (c.deref.ensures.value ∙ e ∙ c.as_str.ensures.chars) c.in_err-parts.ensures in
+    let h = subst (λ text. Answers (IsTemplate c.args.dialect c.args.scope.now text) (Err c.in_err-parts.field-0.0)) (c.deref.ensures.value ∙ e ∙ c.as_str.ensures.chars) c.in_err-parts.ensures in
     rw (p.1, p.2) h
 
 pub returns : goal.returns
 returns c =
     let e : c.in_ok-chars.chars.items ≡ chars c.as_str.result.now = search (rules, chars_from_encodes) in
-    let a : IsTemplate c.args.scope.now c.args.text.now (Ok c.in_ok-parts.parts)
-    = subst (λ text. IsTemplate c.args.scope.now text (Ok c.in_ok-parts.parts)) (c.deref.ensures.value ∙ e ∙ c.as_str.ensures.chars) c.in_ok-parts.ensures in
+    let a : IsTemplate c.args.dialect c.args.scope.now c.args.text.now (Ok c.in_ok-parts.parts)
+    = subst (λ text. IsTemplate c.args.dialect c.args.scope.now text (Ok c.in_ok-parts.parts)) (c.deref.ensures.value ∙ e ∙ c.as_str.ensures.chars) c.in_ok-parts.ensures in
     record {
       reads = a;
-      called_well = template_called c.args.scope.now c.args.text.now c.in_ok-parts.parts a;
-      low = template_low c.args.scope.now c.args.text.now c.in_ok-parts.parts a;
+      called_well = template_called c.args.dialect c.args.scope.now c.args.text.now c.in_ok-parts.parts a;
+      low = template_low c.args.dialect c.args.scope.now c.args.text.now c.in_ok-parts.parts a;
     }
