@@ -114,6 +114,7 @@ holds-next limit l (part.Attribute name value) h k = by_held l.held k where
   by_held (Some tag) g = (g.0, good-with tag.attrs name value g.1 good, distinct-with tag.attrs name value g.2)
 holds-next limit l (part.End name) h k = tt
 holds-next limit l (part.Chars text) h k = tt
+holds-next limit l (part.CData text) h k = tt
 holds-next limit l (part.Comment text) h k = tt
 holds-next limit l (part.Pi target text) h k = tt
 

@@ -9,7 +9,7 @@ use Rattle.stx_base.specs.declared.part.Part.{Part}
 use Rattle.stx_base.specs.declared.part.Part.TheVariants as part
 use Rattle.result_writer.specs.Allowed.{is_good_name, same}
 use Rattle.result_writer.specs.Laws.{JudgesNodes}
-use Rattle.result_writer.specs.Nodes.{Nodes, End, Chars, Comment, Instruction, Nested, attribute_part, attributes_fault, collected, in_one, is_end, nodes_fault, parts_of}
+use Rattle.result_writer.specs.Nodes.{Nodes, End, Chars, CData, Comment, Instruction, Nested, attribute_part, attributes_fault, collected, in_one, is_end, nodes_fault, parts_of}
 use Rattle.result_writer.specs.Target.{Element, Left, chars_fault, comment_fault, end_of, fault, first_fault, instruction_fault, is_closed, left_by, nothing, or_else, same_name, settled, unless, with_attribute}
 use Rattle.result_writer.specs.declared.fault.ResultFault.{ResultFault}
 use Rattle.result_writer.specs.declared.fault.ResultFault.TheVariants.{BadName, ResultDepth, UnclosedResult, WrongEnd}
@@ -51,6 +51,7 @@ kids_first : (limit : ℕ) (es : List Element) (tag : HeldTag) (kids : Nodes) (p
     first_fault limit (within es tag) (parts_of kids ++ ps) ≡ first_fault limit (outside (settled es (Some tag))) (parts_of kids ++ ps)
 kids_first limit es tag End ps h = absurd cc
 kids_first limit es tag (Chars text next) ps h = refl
+kids_first limit es tag (CData text next) ps h = refl
 kids_first limit es tag (Comment text next) ps h = refl
 kids_first limit es tag (Instruction target text next) ps h = refl
 kids_first limit es tag (Nested t kids next) ps h =
@@ -65,6 +66,7 @@ element : (limit : ℕ) (es : List Element) (t : HeldTag) (kids : Nodes) (ps : L
     ≡ or_else (nodes_fault limit (suc (length es)) kids) (or_else (unless (is_good_name t.name) BadName (end_of (Some t.name) t.name)) (first_fault limit (outside es) ps))
 element limit es t End ps h = refl
 element limit es t (Chars text next) ps h = h (part.End t.name ∷ ps)
+element limit es t (CData text next) ps h = h (part.End t.name ∷ ps)
 element limit es t (Comment text next) ps h = h (part.End t.name ∷ ps)
 element limit es t (Instruction target text next) ps h = h (part.End t.name ∷ ps)
 element limit es t (Nested tag kids next) ps h = kids_first limit es t (Nested tag kids next) (part.End t.name ∷ ps) refl ∙ h (part.End t.name ∷ ps)
@@ -73,6 +75,7 @@ judged : (limit : ℕ) (es : List Element) (nodes : Nodes) (ps : List Part) →
     first_fault limit (outside es) (parts_of nodes ++ ps) ≡ or_else (nodes_fault limit (length es) nodes) (first_fault limit (outside es) ps)
 judged limit es End ps = refl
 judged limit es (Chars text next) ps = ap (or_else (chars_fault text)) (judged limit es next ps) ∙ sym (or-assoc (chars_fault text) _ _)
+judged limit es (CData text next) ps = judged limit es next ps
 judged limit es (Comment text next) ps = ap (or_else (comment_fault text)) (judged limit es next ps) ∙ sym (or-assoc (comment_fault text) _ _)
 judged limit es (Instruction target text next) ps = ap (or_else (instruction_fault target text)) (judged limit es next ps) ∙ sym (or-assoc (instruction_fault target text) _ _)
 judged limit es (Nested tag kids next) ps =
@@ -104,6 +107,7 @@ element-left : (es : List Element) (t : HeldTag) (kids : Nodes) (ps : List Part)
     → left_by (within es t) (parts_of kids ++ part.End t.name ∷ ps) ≡ left_by (outside es) ps
 element-left es t End ps h = refl
 element-left es t (Chars text next) ps h = h (part.End t.name ∷ ps)
+element-left es t (CData text next) ps h = h (part.End t.name ∷ ps)
 element-left es t (Comment text next) ps h = h (part.End t.name ∷ ps)
 element-left es t (Instruction target text next) ps h = h (part.End t.name ∷ ps)
 element-left es t (Nested tag kids next) ps h = h (part.End t.name ∷ ps)
@@ -111,6 +115,7 @@ element-left es t (Nested tag kids next) ps h = h (part.End t.name ∷ ps)
 nodes-left : (es : List Element) (nodes : Nodes) (ps : List Part) → left_by (outside es) (parts_of nodes ++ ps) ≡ left_by (outside es) ps
 nodes-left es End ps = refl
 nodes-left es (Chars text next) ps = nodes-left es next ps
+nodes-left es (CData text next) ps = nodes-left es next ps
 nodes-left es (Comment text next) ps = nodes-left es next ps
 nodes-left es (Instruction target text next) ps = nodes-left es next ps
 nodes-left es (Nested tag kids next) ps =

@@ -10,7 +10,7 @@ use Rattle.stx_base.specs.declared.part.Part.{Part}
 use Rattle.stx_base.specs.declared.part.Part.TheVariants as part
 use Rattle.result_writer.specs.Allowed.{are_chars, is_good_attribute, is_good_name, same}
 use Rattle.result_writer.specs.Laws.{AcceptsNodes}
-use Rattle.result_writer.specs.Nodes.{Nodes, End, Chars, Comment, Instruction, Nested, attribute_part, parts_of, unprefixed}
+use Rattle.result_writer.specs.Nodes.{Nodes, End, Chars, CData, Comment, Instruction, Nested, attribute_part, parts_of, unprefixed}
 use Rattle.result_writer.specs.Target.{Element, Left, added, closed, end_of, fault, first_fault, innermost, is_closed, left_by, next, nothing, or_else, same_name, settled, settles, text, text_from, unless}
 use Rattle.result_writer.specs.declared.fault.ResultFault.{ResultFault}
 use Rattle.result_writer.specs.declared.fault.ResultFault.TheVariants.{BadChar, BadName, LateAttribute, UnclosedResult, WrongEnd}
@@ -134,6 +134,7 @@ step limit l (part.Attribute name value) ps h c =
     (passed (is_some l.held) LateAttribute None (passed (are_chars value) BadChar _ (passed (is_good_attribute name) BadName _ h).1).1).0 c
 step limit l (part.End name) ps h c = end_step name l.elements l.held ps (passed (is_good_name name) BadName _ h).1 c
 step limit l (part.Chars text) ps h c = leaf_step (Chars text) (part.Chars text) (λ x. refl) l.elements l.held ps c
+step limit l (part.CData text) ps h c = leaf_step (CData text) (part.CData text) (λ x. refl) l.elements l.held ps c
 step limit l (part.Comment text) ps h c = leaf_step (Comment text) (part.Comment text) (λ x. refl) l.elements l.held ps c
 step limit l (part.Pi target text) ps h c = leaf_step (Instruction target text) (part.Pi target text) (λ x. refl) l.elements l.held ps c
 
@@ -155,6 +156,7 @@ settles-unprefixed l (part.Start name scope) = refl
 settles-unprefixed l (part.Attribute name value) = refl
 settles-unprefixed l (part.End name) = refl
 settles-unprefixed l (part.Chars text) = refl
+settles-unprefixed l (part.CData text) = refl
 settles-unprefixed l (part.Comment text) = refl
 settles-unprefixed l (part.Pi target text) = refl
 
@@ -163,6 +165,7 @@ next-unprefixed l (part.Start name scope) = refl
 next-unprefixed l (part.Attribute name value) = refl
 next-unprefixed l (part.End name) = refl
 next-unprefixed l (part.Chars text) = refl
+next-unprefixed l (part.CData text) = refl
 next-unprefixed l (part.Comment text) = refl
 next-unprefixed l (part.Pi target text) = refl
 

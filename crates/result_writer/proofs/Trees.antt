@@ -6,9 +6,9 @@ use Rattle.stx_base.specs.declared.part.Part.{Part}
 use Rattle.stx_base.specs.declared.part.Part.TheVariants as part
 use Rattle.result_writer.specs.Escape.{escaped}
 use Rattle.result_writer.specs.Laws.{IsProper, MakesProper, ReadsNodes, TextsJoin, WritesNodes}
-use Rattle.result_writer.specs.Nodes.{Nodes, End, Chars, Comment, Instruction, Nested, attribute_part, attrs_of, collected, expanded_tag, forest, in_one, inner, inside, is_end, lists, outer, part_before, parts_of, plain, text_before, written}
+use Rattle.result_writer.specs.Nodes.{Nodes, End, Chars, CData, Comment, Instruction, Nested, attribute_part, attrs_of, collected, expanded_tag, forest, in_one, inner, inside, is_end, lists, outer, part_before, parts_of, plain, text_before, written}
 use Rattle.result_writer.specs.Tag.{dressed, end_tag, open_tag}
-use Rattle.result_writer.specs.Target.{Element, Left, comment_text, in_force, instruction_text, nothing, settled, tag_text, text_from, with_attribute}
+use Rattle.result_writer.specs.Target.{Element, Left, cdata_text, comment_text, in_force, instruction_text, nothing, settled, tag_text, text_from, with_attribute}
 use Rattle.result_writer.specs.declared.escape.Context.TheVariants.{Content}
 use Rattle.result_writer.specs.declared.tag.HeldTag.{HeldTag}
 
@@ -33,6 +33,7 @@ text_from-kids : (es : List Element) (tag : HeldTag) (kids : Nodes) (ps : List P
     text_from (within es tag) (parts_of kids ++ ps) ≡ tag_text es (Some tag) (codes ">") ++ text_from (outside (settled es (Some tag))) (parts_of kids ++ ps)
 text_from-kids es tag End ps h = absurd cc
 text_from-kids es tag (Chars text next) ps h = append_assoc (tag_text es (Some tag) (codes ">")) _ _
+text_from-kids es tag (CData text next) ps h = append_assoc (tag_text es (Some tag) (codes ">")) _ _
 text_from-kids es tag (Comment text next) ps h = append_assoc (tag_text es (Some tag) (codes ">")) _ _
 text_from-kids es tag (Instruction target text next) ps h = append_assoc (tag_text es (Some tag) (codes ">")) _ _
 text_from-kids es tag (Nested t kids next) ps h = refl
@@ -49,6 +50,7 @@ element es t kids ps h = by_test (is_end kids) refl where
   alone : (k : Nodes) → is_end k ≡ true → parts_of k ≡ []
   alone End e = refl
   alone (Chars text next) e = absurd cc
+  alone (CData text next) e = absurd cc
   alone (Comment text next) e = absurd cc
   alone (Instruction target text next) e = absurd cc
   alone (Nested tag k next) e = absurd cc
@@ -71,6 +73,7 @@ element es t kids ps h = by_test (is_end kids) refl where
 written-kids : (es : List Element) (nodes : Nodes) (ps : List Part) → text_from (outside es) (parts_of nodes ++ ps) ≡ written (in_force es) nodes ++ text_from (outside es) ps
 written-kids es End ps = refl
 written-kids es (Chars text next) ps = ap (λ l. escaped Content (encode_utf8_all text) ++ l) (written-kids es next ps) ∙ sym (append_assoc (escaped Content (encode_utf8_all text)) _ _)
+written-kids es (CData text next) ps = ap (λ l. cdata_text text ++ l) (written-kids es next ps) ∙ sym (append_assoc (cdata_text text) _ _)
 written-kids es (Comment text next) ps = ap (λ l. comment_text text ++ l) (written-kids es next ps) ∙ sym (append_assoc (comment_text text) _ _)
 written-kids es (Instruction target text next) ps = ap (λ l. instruction_text target text ++ l) (written-kids es next ps) ∙ sym (append_assoc (instruction_text target text) _ _)
 written-kids es (Nested tag kids next) ps =
@@ -114,6 +117,7 @@ same_before (part.Start name scope) attrs f g h = same_start (Nested (expanded_t
 same_before (part.Attribute name value) attrs f g h = h
 same_before (part.End name) attrs f g h = same_end End f g h
 same_before (part.Chars text) attrs f g h = same_first (text_before text) f g h
+same_before (part.CData text) attrs f g h = same_first (CData text) f g h
 same_before (part.Comment text) attrs f g h = same_first (Comment text) f g h
 same_before (part.Pi target text) attrs f g h = same_first (Instruction target text) f g h
 
@@ -124,6 +128,7 @@ same_attrs (part.Attribute name value ∷ ps) xs ys h = ap (λ l. record { name 
 same_attrs (part.Start name scope ∷ ps) xs ys h = refl
 same_attrs (part.End name ∷ ps) xs ys h = refl
 same_attrs (part.Chars text ∷ ps) xs ys h = refl
+same_attrs (part.CData text ∷ ps) xs ys h = refl
 same_attrs (part.Comment text ∷ ps) xs ys h = refl
 same_attrs (part.Pi target text ∷ ps) xs ys h = refl
 
@@ -138,6 +143,7 @@ text-twice [] b x = refl
 text-twice (c ∷ cs) [] x = ap (λ l. text_before (c ∷ l) x) (sym (append-nil cs))
 text-twice (c ∷ cs) (d ∷ ds) End = refl
 text-twice (c ∷ cs) (d ∷ ds) (Chars more next) = ap (λ l. Chars (c ∷ l) next) (sym (append_assoc cs (d ∷ ds) more))
+text-twice (c ∷ cs) (d ∷ ds) (CData text next) = refl
 text-twice (c ∷ cs) (d ∷ ds) (Comment text next) = refl
 text-twice (c ∷ cs) (d ∷ ds) (Instruction target text next) = refl
 text-twice (c ∷ cs) (d ∷ ds) (Nested tag kids next) = refl
@@ -155,6 +161,7 @@ texts-join ps qs a b = same_lists ps (part.Chars a ∷ part.Chars b ∷ qs) (par
 abbrev before : Nodes → Nodes → Nodes
 before End x = x
 before (Chars text next) x = text_before text (before next x)
+before (CData text next) x = CData text (before next x)
 before (Comment text next) x = Comment text (before next x)
 before (Instruction target text next) x = Instruction target text (before next x)
 before (Nested tag kids next) x = Nested (expanded_tag (in_one tag)) (before kids End) (before next x)
@@ -162,6 +169,7 @@ before (Nested tag kids next) x = Nested (expanded_tag (in_one tag)) (before kid
 before-end : (nodes : Nodes) → before nodes End ≡ plain nodes
 before-end End = refl
 before-end (Chars text next) = ap (text_before text) (before-end next)
+before-end (CData text next) = ap (CData text) (before-end next)
 before-end (Comment text next) = ap (Comment text) (before-end next)
 before-end (Instruction target text next) = ap (Instruction target text) (before-end next)
 before-end (Nested tag kids next) =
@@ -170,6 +178,7 @@ before-end (Nested tag kids next) =
 attrs_of-kids : (kids : Nodes) (p : Part) (ps : List Part) → attrs_of (p ∷ ps) ≡ [] → attrs_of (parts_of kids ++ p ∷ ps) ≡ []
 attrs_of-kids End p ps h = h
 attrs_of-kids (Chars text next) p ps h = refl
+attrs_of-kids (CData text next) p ps h = refl
 attrs_of-kids (Comment text next) p ps h = refl
 attrs_of-kids (Instruction target text next) p ps h = refl
 attrs_of-kids (Nested tag kids next) p ps h = refl
@@ -189,6 +198,7 @@ first_only f (suc n) = refl
 lists-nodes : (nodes : Nodes) (ps : List Part) → AreSame (lists (parts_of nodes ++ ps)) (before nodes (inner (lists ps)) ∷ outer (lists ps))
 lists-nodes End ps = first_only (lists ps)
 lists-nodes (Chars text next) ps = same_first (text_before text) (lists (parts_of next ++ ps)) (before next (inner (lists ps)) ∷ outer (lists ps)) (lists-nodes next ps)
+lists-nodes (CData text next) ps = same_first (CData text) (lists (parts_of next ++ ps)) (before next (inner (lists ps)) ∷ outer (lists ps)) (lists-nodes next ps)
 lists-nodes (Comment text next) ps = same_first (Comment text) (lists (parts_of next ++ ps)) (before next (inner (lists ps)) ∷ outer (lists ps)) (lists-nodes next ps)
 lists-nodes (Instruction target text next) ps = same_first (Instruction target text) (lists (parts_of next ++ ps)) (before next (inner (lists ps)) ∷ outer (lists ps)) (lists-nodes next ps)
 lists-nodes (Nested tag kids next) ps = λ n.
@@ -210,6 +220,7 @@ text_proper : (text : List ℕ) (x : Nodes) → IsProper x → IsProper (text_be
 text_proper [] x h = h
 text_proper (c ∷ cs) End h = (λ e. absurd cc, tt, h)
 text_proper (c ∷ cs) (Chars more next) h = (λ e. absurd cc, h.1, h.2)
+text_proper (c ∷ cs) (CData text next) h = (λ e. absurd cc, tt, h)
 text_proper (c ∷ cs) (Comment text next) h = (λ e. absurd cc, tt, h)
 text_proper (c ∷ cs) (Instruction target text next) h = (λ e. absurd cc, tt, h)
 text_proper (c ∷ cs) (Nested tag kids next) h = (λ e. absurd cc, tt, h)
@@ -233,6 +244,7 @@ before_proper (part.Start name scope) attrs f h =
 before_proper (part.Attribute name value) attrs f h = h
 before_proper (part.End name) attrs f h = (tt, h)
 before_proper (part.Chars text) attrs f h = (text_proper text (inner f) (inner_proper f h), outer_proper f h)
+before_proper (part.CData text) attrs f h = (inner_proper f h, outer_proper f h)
 before_proper (part.Comment text) attrs f h = (inner_proper f h, outer_proper f h)
 before_proper (part.Pi target text) attrs f h = (inner_proper f h, outer_proper f h)
 

@@ -7,7 +7,7 @@ use Rattle.stx_base.specs.declared.name.Name.{Name}
 use Rattle.stx_base.specs.declared.part.Part.{Part}
 use Rattle.stx_base.specs.declared.part.Part.TheVariants as part
 use Rattle.result_writer.specs.Allowed.{is_good_attribute, is_good_name, is_prefix, is_word}
-use Rattle.result_writer.specs.Nodes.{Nodes, End, Chars, Comment, Instruction, Nested, forest, inside, nodes_fault, parts_of, plain, unprefixed, written}
+use Rattle.result_writer.specs.Nodes.{Nodes, End, Chars, CData, Comment, Instruction, Nested, forest, inside, nodes_fault, parts_of, plain, unprefixed, written}
 use Rattle.result_writer.specs.Table.{bound, has_prefix, with_attributes, with_element}
 use Rattle.result_writer.specs.Tag.{dressed}
 use Rattle.result_writer.specs.Target.{first_fault, left_by, nothing, same_name, text, text_from, whole_fault, with_attribute, AreDistinct}
@@ -78,6 +78,7 @@ IsBehindText nodes = Unit {0}
 abbrev pub IsProper : Nodes → Type 0
 IsProper End = Unit {0}
 IsProper (Chars text next) = (text ≢ []) × IsBehindText next × IsProper next
+IsProper (CData text next) = IsProper next
 IsProper (Comment text next) = IsProper next
 IsProper (Instruction target text next) = IsProper next
 IsProper (Nested tag kids next) = IsProper kids × IsProper next

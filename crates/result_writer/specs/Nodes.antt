@@ -8,7 +8,7 @@ use Rattle.stx_base.specs.declared.part.Part.TheVariants as part
 use Rattle.result_writer.specs.Allowed.{are_chars, is_good_attribute, is_good_name}
 use Rattle.result_writer.specs.Escape.{escaped}
 use Rattle.result_writer.specs.Tag.{dressed, end_tag, open_tag}
-use Rattle.result_writer.specs.Target.{chars_fault, comment_fault, comment_text, instruction_fault, instruction_text, or_else, unless, with_attribute}
+use Rattle.result_writer.specs.Target.{cdata_text, chars_fault, comment_fault, comment_text, instruction_fault, instruction_text, or_else, unless, with_attribute}
 use Rattle.result_writer.specs.declared.fault.ResultFault.{ResultFault}
 use Rattle.result_writer.specs.declared.fault.ResultFault.TheVariants.{BadName, BadChar, ResultDepth}
 use Rattle.result_writer.specs.declared.escape.Context.TheVariants.{Content}
@@ -18,6 +18,7 @@ use Rattle.result_writer.specs.declared.tag.HeldTag.{HeldTag}
 pub data Nodes : Type 0 where
   End : Nodes
   Chars : (text : List ℕ) → Nodes → Nodes
+  CData : (text : List ℕ) → Nodes → Nodes
   Comment : (text : List ℕ) → Nodes → Nodes
   Instruction : (target text : List ℕ) → Nodes → Nodes
   Nested : HeldTag → (kids : Nodes) → (next : Nodes) → Nodes
@@ -30,6 +31,7 @@ attribute_part a = part.Attribute a.name a.value
 abbrev pub parts_of : Nodes → List Part
 parts_of End = []
 parts_of (Chars text next) = part.Chars text ∷ parts_of next
+parts_of (CData text next) = part.CData text ∷ parts_of next
 parts_of (Comment text next) = part.Comment text ∷ parts_of next
 parts_of (Instruction target text next) = part.Pi target text ∷ parts_of next
 parts_of (Nested tag kids next) =
@@ -58,6 +60,7 @@ is_end nodes = false
 abbrev pub written : (in_force : List Binding) → Nodes → List ℕ
 written in_force End = []
 written in_force (Chars text next) = escaped Content (encode_utf8_all text) ++ written in_force next
+written in_force (CData text next) = cdata_text text ++ written in_force next
 written in_force (Comment text next) = comment_text text ++ written in_force next
 written in_force (Instruction target text next) = instruction_text target text ++ written in_force next
 written in_force (Nested tag kids next) =
@@ -77,6 +80,7 @@ attributes_fault (a ∷ attrs) =
 abbrev pub nodes_fault : (limit depth : ℕ) → Nodes → Option ResultFault
 nodes_fault limit depth End = None
 nodes_fault limit depth (Chars text next) = or_else (chars_fault text) (nodes_fault limit depth next)
+nodes_fault limit depth (CData text next) = nodes_fault limit depth next
 nodes_fault limit depth (Comment text next) = or_else (comment_fault text) (nodes_fault limit depth next)
 nodes_fault limit depth (Instruction target text next) = or_else (instruction_fault target text) (nodes_fault limit depth next)
 nodes_fault limit depth (Nested tag kids next) =
@@ -130,6 +134,7 @@ part_before (part.Start name scope) attrs f =
 part_before (part.Attribute name value) attrs f = f
 part_before (part.End name) attrs f = End ∷ f
 part_before (part.Chars text) attrs f = text_before text (inner f) ∷ outer f
+part_before (part.CData text) attrs f = CData text (inner f) ∷ outer f
 part_before (part.Comment text) attrs f = Comment text (inner f) ∷ outer f
 part_before (part.Pi target text) attrs f = Instruction target text (inner f) ∷ outer f
 
@@ -146,6 +151,7 @@ forest ps = inner (lists ps)
 abbrev pub plain : Nodes → Nodes
 plain End = End
 plain (Chars text next) = text_before text (plain next)
+plain (CData text next) = CData text (plain next)
 plain (Comment text next) = Comment text (plain next)
 plain (Instruction target text next) = Instruction target text (plain next)
 plain (Nested tag kids next) = Nested (expanded_tag (in_one tag)) (plain kids) (plain next)

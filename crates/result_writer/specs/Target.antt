@@ -1,6 +1,7 @@
 -- What parts leave of a target, which parts it accepts, and what it writes of them.
 use Rattle.std.specs.Prelude.{◌≡◌, ◌≤◌, ℕ, ◌+◌, Bool, true, false, ◌&&◌, nat_lt, if◌then◌else◌, List, [], ◌∷◌, ◌++◌, Option, Some, None, is_some, length, codes, encode_utf8_all}
 use Rattle.std.specs.List.{list_any}
+use Rattle.stx_base.specs.Character.{is_cdata_text}
 use Rattle.stx_base.specs.declared.name.Attr.{Attr}
 use Rattle.stx_base.specs.declared.name.Binding.{Binding}
 use Rattle.stx_base.specs.declared.name.Name.{Name}
@@ -93,6 +94,7 @@ next l (part.Start name scope) =
 next l (part.Attribute name value) = record { elements = l.elements; held = added l.held name value }
 next l (part.End name) = record { elements = closed l.elements l.held; held = None }
 next l (part.Chars text) = record { elements = settled l.elements l.held; held = None }
+next l (part.CData text) = record { elements = settled l.elements l.held; held = None }
 next l (part.Comment text) = record { elements = settled l.elements l.held; held = None }
 next l (part.Pi target text) = record { elements = settled l.elements l.held; held = None }
 
@@ -144,12 +146,18 @@ abbrev pub instruction_fault : (target text : List ℕ) → Option ResultFault
 instruction_fault target text =
     unless (are_chars text) BadChar (unless (is_good_target target && is_good_data text) BadPi None)
 
--- the first fault of a part
+-- the text of a CDATA section may be one; other parts have none
+abbrev pub holds_cdata_text : Part → Bool
+holds_cdata_text (part.CData text) = is_cdata_text text
+holds_cdata_text p = true
+
+-- the first fault of a part; a CDATA section has none, since its text may be one
 abbrev pub fault : (limit : ℕ) → Left → Part → Option ResultFault
 fault limit l (part.Start name scope) = start_fault limit l name
 fault limit l (part.Attribute name value) = attribute_fault l name value
 fault limit l (part.End name) = end_fault l name
 fault limit l (part.Chars text) = chars_fault text
+fault limit l (part.CData text) = None
 fault limit l (part.Comment text) = comment_fault text
 fault limit l (part.Pi target text) = instruction_fault target text
 
@@ -167,6 +175,9 @@ end_text outer (Some tag) = tag_text outer (Some tag) (codes "/>")
 end_text [] None = []
 end_text (e ∷ outer) None = end_tag e.name.prefix e.name.local
 
+abbrev pub cdata_text : List ℕ → List ℕ
+cdata_text text = codes "<![CDATA[" ++ encode_utf8_all text ++ codes "]]>"
+
 abbrev pub comment_text : List ℕ → List ℕ
 comment_text text = codes "<!--" ++ encode_utf8_all text ++ codes "-->"
 
@@ -183,6 +194,7 @@ settles l (part.Start name scope) = tag_text l.elements l.held (codes ">")
 settles l (part.Attribute name value) = []
 settles l (part.End name) = end_text l.elements l.held
 settles l (part.Chars text) = tag_text l.elements l.held (codes ">") ++ escaped Content (encode_utf8_all text)
+settles l (part.CData text) = tag_text l.elements l.held (codes ">") ++ cdata_text text
 settles l (part.Comment text) = tag_text l.elements l.held (codes ">") ++ comment_text text
 settles l (part.Pi target text) = tag_text l.elements l.held (codes ">") ++ instruction_text target text
 

@@ -5,10 +5,11 @@ ghost use Rattle.std.specs.List.{list_all, list_any};
 ghost use Rattle.std.specs.Str.{chars};
 ghost use Rattle.stx_base.specs.Character.{is_char};
 ghost use Rattle.result_writer.specs.Allowed as spec;
+ghost use Rattle.result_writer.specs.Target as spec_of_parts;
 ghost use Rattle.result_writer.specs.Allowed.{has_pair, ends_in, is_good_attribute, is_good_comment, is_good_data, is_good_target, are_chars};
 
 use crate::words::{agree, is_empty, is_word};
-use stx_base::{Name, Text, are_ascii_chars, is_char, is_ncname};
+use stx_base::{Name, Part, Text, are_ascii_chars, is_cdata_text, is_char, is_ncname};
 
 const XML_URI: &'static str = "http://www.w3.org/XML/1998/namespace";
 
@@ -110,4 +111,14 @@ pub fn is_good_data(text: &Text) -> bool
 {
     let bytes = text.as_str().as_bytes();
     !has_return(bytes) && !has_pair(bytes, b'?', b'>')
+}
+
+/// Whether a CDATA section has a text that it may have; of other parts nothing is asked. Calls that take parts need it.
+pub fn holds_cdata_text(part: &Part) -> bool
+    ensures { result ≡ spec_of_parts.holds_cdata_text part.now }
+{
+    match part {
+        Part::CData { text } => is_cdata_text(text.as_str()),
+        _ => true,
+    }
 }

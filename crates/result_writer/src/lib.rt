@@ -17,6 +17,7 @@ mod tag;
 mod words;
 mod writer;
 
+pub use allowed::holds_cdata_text;
 pub use fault::{ResultFault, WriteStop};
 pub use opened::Opened;
 pub use writer::{Writer, write};

@@ -10,7 +10,7 @@ ghost use Rattle.result_writer.specs.Nodes.{attribute_part};
 ghost use Rattle.result_writer.specs.Opened.{dressing, held, SameAround, Settles};
 ghost use Rattle.result_writer.specs.Steady.{keep_bindings};
 ghost use Rattle.result_writer.specs.Target as spec;
-ghost use Rattle.result_writer.specs.Target.{behind, comment_text, data_text, depth, dressed_in, end_text, fresh, innermost, instruction_text, is_closed, left_by, tag_text, with_attribute, IsCause, TakesAtOnce};
+ghost use Rattle.result_writer.specs.Target.{behind, cdata_text, comment_text, data_text, depth, dressed_in, end_text, fresh, holds_cdata_text, innermost, instruction_text, is_closed, left_by, tag_text, with_attribute, IsCause, TakesAtOnce};
 
 use crate::allowed::{
     are_chars, is_good_attribute, is_good_comment, is_good_data, is_good_name, is_good_target,
@@ -89,6 +89,7 @@ impl Opened {
 
     /// Takes a part. After a refusal all is unchanged.
     pub fn accept(&mut self, part: &Part) -> Result<(), WriteStop>
+        requires { holds_cdata_text part.now ≡ true }
         // It is taken only where it has no fault.
         ensures taken { OnOk result (spec.fault self.old.limit self.old.left part.now ≡ None) }
         ensures fault { IfErr result (IsCause (spec.fault self.old.limit self.old.left part.now)) }
@@ -120,6 +121,7 @@ impl Opened {
             Part::Attribute { name, value } => self.attribute_fault(name, value),
             Part::End { name } => self.end_fault(name),
             Part::Chars { text } => chars_fault(text),
+            Part::CData { .. } => None,
             Part::Comment { text } => comment_fault(text),
             Part::Pi { target, text } => instruction_fault(target, text),
         }
@@ -296,7 +298,9 @@ impl Opened {
                 let _ended = self.end();
                 Ok(())
             }
-            Part::Chars { text: _text } | Part::Comment { text: _text } => self.settle(dressed),
+            Part::Chars { text: _text }
+            | Part::CData { text: _text }
+            | Part::Comment { text: _text } => self.settle(dressed),
             Part::Pi {
                 target: _target,
                 text: _text,
@@ -563,6 +567,17 @@ pub fn instruction_fault(target: &Text, text: &Text) -> Option<ResultFault>
     } else {
         Some(ResultFault::BadPi)
     }
+}
+
+#[tactic(auto, using(crate::proofs::Growing::begins_trans, crate::proofs::Growing::begins_self))]
+pub fn append_cdata(text: &Text, out: &mut Vec<u8>) -> Result<(), Memory>
+    ensures ok { OnOk result (out.new.items ≡ out.old.items ++ cdata_text text.now) }
+    ensures kept { Begins out.old.items out.new.items }
+{
+    append(b"<![CDATA[", out)?;
+    append(text.as_str().as_bytes(), out)?;
+    append(b"]]>", out)?;
+    Ok(())
 }
 
 #[tactic(auto, using(crate::proofs::Growing::begins_trans, crate::proofs::Growing::begins_self))]

@@ -1,17 +1,20 @@
 ghost use Rattle.std.specs.Prelude.{◌≡◌, ◌++◌, [], true, false, None, Some, Err, IfOk, IfErr, MatchResult, OnOk, OnErr, map, unwrap_or};
-ghost use Rattle.stx_base.specs.declared.part.Part.TheVariants.{Start, Attribute, End, Chars, Comment, Pi};
+ghost use Rattle.stx_base.specs.declared.part.Part.TheVariants.{Start, Attribute, End, Chars, CData, Comment, Pi};
 ghost use Rattle.stx_base.specs.declared.name.Name.{Name as Spelled};
 ghost use Rattle.result_writer.specs.Allowed.{is_good_name};
+ghost use Rattle.std.specs.List.{list_all};
+ghost use Rattle.stx_base.specs.Character.{is_cdata_text};
 ghost use Rattle.stx_base.specs.Course.{Begins};
 ghost use Rattle.result_writer.specs.Nodes.{attribute_part};
 ghost use Rattle.result_writer.specs.Opened.{dressing};
 ghost use Rattle.result_writer.specs.Target as spec;
-ghost use Rattle.result_writer.specs.Target.{behind, chars_fault, dressed_in, end_text, first_fault, fresh, innermost, is_closed, left_by, settles, text, whole_fault, IsCause, TakesAtOnce};
+ghost use Rattle.result_writer.specs.Target.{behind, chars_fault, holds_cdata_text, dressed_in, end_text, first_fault, fresh, innermost, is_closed, left_by, settles, text, whole_fault, IsCause, TakesAtOnce};
 
 use crate::chars::append_chars;
 use crate::fault::{ResultFault, WriteStop};
 use crate::opened::{
-    Opened, append_comment, append_instruction, attributes_fault, comment_fault, instruction_fault,
+    Opened, append_cdata, append_comment, append_instruction, attributes_fault, comment_fault,
+    instruction_fault,
 };
 use crate::tag::Dressed;
 use std::alloc::Global;
@@ -46,6 +49,7 @@ impl Writer {
 
     /// Appends the bytes that a part settles. After a refusal all is unchanged.
     pub fn put(&mut self, part: &Part, out: &mut Vec<u8>) -> Result<(), WriteStop>
+        requires { holds_cdata_text part.now ≡ true }
         // It is taken only where it has no fault.
         ensures taken { OnOk result (spec.fault self.old.limit self.old.left part.now ≡ None) }
         ensures fault { IfErr result (IsCause (spec.fault self.old.limit self.old.left part.now)) }
@@ -66,6 +70,7 @@ impl Writer {
             }
             Part::End { name } => self.put_end(name, out),
             Part::Chars { text } => self.put_chars(text, out),
+            Part::CData { text } => Ok(self.put_cdata(text, out)?),
             Part::Comment { text } => self.put_comment(text, out),
             Part::Pi { target, text } => self.put_instruction(target, text, out),
         }
@@ -74,6 +79,7 @@ impl Writer {
     /// The same of a part that is handed over, whose name and attributes needn't be copied. After a refusal the part is
     /// dropped, and all else is unchanged.
     pub fn put_owned(&mut self, part: Part, out: &mut Vec<u8>) -> Result<(), WriteStop>
+        requires { holds_cdata_text part ≡ true }
         ensures taken { OnOk result (spec.fault self.old.limit self.old.left part ≡ None) }
         ensures fault { IfErr result (IsCause (spec.fault self.old.limit self.old.left part)) }
         ensures ok { OnOk result (self.new ≡ behind self.old part) }
@@ -86,6 +92,7 @@ impl Writer {
             Part::Attribute { name, value } => self.put_attribute(name, value),
             Part::End { name } => self.put_end(&name, out),
             Part::Chars { text } => self.put_chars(&text, out),
+            Part::CData { text } => Ok(self.put_cdata(&text, out)?),
             Part::Comment { text } => self.put_comment(&text, out),
             Part::Pi { target, text } => self.put_instruction(&target, &text, out),
         }
@@ -239,6 +246,22 @@ impl Writer {
         if let Err(stop) = chars(&mut self.opened, text, out) {
             out.truncate(len);
             return Err(stop);
+        }
+        Ok(())
+    }
+
+    /// The same of a CDATA section, which has no fault. After a refusal all is unchanged.
+    pub fn put_cdata(&mut self, text: &Text, out: &mut Vec<u8>) -> Result<(), Memory>
+        requires { is_cdata_text text.now ≡ true }
+        ensures ok { OnOk result (self.new ≡ behind self.old (CData text.now)) }
+        ensures err { OnErr result (self.new ≡ self.old) }
+        ensures written { OnOk result (out.new.items ≡ out.old.items ++ settles self.old.left (CData text.now)) }
+        ensures unwritten { OnErr result (out.new.items ≡ out.old.items) }
+    {
+        let len = out.len();
+        if cdata(&mut self.opened, text, out).is_err() {
+            out.truncate(len);
+            return Err(Memory);
         }
         Ok(())
     }
@@ -442,6 +465,20 @@ fn chars_dressed(
     Ok(())
 }
 
+/// The same of a CDATA section.
+#[tactic(auto, using(crate::proofs::Growing::begins_trans, crate::proofs::Growing::begins_self))]
+fn cdata(opened: &mut Opened, text: &Text, out: &mut Vec<u8>) -> Result<(), Memory>
+    ensures ok { OnOk result (opened.new ≡ behind opened.old (CData text.now)) }
+    ensures err { OnErr result (opened.new ≡ opened.old) }
+    ensures written { OnOk result (out.new.items ≡ out.old.items ++ settles opened.old.left (CData text.now)) }
+    ensures kept { Begins out.old.items out.new.items }
+{
+    let dressed = opened.dressed()?;
+    opened.append_tag(&dressed, out)?;
+    append_cdata(text, out)?;
+    opened.settle(dressed)
+}
+
 /// The same of a comment.
 #[tactic(auto, using(crate::proofs::Growing::begins_trans, crate::proofs::Growing::begins_self))]
 fn comment(opened: &mut Opened, text: &Text, out: &mut Vec<u8>) -> Result<(), Memory>
@@ -477,6 +514,7 @@ fn instruction(
 
 /// The bytes of a whole result.
 pub fn write(alloc: Global, limit: u32, parts: &List<Part>) -> Result<Vec<u8>, WriteStop>
+    requires { list_all holds_cdata_text parts.now ≡ true }
     ensures text { IfOk result (λ out. out.items ≡ text parts.now) }
     ensures accepted { OnOk result (whole_fault limit parts.now ≡ None) }
     ensures fault { IfErr result (IsCause (whole_fault limit parts.now)) }

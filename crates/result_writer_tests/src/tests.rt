@@ -1,6 +1,9 @@
 mod rows;
 mod start_tags;
 
+ghost use Rattle.std.specs.Prelude.{◌≡◌, true, IfOk};
+ghost use Rattle.result_writer.specs.Target.{holds_cdata_text};
+
 use self::Given::{Attr, Chars, Comment, End, Pi, Scoped, Start};
 use result_writer::{Opened, ResultFault, WriteStop, Writer};
 use std::alloc::Global;
@@ -49,14 +52,18 @@ fn bindings(alloc: Global, scope: &[(&str, &str)]) -> Result<List<Binding>, Memo
     Ok(made)
 }
 
-fn start(alloc: Global, name: &str, scope: &[(&str, &str)]) -> Result<Part, Memory> {
+fn start(alloc: Global, name: &str, scope: &[(&str, &str)]) -> Result<Part, Memory>
+    ensures { IfOk result (λ part. holds_cdata_text part ≡ true) }
+{
     let name = named(alloc, name)?;
     let scope = bindings(alloc, scope)?;
     Ok(Part::Start { name, scope })
 }
 
 impl Given {
-    fn part(&self, alloc: Global) -> Result<Part, Memory> {
+    fn part(&self, alloc: Global) -> Result<Part, Memory>
+        ensures { IfOk result (λ part. holds_cdata_text part ≡ true) }
+    {
         match self {
             Start(name) => start(alloc, name, &[]),
             Scoped(name, scope) => start(alloc, name, scope),
@@ -130,7 +137,9 @@ impl Handed {
         part: Part,
         spare: &mut Spare,
         out: &mut Vec<u8>,
-    ) -> Result<(), WriteStop> {
+    ) -> Result<(), WriteStop>
+        requires { holds_cdata_text part ≡ true }
+    {
         match self {
             Handed::Lent => put_lent(writer, part, out),
             Handed::Over => writer.put_owned(part, out),
@@ -140,16 +149,21 @@ impl Handed {
     }
 }
 
-fn put_lent(writer: &mut Writer, part: Part, out: &mut Vec<u8>) -> Result<(), WriteStop> {
+fn put_lent(writer: &mut Writer, part: Part, out: &mut Vec<u8>) -> Result<(), WriteStop>
+    requires { holds_cdata_text part ≡ true }
+{
     writer.put(&part, out)
 }
 
-fn put_by_kind(writer: &mut Writer, part: Part, out: &mut Vec<u8>) -> Result<(), WriteStop> {
+fn put_by_kind(writer: &mut Writer, part: Part, out: &mut Vec<u8>) -> Result<(), WriteStop>
+    requires { holds_cdata_text part ≡ true }
+{
     match part {
         Part::Start { name, scope } => writer.put_start(name, &scope, out),
         Part::Attribute { name, value } => writer.put_attribute(name, value),
         Part::End { name } => writer.put_end(&name, out),
         Part::Chars { text } => writer.put_chars(&text, out),
+        Part::CData { text } => Ok(writer.put_cdata(&text, out)?),
         Part::Comment { text } => writer.put_comment(&text, out),
         Part::Pi { target, text } => writer.put_instruction(&target, &text, out),
     }
@@ -160,7 +174,9 @@ fn put_unnamed(
     part: Part,
     spare: &mut Spare,
     out: &mut Vec<u8>,
-) -> Result<(), WriteStop> {
+) -> Result<(), WriteStop>
+    requires { holds_cdata_text part ≡ true }
+{
     match part {
         Part::End { name: _name } => writer.end_innermost(spare, out),
         part => put_by_kind(writer, part, out),
