@@ -15,7 +15,7 @@ use Rattle.result_writer.specs.declared.fault.ResultFault.{ResultFault}
 use Rattle.xml_events.specs.Tree.{Why, Mark, Fresh, Told, Begun, Leaf, Chars, Comment, Pi, Forest, End, Cut, Single, Nested}
 use Rattle.stx_engine.specs.Accepted.{RunsNest, declares_names}
 use Rattle.stx_engine.specs.Meaning.{attribute_part, end_parts, leaf_parts, start_parts}
-use Rattle.stx_engine.specs.Output.{has_prefixes, output}
+use Rattle.stx_engine.specs.Output.{is_sound_part, output}
 use Rattle.stx_engine.specs.Passed.{Passed, once_ready, passed, put, run_from, then_put, unless_refused, unless_stopped, with_first}
 use Rattle.stx_engine.specs.Scope.{scope_within}
 use Rattle.stx_engine.specs.declared.pass.Pass.{Pass}
@@ -56,11 +56,11 @@ within_named scope decls h k =
 -- Parts
 
 abbrev all : List Part → Type 0
-all ps = list_all has_prefixes ps ≡ true
+all ps = list_all is_sound_part ps ≡ true
 
 all-append : (ps qs : List Part) → all ps → all qs → all (ps ++ qs)
 all-append [] qs h k = k
-all-append (p ∷ ps) qs h k = let both = and_parts (has_prefixes p) (list_all has_prefixes ps) h in and_from _ _ both.0 (all-append ps qs both.1 k)
+all-append (p ∷ ps) qs h k = let both = and_parts (is_sound_part p) (list_all is_sound_part ps) h in and_from _ _ both.0 (all-append ps qs both.1 k)
 
 all-attributes : (attrs : List Attr) → all (map attribute_part attrs)
 all-attributes [] = refl
@@ -130,9 +130,9 @@ module _ (limit : ℕ) where
   put-all : (l : Left) (ps : List Part) (stop : Option Why) → all ps → all (run_from limit l ps stop).parts
   put-all l [] stop h = refl
   put-all l (p ∷ ps) stop h =
-      let both = and_parts (has_prefixes p) (list_all has_prefixes ps) h in
+      let both = and_parts (is_sound_part p) (list_all is_sound_part ps) h in
       by_fault (fault limit l p) (put-all (next l p) ps stop both.1) both.0 where
-        by_fault : (o : Option ResultFault) → all (run_from limit (next l p) ps stop).parts → has_prefixes p ≡ true
+        by_fault : (o : Option ResultFault) → all (run_from limit (next l p) ps stop).parts → is_sound_part p ≡ true
             → all (unless_refused o (with_first p (run_from limit (next l p) ps stop))).parts
         by_fault None k one = and_from _ _ one k
         by_fault (Some f) k one = refl

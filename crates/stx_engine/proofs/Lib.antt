@@ -16,6 +16,7 @@ pub mod Markup
 pub mod Matching
 pub mod Dressing
 pub mod Leaves
+pub mod Sections
 pub mod Parts
 pub mod Accepted
 pub mod Declared

@@ -43,7 +43,7 @@ or_right : (s t : Bool) → s ≡ true → (not s || t) ≡ true → t ≡ true
 or_right true t h k = k
 or_right false t h k = absurd cc
 
-all_from : (p : ℕ → Bool) (bytes : List ℕ) → ((k : ℕ) → k < length bytes → p (get_or bytes k 0) ≡ true) → list_all p bytes ≡ true
+pub all_from : (p : ℕ → Bool) (bytes : List ℕ) → ((k : ℕ) → k < length bytes → p (get_or bytes k 0) ≡ true) → list_all p bytes ≡ true
 all_from p [] h = refl
 all_from p (b ∷ bs) h = and_from _ _ (h 0 (omega arith)) (all_from p bs (λ k l. h (suc k) (omega arith)))
 

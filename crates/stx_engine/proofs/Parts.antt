@@ -12,14 +12,15 @@ use Rattle.result_writer.specs.Allowed.{are_chars, is_good_attribute, is_good_co
 use Rattle.result_writer.specs.Escape.{escaped}
 use Rattle.result_writer.specs.Laws.{WritesPrefixes}
 use Rattle.result_writer.specs.Tag.{dressed, qname}
-use Rattle.result_writer.specs.Target.{Element, Left, added, closed, comment_text, end_text, fault, first_fault, in_force, instruction_text, next, nothing, or_else, same_name, settled, settles, tag_text, text, text_from, unless, with_attribute}
+use Rattle.result_writer.specs.Target.{Element, Left, added, cdata_text, closed, comment_text, end_text, fault, first_fault, in_force, instruction_text, next, nothing, or_else, same_name, settled, settles, tag_text, text, text_from, unless, with_attribute}
 use Rattle.result_writer.specs.declared.escape.Context.TheVariants.{Content}
 use Rattle.result_writer.specs.declared.fault.ResultFault.{ResultFault}
 use Rattle.result_writer.specs.declared.fault.ResultFault.TheVariants.{BadChar, BadComment, BadName, BadPi}
 use Rattle.result_writer.specs.declared.tag.HeldTag.{HeldTag}
 use Rattle.stx_engine.specs.Nesting.{Turns}
-use Rattle.stx_engine.specs.Output.{PartsNest, has_prefixes, head}
+use Rattle.stx_engine.specs.Output.{PartsNest, is_sound_part, head}
 use Rattle.stx_engine.proofs.Dressing.{IsWord, dressed-good, escaped_text, fields, name_is, open_tag-is}
+use Rattle.stx_engine.proofs.Sections.{cdata_effect, cdata_whole}
 use Rattle.stx_engine.proofs.Leaves.{comment_effect, comment_whole, instruction_effect, instruction_whole}
 use Rattle.stx_engine.proofs.Markup.{AreFields, Field, empty_effect, empty_whole, end_effect, end_whole, is_inner, start_effect, start_whole, tag_of}
 use Rattle.stx_engine.proofs.Matching.{Matched, front_matched, nothing_matched, shape_matched, text_matched}
@@ -136,11 +137,12 @@ added_good (Some tag) name value good h = (good.0, attribute_good tag.attrs name
 abbrev Good : Left → Type 0
 Good l = AreGood l.elements × IsGood l.held
 
-good_next : (limit : ℕ) (l : Left) (p : Part) → fault limit l p ≡ None → has_prefixes p ≡ true → Good l → Good (next l p)
+good_next : (limit : ℕ) (l : Left) (p : Part) → fault limit l p ≡ None → is_sound_part p ≡ true → Good l → Good (next l p)
 good_next limit l (part.Start name scope) h k g = (settled_good l.elements l.held g.0 g.1, ((passed (is_good_name name) BadName _ h).0, refl, k))
 good_next limit l (part.Attribute name value) h k g = (g.0, added_good l.held name value g.1 (passed (is_good_attribute name) BadName _ h).0)
 good_next limit l (part.End name) h k g = (closed_good l.elements l.held g.0, tt)
 good_next limit l (part.Chars text) h k g = (settled_good l.elements l.held g.0 g.1, tt)
+good_next limit l (part.CData text) h k g = (settled_good l.elements l.held g.0 g.1, tt)
 good_next limit l (part.Comment text) h k g = (settled_good l.elements l.held g.0 g.1, tt)
 good_next limit l (part.Pi target text) h k g = (settled_good l.elements l.held g.0 g.1, tt)
 
@@ -148,32 +150,36 @@ module _ (prefixes : WritesPrefixes) (limit : ℕ) where
   abbrev Follows : Left → List ℕ → Type 0
   Follows l bytes = Matched (words l.elements) bytes
 
-  settles_matched : (l : Left) (p : Part) → fault limit l p ≡ None → Good l → (more : List ℕ) → Follows (next l p) more → Follows l (settles l p ++ more)
-  settles_matched l (part.Start name scope) h g more m = begun prefixes l.elements l.held g.1 more m
-  settles_matched l (part.Attribute name value) h g more m = m
-  settles_matched l (part.End name) h g more m = ended prefixes l.elements l.held g.0 g.1 more m
-  settles_matched l (part.Chars text) h g more m =
+  settles_matched : (l : Left) (p : Part) → fault limit l p ≡ None → is_sound_part p ≡ true → Good l → (more : List ℕ) → Follows (next l p) more → Follows l (settles l p ++ more)
+  settles_matched l (part.Start name scope) h k g more m = begun prefixes l.elements l.held g.1 more m
+  settles_matched l (part.Attribute name value) h k g more m = m
+  settles_matched l (part.End name) h k g more m = ended prefixes l.elements l.held g.0 g.1 more m
+  settles_matched l (part.Chars text) h k g more m =
       let names = words (settled l.elements l.held) in
       let bytes = encode_utf8_all text in
       leaf_matched prefixes l.elements l.held g.1 (escaped Content bytes) more (text_matched names (escaped Content bytes) more (escaped_text bytes) m)
-  settles_matched l (part.Comment text) h g more m =
+  settles_matched l (part.CData text) h k g more m =
+      let names = words (settled l.elements l.held) in
+      leaf_matched prefixes l.elements l.held g.1 (cdata_text text) more
+      (shape_matched names names (cdata_text text) more (cdata_whole text more k) (subst (λ x. Turns x names names) (sym (cdata_effect text)) refl) m)
+  settles_matched l (part.Comment text) h k g more m =
       let names = words (settled l.elements l.held) in
       let good = (passed (is_good_comment text) BadComment None (passed (are_chars text) BadChar _ h).1).0 in
       leaf_matched prefixes l.elements l.held g.1 (comment_text text) more
       (shape_matched names names (comment_text text) more (comment_whole text more good) (subst (λ x. Turns x names names) (sym (comment_effect text)) refl) m)
-  settles_matched l (part.Pi target text) h g more m =
+  settles_matched l (part.Pi target text) h k g more m =
       let names = words (settled l.elements l.held) in
       let good = and_parts (is_good_target target) (is_good_data text) (passed (is_good_target target && is_good_data text) BadPi None (passed (are_chars text) BadChar _ h).1).0 in
       leaf_matched prefixes l.elements l.held g.1 (instruction_text target text) more
       (shape_matched names names (instruction_text target text) more (instruction_whole target text more good.0 good.1)
       (subst (λ x. Turns x names names) (sym (instruction_effect target text)) refl) m)
 
-  parts_matched : (l : Left) (ps : List Part) → first_fault limit l ps ≡ None → list_all has_prefixes ps ≡ true → Good l → Follows l (text_from l ps)
+  parts_matched : (l : Left) (ps : List Part) → first_fault limit l ps ≡ None → list_all is_sound_part ps ≡ true → Good l → Follows l (text_from l ps)
   parts_matched l [] h k g = nothing_matched (words l.elements)
   parts_matched l (p ∷ ps) h k g =
       let none = neither (fault limit l p) (first_fault limit (next l p) ps) h in
-      let both = and_parts (has_prefixes p) (list_all has_prefixes ps) k in
-      settles_matched l p none.0 g (text_from (next l p) ps)
+      let both = and_parts (is_sound_part p) (list_all is_sound_part ps) k in
+      settles_matched l p none.0 both.0 g (text_from (next l p) ps)
       (parts_matched (next l p) ps none.1 both.1 (good_next limit l p none.0 both.0 g))
 
 -- Results
