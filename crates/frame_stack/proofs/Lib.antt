@@ -1,0 +1,4 @@
+pub mod Counting
+pub mod Shaped
+pub mod Standing
+pub mod Setting

@@ -1,0 +1,123 @@
+ghost use Rattle.std.specs.Prelude.{◌≡◌, ◌≤◌, ◌<◌, [], ◌∷◌, ◌++◌, length, map, take, OnOk, OnErr, Some, slice_get};
+ghost use Rattle.frame_stack.specs.Locals.{local, with_value};
+
+use smallvec::SmallVec;
+use std::alloc::Global;
+use std::default::MadeWith;
+use std::marker::Model;
+use stx_base::{Copied, List, Memory, Name, Text};
+use stxpath_values::Atom;
+
+/// So many locals need no allocation.
+const INLINE: usize = 2;
+
+/// A variable of a body, or a value that waits.
+#[derive(Debug, Drop)]
+pub struct Local {
+    pub name: Name,
+    pub value: List<Atom>,
+}
+
+/// The variables of a body, in the order of their declaration, seen as the list of them.
+#[derive(Debug, Drop)]
+pub struct Locals {
+    entries: SmallVec<Local, INLINE>,
+}
+
+impl Model for Locals {
+    ghost use Rattle.std.specs.Prelude.{List};
+    ghost use Rattle.frame_stack.specs.declared.locals.Local.{Local};
+
+    ghost Value = { List Local };
+
+    ghost view = { λ locals. locals.entries.items };
+}
+
+impl Locals {
+    /// None. Allocates nothing.
+    pub fn new(alloc: Global) -> Locals
+        ensures { result ≡ [] }
+    {
+        Locals {
+            entries: SmallVec::new(alloc),
+        }
+    }
+
+    pub fn len(&self) -> usize
+        ensures { result ≡ length self.now }
+    {
+        self.entries.len()
+    }
+
+    pub fn name(&self, index: usize) -> &Name
+        requires { index < length self.now }
+        ensures { slice_get (map (λ entry. entry.name) self.now) index ≡ Some result.now }
+    {
+        &self.entries.as_slice()[index].name
+    }
+
+    pub fn value(&self, index: usize) -> &List<Atom>
+        requires { index < length self.now }
+        ensures { slice_get (map (λ entry. entry.value) self.now) index ≡ Some result.now }
+    {
+        &self.entries.as_slice()[index].value
+    }
+
+    /// Appends a local. After a refusal nothing has changed.
+    pub fn push(&mut self, name: Name, value: List<Atom>) -> Result<(), Memory>
+        ensures ok { OnOk result (self.new ≡ self.old ++ local name value ∷ []) }
+        ensures err { OnErr result (self.new ≡ self.old) }
+    {
+        self.entries.push(Local { name, value })?;
+        Ok(())
+    }
+
+    /// Gives one local another value. Allocates nothing.
+    pub fn set(&mut self, index: usize, value: List<Atom>)
+        requires { index < length self.old }
+        ensures { self.new ≡ with_value index value self.old }
+    {
+        let entry = &mut self.entries.as_mut_slice()[index];
+        entry.value = value;
+    }
+
+    /// Keeps the first `len` locals. Allocates nothing.
+    pub fn cut(&mut self, len: usize)
+        requires { len ≤ length self.old }
+        ensures { self.new ≡ take len self.old }
+    {
+        self.entries.truncate(len);
+    }
+}
+
+impl MadeWith<Global> for Local {
+    fn made_with(alloc: Global) -> Local {
+        Local {
+            name: Name {
+                uri: Text::new(alloc),
+                local: Text::new(alloc),
+                prefix: Text::new(alloc),
+            },
+            value: List::new(alloc),
+        }
+    }
+}
+
+impl Copied for Local {
+    fn copy(&self, alloc: Global) -> Result<Local, Memory> {
+        let name = self.name.copy(alloc)?;
+        let value = self.value.copy(alloc)?;
+        Ok(Local { name, value })
+    }
+}
+
+impl Copied for Locals {
+    fn copy(&self, alloc: Global) -> Result<Locals, Memory> {
+        let mut entries = SmallVec::with_capacity(alloc, self.entries.len())?;
+        for entry in self.entries.as_slice() {
+            let copy = entry.copy(alloc)?;
+            entries.push(copy)?;
+        }
+        Ok(Locals { entries })
+    }
+}

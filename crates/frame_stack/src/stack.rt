@@ -1,0 +1,106 @@
+ghost use Rattle.std.specs.Prelude.{◌≡◌, ℕ, ◌-◌, ◌<◌, [], ◌∷◌, ◌++◌, length, MatchOption, IfErr, OnOk, OnErr, Some, slice_get, slice_set};
+ghost use Rattle.std.specs.Option.{option_copied};
+ghost use Rattle.frame_stack.specs.Frame.{instance_of, shape};
+ghost use Rattle.frame_stack.specs.Level.{instances};
+
+use crate::counted::{Entry, counted};
+use crate::fault::FrameFault;
+use crate::frame::Frame;
+use std::alloc::Global;
+use std::marker::Model;
+
+/// The frames of a run, the innermost last. The instances of a level are its templates' and procedures' bodies; two frames
+/// are of one level where they have the same number and no list that is open by itself, of a source or of attributes, stands
+/// between them. No level has more instances than the limit.
+#[derive(Debug, Drop)]
+pub struct Frames {
+    limit: u32,
+    entries: Vec<Entry>,
+}
+
+impl Model for Frames {
+    ghost use Rattle.frame_stack.specs.Stack.{FrameStack};
+
+    ghost Value = { FrameStack };
+
+    ghost use Rattle.frame_stack.specs.Counted.{AreCounted, frames_of};
+
+    ghost view = { λ frames. record { limit = frames.limit; frames = frames_of frames.entries.items } };
+
+    ghost invariant = { λ frames. AreCounted frames.entries.items };
+}
+
+impl Frames {
+    ghost use Rattle.frame_stack.specs.Stack.{IsFull, with_frames};
+
+    /// No frames, and so many instances that a level may have. Allocates nothing.
+    pub fn new(alloc: Global, instances: u32) -> Frames
+        ensures { result ≡ record { limit = instances; frames = [] } }
+    {
+        Frames {
+            limit: instances,
+            entries: Vec::new(alloc),
+        }
+    }
+
+    /// Puts a frame on top. `Instances` is answered exactly for a body whose level has as many instances as it may have.
+    /// After a refusal nothing has changed.
+    pub fn push(&mut self, frame: Frame) -> Result<(), FrameFault>
+        ensures ok { OnOk result (self.new ≡ with_frames (self.old.frames ++ frame ∷ []) self.old) }
+        ensures room { OnOk result ((level : ℕ) → instance_of frame ≡ Some level → instances level self.old.frames < self.old.limit) }
+        ensures err { OnErr result (self.new ≡ self.old) }
+        ensures full { IfErr result (λ fault. fault ≡ FrameFault.Instances → IsFull self.old.limit frame self.old.frames) }
+    {
+        let entry = counted(&self.entries, self.limit, frame)?;
+        self.entries.push(entry)?;
+        Ok(())
+    }
+
+    /// Takes the top frame off; `None` exactly where there is none. Allocates nothing.
+    pub fn pop(&mut self) -> Option<Frame>
+        ensures { MatchOption result ((self.old.frames ≡ []) × (self.new ≡ self.old)) (λ frame. self.old ≡ with_frames (self.new.frames ++ frame ∷ []) self.new) }
+    {
+        match self.entries.pop() {
+            Some(entry) => {
+                let Entry { frame, .. } = entry;
+                Some(frame)
+            }
+            None => None,
+        }
+    }
+
+    /// The top frame; `None` exactly where there is none. Allocates nothing.
+    pub fn top(&self) -> Option<&Frame>
+        ensures { option_copied result ≡ slice_get self.now.frames (length self.now.frames - 1) }
+    {
+        match self.entries.last() {
+            Some(entry) => Some(&entry.frame),
+            None => None,
+        }
+    }
+
+    /// Allocates nothing.
+    pub fn count(&self) -> usize
+        ensures { result ≡ length self.now.frames }
+    {
+        self.entries.len()
+    }
+
+    /// The frame at a place, of which the outermost is 0. Allocates nothing.
+    pub fn at(&self, place: usize) -> &Frame
+        requires { place < length self.now.frames }
+        ensures { slice_get self.now.frames place ≡ Some result.now }
+    {
+        &self.entries[place].frame
+    }
+
+    /// Puts a frame in the place of one of the same variant and level, which is given back. Allocates nothing.
+    pub fn replace(&mut self, place: usize, frame: Frame) -> Frame
+        requires place { place < length self.old.frames }
+        requires shape { (old : Frame) → slice_get self.old.frames place ≡ Some old → shape frame ≡ shape old }
+        ensures new { self.new ≡ with_frames (slice_set self.old.frames place frame) self.old }
+        ensures old { slice_get self.old.frames place ≡ Some result }
+    {
+        std::mem::replace(&mut self.entries[place].frame, frame)
+    }
+}
