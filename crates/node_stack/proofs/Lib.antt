@@ -1,5 +1,7 @@
 mod Counting
+mod Keeping
 mod Listing
+mod Lists
 mod Naming
 mod Opening
 mod Stacking

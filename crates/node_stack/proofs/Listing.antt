@@ -7,7 +7,7 @@ use Rattle.stx_base.specs.declared.name.Name.{Name}
 use Rattle.stx_base.specs.declared.node.NodeTest.{NodeTest}
 use Rattle.stx_base.specs.declared.node.NodeTest.TheVariants as test
 use Rattle.node_stack.specs.Counts.{Counts, capped, counted, counted_all, distinct_beside, is_named, is_new, raised, same_kind}
-use Rattle.node_stack.specs.Test.{Kind, Document, Element, Chars, Comment, Pi, Attribute, passes}
+use Rattle.node_stack.specs.Test.{Kind, CData, Document, Element, Chars, Comment, Pi, Attribute, passes}
 use Rattle.node_stack.proofs.Tallying.{not_zero}
 
 -- so many of a list's nodes as pass are what is counted
@@ -56,6 +56,7 @@ by_name : (n : Name) (y : Kind) → passes (test.Name n) y ≡ same_kind y (Elem
 by_name n Document = refl
 by_name n (Element m) = refl
 by_name n Chars = refl
+by_name n CData = refl
 by_name n Comment = refl
 by_name n (Pi t) = refl
 by_name n (Attribute m) = refl
@@ -64,6 +65,7 @@ by_target : (u : List ℕ) (y : Kind) → passes (test.Pi u) y ≡ same_kind y (
 by_target u Document = refl
 by_target u (Element m) = refl
 by_target u Chars = refl
+by_target u CData = refl
 by_target u Comment = refl
 by_target u (Pi t) = refl
 by_target u (Attribute m) = refl
@@ -74,6 +76,7 @@ new_beside c before Document h = refl
 new_beside c before (Element n) h =
     ap (λ k. k == 0) (h (test.Name n)) ∙ capped_zero _ ∙ none_zero (passes (test.Name n)) before ∙ ap (λ p. not (list_any p before)) (λ i y. by_name n y i)
 new_beside c before Chars h = refl
+new_beside c before CData h = refl
 new_beside c before Comment h = refl
 new_beside c before (Pi u) h =
     ap (λ k. k == 0) (h (test.Pi u)) ∙ capped_zero _ ∙ none_zero (passes (test.Pi u)) before ∙ ap (λ p. not (list_any p before)) (λ i y. by_target u y i)

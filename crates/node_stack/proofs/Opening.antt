@@ -1,11 +1,11 @@
 -- Open elements, and what stands on the innermost.
-use Rattle.std.proofs.Common.{◌≡◌, ◌+◌, ◌-◌, ◌<◌, List, [], ◌∷◌, ◌++◌, Option, Some, None, length, take, get_or, slice_get, slice_set, refl, ap, sym, ◌∙◌, arith}
+use Rattle.std.proofs.Common.{false, ◌≡◌, ◌+◌, ◌-◌, ◌<◌, List, [], ◌∷◌, ◌++◌, Option, Some, None, length, take, get_or, slice_get, slice_set, refl, ap, sym, ◌∙◌, arith}
 use Rattle.std.proofs.lemmas.List.{take_more, length-take-le}
 use Rattle.std.proofs.lemmas.Option.{get_or_from_slice_get}
 use Rattle.std.proofs.Math.Seq.{set-append_seam, take-length}
 use Rattle.stx_base.specs.declared.name.Attr.{Attr}
 use Rattle.node_stack.specs.Counts.{counted, none}
-use Rattle.node_stack.specs.Open.{at_tip, attributes_in, element_of, in_list, inside, nodes_of, tally_in, HasChild}
+use Rattle.node_stack.specs.Open.{at_tip, attributes_in, element_of, in_list, inside, nodes_of, open_in, placed, tally_in, HasChild}
 use Rattle.node_stack.specs.Path.{Node, Document, PathNode, kind_of, with_child}
 use Rattle.node_stack.specs.Tally.{before, counts}
 use Rattle.node_stack.specs.Test.{Kind}
@@ -37,12 +37,12 @@ attributes_snoc attrs (f ∷ fs) e = attributes_snoc f.attrs fs e
 -- what stands on the innermost element stands behind the open elements
 pub inside_tip : (t : Tally) (attrs : List Attr) (es : List OpenElement) (top : Option Tip) → inside t attrs es top ≡ inside t attrs es None ++ at_tip (tally_in t es) (attributes_in attrs es) top
 inside_tip t attrs [] top = refl
-inside_tip t attrs (e ∷ es) top = ap (λ ps. in_list t (element_of e) (counts e.children) ∷ ps) (inside_tip e.children e.attrs es top)
+inside_tip t attrs (e ∷ es) top = ap (λ ps. open_in t e ∷ ps) (inside_tip e.children e.attrs es top)
 
 -- an element in the innermost stands behind the others
-pub inside_push : (t : Tally) (attrs : List Attr) (es : List OpenElement) (e : OpenElement) → inside t attrs (es ++ e ∷ []) None ≡ inside t attrs es None ++ in_list (tally_in t es) (element_of e) (counts e.children) ∷ []
+pub inside_push : (t : Tally) (attrs : List Attr) (es : List OpenElement) (e : OpenElement) → inside t attrs (es ++ e ∷ []) None ≡ inside t attrs es None ++ open_in (tally_in t es) e ∷ []
 inside_push t attrs [] e = refl
-inside_push t attrs (f ∷ fs) e = ap (λ ps. in_list t (element_of f) (counts f.children) ∷ ps) (inside_push f.children f.attrs fs e)
+inside_push t attrs (f ∷ fs) e = ap (λ ps. open_in t f ∷ ps) (inside_push f.children f.attrs fs e)
 
 child_behind : (x : Node) (p : PathNode) (t : Tally) (attrs : List Attr) (fs : List OpenElement) (e : OpenElement)
     → with_child x (p ∷ inside t attrs (fs ++ e ∷ []) None) ≡ p ∷ with_child x (inside t attrs (fs ++ e ∷ []) None)
@@ -50,7 +50,7 @@ child_behind x p t attrs [] e = refl
 child_behind x p t attrs (f ∷ fs) e = refl
 
 abbrev document : Tally → PathNode
-document d = record { node = Document; earlier = λ t. 0; children = counts d }
+document d = record { node = Document; earlier = λ t. 0; children = counts d; waited = false }
 
 -- e with other counters
 abbrev with_tally : OpenElement → Tally → OpenElement
@@ -60,9 +60,9 @@ child_in : (x : Node) (n : Tally) (e : OpenElement) → counts n ≡ counted (ki
     → (t : Tally) (attrs : List Attr) (fs : List OpenElement)
     → inside t attrs (fs ++ with_tally e n ∷ []) None ++ in_list n x none ∷ [] ≡ with_child x (inside t attrs (fs ++ e ∷ []) None)
 child_in x n e h earlier t attrs [] =
-    λ i. record { node = element_of e; earlier = before t (kind_of (element_of e)); children = h i } ∷ record { node = x; earlier = earlier i; children = none } ∷ []
+    λ i. placed t e.own (element_of e) (h i) ∷ record { node = x; earlier = earlier i; children = none; waited = false } ∷ []
 child_in x n e h earlier t attrs (f ∷ fs) =
-    ap (λ ps. in_list t (element_of f) (counts f.children) ∷ ps) (child_in x n e h earlier f.children f.attrs fs) ∙ sym (child_behind x _ f.children f.attrs fs e)
+    ap (λ ps. open_in t f ∷ ps) (child_in x n e h earlier f.children f.attrs fs) ∙ sym (child_behind x _ f.children f.attrs fs e)
 
 -- a node is counted in the innermost element
 pub has_child : (d : Tally) (es : List OpenElement) (e : OpenElement) (n : Tally) (k : Kind) → 0 < length es → e ≡ get_or es (length es - 1) e
@@ -83,13 +83,13 @@ has_child d es e n k h is new earlier = λ x same.
 -- a node is counted in the document
 pub has_child_outside : (d n : Tally) (k : Kind) → counts n ≡ counted k (counts d) → before n k ≡ (counts d).passing → HasChild d [] n [] k
 has_child_outside d n k new earlier = λ x same i.
-    record { node = Document; earlier = λ t. 0; children = (new ∙ ap (λ k. counted k (counts d)) (sym same)) i }
-    ∷ record { node = x; earlier = (ap (before n) same ∙ earlier) i; children = none } ∷ []
+    record { node = Document; earlier = λ t. 0; children = (new ∙ ap (λ k. counted k (counts d)) (sym same)) i; waited = false }
+    ∷ record { node = x; earlier = (ap (before n) same ∙ earlier) i; children = none; waited = false } ∷ []
 
 same_inside : (e : OpenElement) (n : Tally) → counts n ≡ counts e.children → (t : Tally) (attrs : List Attr) (fs : List OpenElement)
     → inside t attrs (fs ++ with_tally e n ∷ []) None ≡ inside t attrs (fs ++ e ∷ []) None
-same_inside e n h t attrs [] = λ i. record { node = element_of e; earlier = before t (kind_of (element_of e)); children = h i } ∷ []
-same_inside e n h t attrs (f ∷ fs) = ap (λ ps. in_list t (element_of f) (counts f.children) ∷ ps) (same_inside e n h f.children f.attrs fs)
+same_inside e n h t attrs [] = λ i. placed t e.own (element_of e) (h i) ∷ []
+same_inside e n h t attrs (f ∷ fs) = ap (λ ps. open_in t f ∷ ps) (same_inside e n h f.children f.attrs fs)
 
 -- with the same counts the nodes are the same
 pub same_nodes : (d : Tally) (es : List OpenElement) (e : OpenElement) (n : Tally) → 0 < length es → e ≡ get_or es (length es - 1) e

@@ -6,14 +6,15 @@ use Rattle.std.proofs.Math.Seq.{take-append_seam, take-length}
 use Rattle.stx_base.specs.declared.name.Attr.{Attr}
 use Rattle.stx_base.specs.declared.node.NodeTest.{NodeTest}
 use Rattle.node_stack.specs.Counts.{capped, none}
-use Rattle.node_stack.specs.Open.{at_tip, attributes_in, element_of, has_leaf, in_list, inside, leaf_of, nodes_of, tally_in, tip_node, HasChild}
-use Rattle.node_stack.specs.Path.{Node, Document, Attribute, PathNode, attribute_at, attributes, can_end, can_have_children, is_attribute, is_element, kind_of, last_of, position_at, with_child}
+use Rattle.node_stack.specs.Open.{at_tip, attributes_in, element_of, has_leaf, in_list, inside, leaf_of, nodes_of, open_in, placed, tally_in, tip_node, tip_told, HasChild}
+use Rattle.node_stack.specs.Path.{Node, Document, Attribute, PathNode, attribute_at, attributes, can_end, can_have_children, is_attribute, is_element, told_at, kind_of, last_of, position_at, with_child}
 use Rattle.node_stack.specs.Tally.{counts}
 use Rattle.node_stack.specs.Test.{Kind, passes}
 use Rattle.node_stack.specs.Test as kind
 use Rattle.node_stack.specs.declared.node.Leaf.{Leaf}
 use Rattle.node_stack.specs.declared.node.Leaf.TheVariants as leaf
 use Rattle.node_stack.specs.declared.open.OpenElement.{OpenElement}
+use Rattle.node_stack.specs.declared.own.Own.{Own}
 use Rattle.node_stack.specs.declared.open.Tip.{Tip}
 use Rattle.node_stack.specs.declared.open.Tip.TheVariants as tip
 use Rattle.node_stack.specs.declared.tally.Tally.{Tally}
@@ -37,10 +38,10 @@ abbrev front : List PathNode → List PathNode
 front ps = take (length ps - 1) ps
 
 pub nodes_tip : (d : Tally) (es : List OpenElement) (top : Option Tip) → nodes_of d es top ≡ nodes_of d es None ++ at_tip (tally_in d es) (attributes_in [] es) top
-nodes_tip d es top = ap (λ ps. record { node = Document; earlier = λ t. 0; children = counts d } ∷ ps) (inside_tip d [] es top)
+nodes_tip d es top = ap (λ ps. record { node = Document; earlier = λ t. 0; children = counts d; waited = false } ∷ ps) (inside_tip d [] es top)
 
-pub nodes_push : (d : Tally) (es : List OpenElement) (e : OpenElement) → nodes_of d (es ++ e ∷ []) None ≡ nodes_of d es None ++ in_list (tally_in d es) (element_of e) (counts e.children) ∷ []
-nodes_push d es e = ap (λ ps. record { node = Document; earlier = λ t. 0; children = counts d } ∷ ps) (inside_push d [] es e)
+pub nodes_push : (d : Tally) (es : List OpenElement) (e : OpenElement) → nodes_of d (es ++ e ∷ []) None ≡ nodes_of d es None ++ open_in (tally_in d es) e ∷ []
+nodes_push d es e = ap (λ ps. record { node = Document; earlier = λ t. 0; children = counts d; waited = false } ∷ ps) (inside_push d [] es e)
 
 -- what stands on the innermost element is the current node
 here_tip : (d : Tally) (es : List OpenElement) (top : Option Tip) (x : PathNode) → at_tip (tally_in d es) (attributes_in [] es) top ≡ x ∷ [] → here (nodes_of d es top) ≡ Some x.node
@@ -48,16 +49,19 @@ here_tip d es top x h = ap here (nodes_tip d es top ∙ ap (λ ps. nodes_of d es
 
 no_children_of_leaf : (l : Leaf) → can_have_children (Some (leaf_of l)) ≡ false
 no_children_of_leaf (leaf.Chars t) = refl
+no_children_of_leaf (leaf.CData t) = refl
 no_children_of_leaf (leaf.Comment t) = refl
 no_children_of_leaf (leaf.Pi t u) = refl
 
 leaf_is_no_attribute : (l : Leaf) → is_attribute (Some (leaf_of l)) ≡ false
 leaf_is_no_attribute (leaf.Chars t) = refl
+leaf_is_no_attribute (leaf.CData t) = refl
 leaf_is_no_attribute (leaf.Comment t) = refl
 leaf_is_no_attribute (leaf.Pi t u) = refl
 
 no_attributes_of_leaf : (l : Leaf) → attributes (Some (leaf_of l)) ≡ []
 no_attributes_of_leaf (leaf.Chars t) = refl
+no_attributes_of_leaf (leaf.CData t) = refl
 no_attributes_of_leaf (leaf.Comment t) = refl
 no_attributes_of_leaf (leaf.Pi t u) = refl
 
@@ -65,13 +69,13 @@ no_attributes_of_leaf (leaf.Pi t u) = refl
 here_open : (p : PathNode) (t : Tally) (attrs : List Attr) (es : List OpenElement) → attributes (Some p.node) ≡ attrs → can_have_children (Some p.node) ≡ true → is_attribute (Some p.node) ≡ false
     → (attributes (here (p ∷ inside t attrs es None)) ≡ attributes_in attrs es) × (can_have_children (here (p ∷ inside t attrs es None)) ≡ true) × (is_attribute (here (p ∷ inside t attrs es None)) ≡ false)
 here_open p t attrs [] a b c = (a, b, c)
-here_open p t attrs (e ∷ es) a b c = here_open (in_list t (element_of e) (counts e.children)) e.children e.attrs es refl refl refl
+here_open p t attrs (e ∷ es) a b c = here_open (open_in t e) e.children e.attrs es refl refl refl
 
 pub here_attributes : (d : Tally) (es : List OpenElement) → attributes (here (nodes_of d es None)) ≡ attributes_in [] es
-here_attributes d es = (here_open (record { node = Document; earlier = λ t. 0; children = counts d }) d [] es refl refl refl).0
+here_attributes d es = (here_open (record { node = Document; earlier = λ t. 0; children = counts d; waited = false }) d [] es refl refl refl).0
 
 here_no_attribute : (d : Tally) (es : List OpenElement) → is_attribute (here (nodes_of d es None)) ≡ false
-here_no_attribute d es = (here_open (record { node = Document; earlier = λ t. 0; children = counts d }) d [] es refl refl refl).2
+here_no_attribute d es = (here_open (record { node = Document; earlier = λ t. 0; children = counts d; waited = false }) d [] es refl refl refl).2
 
 -- a test that the current node passes, and no attribute does, shows that no attribute is the current node
 no_attribute_at : (q : Option Node → Bool) (d : Tally) (es : List OpenElement) (i : ℕ) → ((a : Attr) → q (Some (Attribute a)) ≡ false)
@@ -87,9 +91,9 @@ no_attribute_at q d es i a (Some x) is h =
 pub tip_free : (q : Option Node → Bool) (d : Tally) (es : List OpenElement) (top : Option Tip) → ((l : Leaf) → q (Some (leaf_of l)) ≡ false) → ((a : Attr) → q (Some (Attribute a)) ≡ false)
     → q (here (nodes_of d es top)) ≡ true → nodes_of d es top ≡ nodes_of d es None
 tip_free q d es None l a h = refl
-tip_free q d es (Some (tip.Leaf x)) l a h =
+tip_free q d es (Some (tip.Leaf x own)) l a h =
     let none = l x in
-    let current = ap q (here_tip d es (Some (tip.Leaf x)) _ refl) in
+    let current = ap q (here_tip d es (Some (tip.Leaf x own)) _ refl) in
     cc
 tip_free q d es (Some (tip.Attribute i)) l a h = no_attribute_at q d es i a (slice_get (attributes_in [] es) i) refl h
 
@@ -132,16 +136,16 @@ attribute_left_at d es i (Some a) is h =
 -- an attribute is left
 pub attribute_left : (d : Tally) (es : List OpenElement) (top : Option Tip) → is_attribute (here (nodes_of d es top)) ≡ true → nodes_of d es None ≡ take (length (nodes_of d es top) - 1) (nodes_of d es top)
 attribute_left d es None h = let no = here_no_attribute d es in cc
-attribute_left d es (Some (tip.Leaf l)) h =
+attribute_left d es (Some (tip.Leaf l own)) h =
     let no = leaf_is_no_attribute l in
-    let current = ap is_attribute (here_tip d es (Some (tip.Leaf l)) _ refl) in
+    let current = ap is_attribute (here_tip d es (Some (tip.Leaf l own)) _ refl) in
     cc
 attribute_left d es (Some (tip.Attribute i)) h = attribute_left_at d es i (slice_get (attributes_in [] es) i) refl h
 
 -- a leaf ends
 pub leaf_left : (d : Tally) (es : List OpenElement) (top : Option Tip) → has_leaf top ≡ true → nodes_of d es None ≡ take (length (nodes_of d es top) - 1) (nodes_of d es top)
 leaf_left d es None h = cc
-leaf_left d es (Some (tip.Leaf l)) h = sym (ap front (nodes_tip d es (Some (tip.Leaf l))) ∙ left_push (nodes_of d es None) _)
+leaf_left d es (Some (tip.Leaf l own)) h = sym (ap front (nodes_tip d es (Some (tip.Leaf l own))) ∙ left_push (nodes_of d es None) _)
 leaf_left d es (Some (tip.Attribute i)) h = cc
 
 -- no element is open where the document node is the current node
@@ -151,7 +155,7 @@ ends_inside d (e ∷ es) h = omega arith
 
 can_end_in : (d : Tally) (es : List OpenElement) (top : Option Tip) → has_leaf top ≡ false → can_end (here (nodes_of d es top)) ≡ true → nodes_of d es top ≡ nodes_of d es None
 can_end_in d es None l h = refl
-can_end_in d es (Some (tip.Leaf x)) l h = cc
+can_end_in d es (Some (tip.Leaf x own)) l h = cc
 can_end_in d es (Some (tip.Attribute i)) l h = no_attribute_at can_end d es i (λ a. refl) (slice_get (attributes_in [] es) i) refl h
 
 -- an element ends
@@ -162,6 +166,18 @@ element_left d es top fs None l h is some =
     cc
 element_left d es top fs (Some e) l h is some =
     sym (ap front (can_end_in d es top l h ∙ ap (λ ys. nodes_of d ys None) is ∙ nodes_push d fs e) ∙ left_push (nodes_of d fs None) _)
+
+-- the leaf that ends
+pub leaf_last : (d : Tally) (es : List OpenElement) (l : Leaf) (own : Option Own) → last_of (nodes_of d es (Some (tip.Leaf l own))) ≡ Some (placed (tally_in d es) own (leaf_of l) none)
+leaf_last d es l own = ap last_of (nodes_tip d es (Some (tip.Leaf l own))) ∙ last_push_at _ (inside d [] es None) _
+
+-- the element that ends
+pub element_last : (d : Tally) (es : List OpenElement) (top : Option Tip) (fs : List OpenElement) (e : OpenElement) → has_leaf top ≡ false → can_end (here (nodes_of d es top)) ≡ true
+    → es ≡ fs ++ e ∷ [] → last_of (nodes_of d es top) ≡ Some (open_in (tally_in d fs) e)
+element_last d es top fs e l h is = ap last_of (can_end_in d es top l h ∙ ap (λ ys. nodes_of d ys None) is ∙ nodes_push d fs e) ∙ last_push_at _ (inside d [] fs None) _
+
+pub open_there : (d : Tally) (es : List OpenElement) (top : Option Tip) → has_leaf top ≡ false → can_end (here (nodes_of d es top)) ≡ true → 0 < length es
+open_there d es top l h = ends_inside d es (subst (λ ps. can_end (here ps) ≡ true) (can_end_in d es top l h) h)
 
 -- how many elements are open
 elements_in : (t : Tally) (attrs : List Attr) (es : List OpenElement) → length (filter (λ x. is_element x.node) (inside t attrs es None)) ≡ length es
@@ -198,31 +214,32 @@ pub level_is : (d : Tally) (es : List OpenElement) (top : Option Tip)
     → length es + (if has_leaf top then 1 else 0) ≡ length (nodes_of d es top) - (if is_attribute (here (nodes_of d es top)) then 2 else 1)
 level_is d es None =
     taken _ _ (is_attribute (here (nodes_of d es None))) (len_nodes d es None ∙ let m : suc (length es) + 0 ≡ length es + 0 + 1 = omega arith in m ∙ ap (λ b. length es + 0 + (if b then 2 else 1)) (sym (here_no_attribute d es)))
-level_is d es (Some (tip.Leaf l)) =
-    let kind = ap is_attribute (here_tip d es (Some (tip.Leaf l)) _ refl) ∙ leaf_is_no_attribute l in
-    taken _ _ (is_attribute (here (nodes_of d es (Some (tip.Leaf l))))) (len_nodes d es (Some (tip.Leaf l)) ∙ let m : suc (length es) + 1 ≡ length es + 1 + 1 = omega arith in m ∙ ap (λ b. length es + 1 + (if b then 2 else 1)) (sym kind))
+level_is d es (Some (tip.Leaf l own)) =
+    let kind = ap is_attribute (here_tip d es (Some (tip.Leaf l own)) _ refl) ∙ leaf_is_no_attribute l in
+    taken _ _ (is_attribute (here (nodes_of d es (Some (tip.Leaf l own))))) (len_nodes d es (Some (tip.Leaf l own)) ∙ let m : suc (length es) + 1 ≡ length es + 1 + 1 = omega arith in m ∙ ap (λ b. length es + 1 + (if b then 2 else 1)) (sym kind))
 level_is d es (Some (tip.Attribute i)) = level_at d es i (slice_get (attributes_in [] es) i) refl
 
 -- a leaf becomes the current node
 pub leaf_entered : (d : Tally) (es : List OpenElement) (top : Option Tip) (new : Tally) (after : List OpenElement) (l : Leaf) (k : Kind) → can_have_children (here (nodes_of d es top)) ≡ true
     → HasChild d es new after k → kind_of (leaf_of l) ≡ k
-    → nodes_of new after (Some (tip.Leaf l)) ≡ with_child (leaf_of l) (nodes_of d es top)
+    → nodes_of new after (Some (tip.Leaf l None)) ≡ with_child (leaf_of l) (nodes_of d es top)
 leaf_entered d es top new after l k h has same =
-    nodes_tip new after (Some (tip.Leaf l)) ∙ has (leaf_of l) same ∙ ap (with_child (leaf_of l)) (sym (open_of_children d es top h))
+    nodes_tip new after (Some (tip.Leaf l None)) ∙ has (leaf_of l) same ∙ ap (with_child (leaf_of l)) (sym (open_of_children d es top h))
 
 -- an element becomes the current node
 pub element_entered : (d : Tally) (es : List OpenElement) (top : Option Tip) (new : Tally) (after : List OpenElement) (e : OpenElement) (k : Kind) → can_have_children (here (nodes_of d es top)) ≡ true
-    → HasChild d es new after k → kind_of (element_of e) ≡ k → counts e.children ≡ none
+    → HasChild d es new after k → kind_of (element_of e) ≡ k → counts e.children ≡ none → e.own ≡ None
     → nodes_of new (after ++ e ∷ []) None ≡ with_child (element_of e) (nodes_of d es top)
-element_entered d es top new after e k h has same empty =
-    nodes_push new after e ∙ ap (λ c. nodes_of new after None ++ in_list (tally_in new after) (element_of e) c ∷ []) empty
+element_entered d es top new after e k h has same empty fresh =
+    nodes_push new after e ∙ ap (λ own. nodes_of new after None ++ placed (tally_in new after) own (element_of e) (counts e.children) ∷ []) fresh
+    ∙ ap (λ c. nodes_of new after None ++ in_list (tally_in new after) (element_of e) c ∷ []) empty
     ∙ has (element_of e) same ∙ ap (with_child (element_of e)) (sym (open_of_children d es top h))
 
 -- an open element of the path
 inside_get : (t : Tally) (attrs : List Attr) (es : List OpenElement) (top : Option Tip) (k : ℕ) (e : OpenElement) → slice_get es k ≡ Some e
-    → slice_get (inside t attrs es top) k ≡ Some (in_list (tally_in t (take k es)) (element_of e) (counts e.children))
+    → slice_get (inside t attrs es top) k ≡ Some (open_in (tally_in t (take k es)) e)
 inside_get t attrs [] top k e h = cc
-inside_get t attrs (f ∷ fs) top zero e h = let same : f ≡ e = cc in ap (λ x. Some (in_list t (element_of x) (counts x.children))) same
+inside_get t attrs (f ∷ fs) top zero e h = let same : f ≡ e = cc in ap (λ x. Some (open_in t x)) same
 inside_get t attrs (f ∷ fs) top (suc k) e h = inside_get f.children f.attrs fs top k e h
 
 -- what stands on the innermost element, on the path
@@ -236,7 +253,7 @@ attribute_first attrs i (Some a) = refl
 
 tip_first : (t : Tally) (attrs : List Attr) (top : Option Tip) → option_map (λ x. x.node) (slice_get (at_tip t attrs top) 0) ≡ tip_node attrs top
 tip_first t attrs None = refl
-tip_first t attrs (Some (tip.Leaf l)) = refl
+tip_first t attrs (Some (tip.Leaf l own)) = refl
 tip_first t attrs (Some (tip.Attribute i)) = attribute_first attrs i (slice_get attrs i)
 
 attribute_len : (attrs : List Attr) (i : ℕ) (o : Option Attr) → length (attribute_at attrs i o) ≤ 1
@@ -245,7 +262,7 @@ attribute_len attrs i (Some a) = omega arith
 
 tip_len : (t : Tally) (attrs : List Attr) (top : Option Tip) → length (at_tip t attrs top) ≤ 1
 tip_len t attrs None = omega arith
-tip_len t attrs (Some (tip.Leaf l)) = omega arith
+tip_len t attrs (Some (tip.Leaf l own)) = omega arith
 tip_len t attrs (Some (tip.Attribute i)) = attribute_len attrs i (slice_get attrs i)
 
 pub zero_of : (n : ℕ) → (1 ≤ n → ⊥) → n ≡ 0
@@ -272,7 +289,7 @@ tip_there d es top k h out =
     subst (λ ys. 0 < length (at_tip (tally_in d ys) (attributes_in [] es) top)) (sym (ap (λ n. take n es) at.0 ∙ take-length es)) at.1
 
 pub get_element : (d : Tally) (es : List OpenElement) (top : Option Tip) (k : ℕ) (e : OpenElement) → slice_get es k ≡ Some e
-    → slice_get (nodes_of d es top) (suc k) ≡ Some (in_list (tally_in d (take k es)) (element_of e) (counts e.children))
+    → slice_get (nodes_of d es top) (suc k) ≡ Some (open_in (tally_in d (take k es)) e)
 get_element d es top k e h = inside_get d [] es top k e h
 
 pub get_tip : (d : Tally) (es : List OpenElement) (top : Option Tip) (k : ℕ) → suc k < length (nodes_of d es top) → length es ≤ k
@@ -289,7 +306,7 @@ view_behind d es top k h out = ap (option_map (λ (x : PathNode). x.node)) (get_
 -- a node stands at each place
 pub some_node : (ps : List PathNode) (k : ℕ) → k < length ps → option_map (λ (x : PathNode). x.node) (slice_get ps k) ≡ None → ⊥
 some_node ps k h gone =
-    let there = ap (option_map (λ (x : PathNode). x.node)) (slice_get-get_or ps k (record { node = Document; earlier = λ t. 0; children = none }) h) in
+    let there = ap (option_map (λ (x : PathNode). x.node)) (slice_get-get_or ps k (record { node = Document; earlier = λ t. 0; children = none; waited = false }) h) in
     cc
 
 index_within_at : (attrs : List Attr) (i : ℕ) (o : Option Attr) → slice_get attrs i ≡ o → 0 < length (attribute_at attrs i o) → i < length attrs
@@ -314,7 +331,7 @@ attribute_count attrs i (Some a) = refl
 
 tip_count : (t : Tally) (attrs : List Attr) (top : Option Tip) → length (at_tip t attrs top) ≡ (if is_some (tip_node attrs top) then 1 else 0)
 tip_count t attrs None = refl
-tip_count t attrs (Some (tip.Leaf l)) = refl
+tip_count t attrs (Some (tip.Leaf l own)) = refl
 tip_count t attrs (Some (tip.Attribute i)) = attribute_count attrs i (slice_get attrs i)
 
 -- how many nodes the path has
@@ -323,3 +340,13 @@ count_nodes d es top =
     let n = len_nodes d es top in
     let k = tip_count (tally_in d es) (attributes_in [] es) top in
     omega arith
+
+attribute_told : (t : NodeTest) (attrs : List Attr) (i : ℕ) (o : Option Attr) → told_at t (slice_get (attribute_at attrs i o) 0) ≡ true
+attribute_told t attrs i None = refl
+attribute_told t attrs i (Some a) = refl
+
+-- what stands on the innermost element has the counts for a test
+pub tip_told_is : (t : Tally) (attrs : List Attr) (top : Option Tip) (q : NodeTest) → told_at q (slice_get (at_tip t attrs top) 0) ≡ tip_told top q
+tip_told_is t attrs None q = refl
+tip_told_is t attrs (Some (tip.Leaf l own)) q = refl
+tip_told_is t attrs (Some (tip.Attribute i)) q = attribute_told q attrs i (slice_get attrs i)

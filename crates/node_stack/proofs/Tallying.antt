@@ -44,6 +44,7 @@ record OneElement (old new : Tally) (name : Name) : Type 0 where
   elements : new.elements ≡ more old.elements
   nodes : new.nodes ≡ more old.nodes
   chars : new.chars ≡ old.chars
+  cdata : new.cdata ≡ old.cdata
   comments : new.comments ≡ old.comments
   instructions : new.instructions ≡ old.instructions
 
@@ -54,6 +55,7 @@ element_passing old new name h (test.Prefix b) = ap capped (h.names.elements _) 
 element_passing old new name h test.AnyElement = ap capped h.elements ∙ count_at true _
 element_passing old new name h test.AnyNode = ap capped h.nodes ∙ count_at true _
 element_passing old new name h test.Chars = ap capped h.chars
+element_passing old new name h test.CData = ap capped h.cdata
 element_passing old new name h test.Comment = ap capped h.comments
 element_passing old new name h test.AnyPi = ap capped h.instructions
 element_passing old new name h (test.Pi t) = ap (λ m. capped (times (get_by_text m (encode_utf8_all t)))) h.targets
@@ -64,12 +66,12 @@ element_passing old new name h test.AnyAttr = refl
 pub element_counted : (old new : Tally) (name : Name)
     → CountsName old.namespaces new.namespaces (encode_utf8_all name.uri) (encode_utf8_all name.local)
     → new.targets ≡ old.targets → new.elements ≡ more old.elements → new.nodes ≡ more old.nodes
-    → new.chars ≡ old.chars → new.comments ≡ old.comments → new.instructions ≡ old.instructions
+    → new.chars ≡ old.chars → new.cdata ≡ old.cdata → new.comments ≡ old.comments → new.instructions ≡ old.instructions
     → counts new ≡ counted (Element name) (counts old)
-element_counted old new name names targets elements nodes chars comments instructions =
+element_counted old new name names targets elements nodes chars cdata comments instructions =
     let o : Option ℕ = again_of old.namespaces (encode_utf8_all name.uri) (encode_utf8_all name.local) in
     same_counts (counts new) (counted (Element name) (counts old))
-    (element_passing old new name (record { names = names; targets = targets; elements = elements; nodes = nodes; chars = chars; comments = comments; instructions = instructions }))
+    (element_passing old new name (record { names = names; targets = targets; elements = elements; nodes = nodes; chars = chars; cdata = cdata; comments = comments; instructions = instructions }))
     (ap (λ n. n + btree_map_len new.targets) names.len ∙ ap (λ t. names_of old.namespaces + (if is_none o then 1 else 0) + btree_map_len t) targets
     ∙ rw (new_at o) (omega arith))
 
@@ -80,6 +82,7 @@ record OneInstruction (old new : Tally) (target : List ℕ) : Type 0 where
   instructions : new.instructions ≡ more old.instructions
   nodes : new.nodes ≡ more old.nodes
   chars : new.chars ≡ old.chars
+  cdata : new.cdata ≡ old.cdata
   comments : new.comments ≡ old.comments
   elements : new.elements ≡ old.elements
 
@@ -90,6 +93,7 @@ instruction_passing old new target h (test.Prefix b) = ap (λ m. capped (element
 instruction_passing old new target h test.AnyElement = ap capped h.elements
 instruction_passing old new target h test.AnyNode = ap capped h.nodes ∙ count_at true _
 instruction_passing old new target h test.Chars = ap capped h.chars
+instruction_passing old new target h test.CData = ap capped h.cdata
 instruction_passing old new target h test.Comment = ap capped h.comments
 instruction_passing old new target h test.AnyPi = ap capped h.instructions ∙ count_at true _
 instruction_passing old new target h (test.Pi t) = ap (λ o. capped (times o)) (h.texts.counted _) ∙ times_at _ _
@@ -100,10 +104,10 @@ instruction_passing old new target h test.AnyAttr = refl
 pub instruction_counted : (old new : Tally) (target : List ℕ)
     → CountsText old.targets new.targets (encode_utf8_all target)
     → new.namespaces ≡ old.namespaces → new.instructions ≡ more old.instructions → new.nodes ≡ more old.nodes
-    → new.chars ≡ old.chars → new.comments ≡ old.comments → new.elements ≡ old.elements
+    → new.chars ≡ old.chars → new.cdata ≡ old.cdata → new.comments ≡ old.comments → new.elements ≡ old.elements
     → counts new ≡ counted (Pi target) (counts old)
-instruction_counted old new target texts namespaces instructions nodes chars comments elements =
+instruction_counted old new target texts namespaces instructions nodes chars cdata comments elements =
     let o : Option ℕ = get_by_text old.targets (encode_utf8_all target) in
     same_counts (counts new) (counted (Pi target) (counts old))
-    (instruction_passing old new target (record { texts = texts; namespaces = namespaces; instructions = instructions; nodes = nodes; chars = chars; comments = comments; elements = elements }))
+    (instruction_passing old new target (record { texts = texts; namespaces = namespaces; instructions = instructions; nodes = nodes; chars = chars; cdata = cdata; comments = comments; elements = elements }))
     (ap (λ n. names_of n + btree_map_len new.targets) namespaces ∙ ap (λ n. names_of old.namespaces + n) texts.len ∙ rw (new_at o) (omega arith))

@@ -1,5 +1,6 @@
 pub mod Counts
 pub mod Laws
+pub mod Listed
 pub mod Names
 pub mod Open
 pub mod Path

@@ -5,7 +5,7 @@ use Rattle.stx_base.specs.declared.node.NodeTest.{NodeTest}
 use Rattle.stx_base.specs.declared.node.NodeTest.TheVariants as test
 use Rattle.node_stack.specs.Counts.{Counts, capped}
 use Rattle.node_stack.specs.Names.{again_of, elements_of, names_of}
-use Rattle.node_stack.specs.Test.{Kind, Element, Chars, Comment, Pi, passes}
+use Rattle.node_stack.specs.Test.{Kind, CData, Element, Chars, Comment, Pi, passes}
 use Rattle.node_stack.specs.Times.{times}
 use Rattle.node_stack.specs.declared.tally.Child.{Child}
 use Rattle.node_stack.specs.declared.tally.Child.TheVariants as child
@@ -14,6 +14,7 @@ use Rattle.node_stack.specs.declared.tally.Tally.{Tally}
 abbrev pub kind_of : Child → Kind
 kind_of (child.Element name) = Element name.now
 kind_of child.Chars = Chars
+kind_of child.CData = CData
 kind_of child.Comment = Comment
 kind_of (child.Pi target) = Pi target.now
 
@@ -25,6 +26,7 @@ count_of t (test.Prefix b) = elements_of t.namespaces (encode_utf8_all b.uri)
 count_of t test.AnyElement = t.elements
 count_of t test.AnyNode = t.nodes
 count_of t test.Chars = t.chars
+count_of t test.CData = t.cdata
 count_of t test.Comment = t.comments
 count_of t test.AnyPi = t.instructions
 count_of t (test.Pi target) = times (get_by_text t.targets (encode_utf8_all target))

@@ -10,6 +10,7 @@ pub data Kind : Type 0 where
   Document : Kind
   Element : Name → Kind
   Chars : Kind
+  CData : Kind
   Comment : Kind
   Pi : List ℕ → Kind
   Attribute : Name → Kind
@@ -30,9 +31,12 @@ passes (test.Prefix b) (Element m) = same m.uri b.uri
 passes test.AnyElement (Element m) = true
 passes test.AnyNode (Element m) = true
 passes test.AnyNode Chars = true
+passes test.AnyNode CData = true
 passes test.AnyNode Comment = true
 passes test.AnyNode (Pi t) = true
 passes test.Chars Chars = true
+passes test.Chars CData = true
+passes test.CData CData = true
 passes test.Comment Comment = true
 passes test.AnyPi (Pi t) = true
 passes (test.Pi u) (Pi t) = same t u

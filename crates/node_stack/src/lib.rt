@@ -5,11 +5,14 @@ mod fault;
 pub mod law;
 mod node;
 mod open;
+mod own;
+mod parked;
 mod stack;
 mod tally;
 mod test;
 
 pub use fault::StackFault;
-pub use node::{Leaf, NodeView};
+pub use node::{Closed, Leaf, NodeView};
+pub use parked::Parked;
 pub use stack::NodeStack;
 pub use test::passes;

@@ -1,4 +1,5 @@
-ghost use Rattle.std.specs.Prelude.{◌≡◌, IfOk};
+ghost use Rattle.std.specs.Prelude.{◌≡◌, [], IfOk, unwrap_or};
+ghost use Rattle.std.specs.Option.{option_copied};
 
 use std::alloc::Global;
 use stx_base::{Attr, Binding, Copied, First, List, Memory, Name, Text};
@@ -7,8 +8,21 @@ use stx_base::{Attr, Binding, Copied, First, List, Memory, Name, Text};
 #[derive(Debug, Drop)]
 pub enum Leaf {
     Chars(Text),
+    CData(Text),
     Comment(Text),
     Pi { target: Text, text: Text },
+}
+
+/// A node that has ended.
+#[derive(Debug, Drop)]
+pub enum Closed {
+    Element {
+        name: Name,
+        attrs: List<Attr>,
+        decls: List<Binding>,
+        first: First,
+    },
+    Leaf(Leaf),
 }
 
 /// A node of the path.
@@ -23,6 +37,7 @@ pub enum NodeView<'a> {
         first: &'a First,
     },
     Chars(&'a Text),
+    CData(&'a Text),
     Comment(&'a Text),
     Pi {
         target: &'a Text,
@@ -31,12 +46,39 @@ pub enum NodeView<'a> {
     Attribute(&'a Attr),
 }
 
+impl<'a> NodeView<'a> {
+    ghost use Rattle.node_stack.specs.Open.{node_of};
+    ghost use Rattle.node_stack.specs.Path.{string_value};
+
+    /// The node's string value, where it isn't empty by the node's kind. Allocates nothing.
+    pub(crate) fn text(self) -> Option<&'a Text>
+        ensures { unwrap_or (option_copied result) [] ≡ string_value (node_of self.entry) }
+    {
+        match self {
+            NodeView::Document => None,
+            NodeView::Element { first, .. } => match first {
+                First::Chars(text) => Some(text),
+                First::Nothing | First::Other => None,
+            },
+            NodeView::Chars(text)
+            | NodeView::CData(text)
+            | NodeView::Comment(text)
+            | NodeView::Pi { text, .. } => Some(text),
+            NodeView::Attribute(attr) => Some(&attr.value),
+        }
+    }
+}
+
 impl Copied for Leaf {
     fn copy(&self, alloc: Global) -> Result<Leaf, Memory> {
         match self {
             Leaf::Chars(text) => {
                 let text = text.copy(alloc)?;
                 Ok(Leaf::Chars(text))
+            }
+            Leaf::CData(text) => {
+                let text = text.copy(alloc)?;
+                Ok(Leaf::CData(text))
             }
             Leaf::Comment(text) => {
                 let text = text.copy(alloc)?;

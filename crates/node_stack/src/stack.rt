@@ -1,15 +1,16 @@
-ghost use Rattle.std.specs.Prelude.{◌≡◌, ◌+◌, ◌<◌, ◌≤◌, ◌^◌, IsTrue, IfOk, IfErr, OnOk, OnErr, Some, length};
+ghost use Rattle.std.specs.Prelude.{[], true, option_map, ◌≡◌, ◌+◌, ◌<◌, ◌≤◌, ◌^◌, IsTrue, IfOk, IfErr, OnOk, OnErr, Some, length};
 ghost use Rattle.node_stack.specs.declared.fault.StackFault.TheVariants.{Depth};
 
 use crate::fault::StackFault;
-use crate::node::{Leaf, NodeView};
+use crate::node::{Closed, Leaf, NodeView};
 use crate::open::{
-    OpenElement, Tip, attributes, child_of, count_child, is_leaf, siblings, tip_position, view_tip,
+    Ended, OpenElement, Tip, attributes, child_of, count_child, earlier, has_told, is_leaf, siblings,
+    taken_leaf, tip_is_told, tip_position, view_tip,
 };
+use crate::parked::{Parked, Waiting, put_aside};
 use crate::tally::{Child, Tally};
-use crate::test::passes;
 use std::alloc::Global;
-use stx_base::{Attr, Binding, First, List, Memory, Name, NodeTest};
+use stx_base::{Attr, Binding, First, List, Memory, Name, NodeTest, Text};
 
 /// The path from the document node to the current node. Of the nodes before those of the path it keeps how many there
 /// were, by name and by kind.
@@ -22,14 +23,17 @@ pub struct NodeStack {
     /// The innermost last.
     elements: Vec<OpenElement>,
     tip: Option<Tip>,
+    /// The string value of nodes that have none.
+    empty: Text,
     ghost limited: { limit + 1 < 2 ^ 32 },
     ghost bounded: { length elements.items ≤ limit },
+    ghost no_text: { empty ≡ [] },
 }
 
 impl NodeStack {
-    ghost use Rattle.node_stack.specs.Path.{at_attribute, attributes, can_end, can_have_children, current, depth, document_alone, entered, is_attribute, left, level, node_at, position, Element};
-    ghost use Rattle.node_stack.specs.Open.{leaf_of, node_of};
-    ghost use Rattle.node_stack.specs.Stack.{path};
+    ghost use Rattle.node_stack.specs.Path.{at_attribute, attributes, can_end, can_have_children, current, depth, document_alone, entered, is_attribute, is_element, is_told, last_of, left, level, node_at, parked, position, resumed, string_value, text_of, Element};
+    ghost use Rattle.node_stack.specs.Open.{closed_node, ended_in, leaf_of, node_of, open_in};
+    ghost use Rattle.node_stack.specs.Stack.{innermost, path, path_node};
 
     /// The document node alone. At most `limit` elements may be open at once.
     pub fn new(alloc: Global, limit: u32) -> Result<NodeStack, Memory>
@@ -42,6 +46,7 @@ impl NodeStack {
             document: Tally::new(alloc),
             elements: Vec::new(alloc),
             tip: None,
+            empty: Text::new(alloc),
         })
     }
 
@@ -78,6 +83,7 @@ impl NodeStack {
             decls,
             first,
             children,
+            own: None,
         })?;
         Ok(())
     }
@@ -90,19 +96,80 @@ impl NodeStack {
     {
         self.tip = None;
         count_child(&mut self.document, &mut self.elements, child_of(&leaf))?;
-        self.tip = Some(Tip::Leaf(leaf));
+        self.tip = Some(Tip::Leaf(leaf, None));
         Ok(())
     }
 
-    /// Ends the current node. Allocates nothing.
-    pub fn close(&mut self)
+    /// Ends the current node, and gives it back. Allocates nothing.
+    pub fn close(&mut self) -> Closed
         requires { IsTrue (can_end (current (path self.old))) }
-        ensures { path self.new ≡ left (path self.old) }
+        ensures node { current (path self.old) ≡ Some (closed_node result) }
+        ensures path { path self.new ≡ left (path self.old) }
     {
-        let tip = self.tip.take();
-        if !is_leaf(&tip) {
-            self.elements.pop();
+        match self.end() {
+            Ended::Element(element) => element.closed(),
+            Ended::Leaf(leaf, _) => Closed::Leaf(leaf),
         }
+    }
+
+    /// Takes the current node off the path to wait, with its counts. Allocates nothing.
+    pub fn park(&mut self) -> Parked
+        requires { IsTrue (can_end (current (path self.old))) }
+        ensures node { option_map parked (last_of (path self.old).nodes) ≡ Some (path_node result) }
+        ensures path { path self.new ≡ left (path self.old) }
+    {
+        let ended = self.end();
+        let siblings = siblings(&self.document, &self.elements, self.elements.len());
+        Parked {
+            node: put_aside(ended, siblings),
+        }
+    }
+
+    /// Makes a node that waited the current node again, without counting it once more. After a refusal the path is the
+    /// same, and the node is dropped.
+    pub fn resume(&mut self, node: Parked) -> Result<(), Memory>
+        requires children { IsTrue (can_have_children (current (path self.old))) }
+        requires room { IsTrue (is_element (path_node node).node) → depth (path self.old) < (path self.old).limit }
+        ensures ok { OnOk result (path self.new ≡ resumed (path_node node) (path self.old)) }
+        ensures err { OnErr result (path self.new ≡ path self.old) }
+    {
+        let Parked { node } = node;
+        match node {
+            Waiting::Element(element, own) => {
+                let mut element = element;
+                element.own = Some(own);
+                self.push(element)
+            }
+            Waiting::Leaf(leaf, own) => {
+                self.tip = Some(Tip::Leaf(leaf, Some(own)));
+                Ok(())
+            }
+        }
+    }
+
+    /// Takes the current node off the path.
+    fn end(&mut self) -> Ended
+        requires { IsTrue (can_end (current (path self.old))) }
+        ensures node { last_of (path self.old).nodes ≡ Some (ended_in (innermost self.new) result) }
+        ensures path { path self.new ≡ left (path self.old) }
+    {
+        match taken_leaf(self.tip.take()) {
+            Some((leaf, own)) => Ended::Leaf(leaf, own),
+            None => Ended::Element(self.elements.pop().unwrap()),
+        }
+    }
+
+    /// Makes an element the current node, which isn't counted. After a refusal the path is the same.
+    fn push(&mut self, element: OpenElement) -> Result<(), Memory>
+        requires children { IsTrue (can_have_children (current (path self.old))) }
+        requires room { depth (path self.old) < (path self.old).limit }
+        ensures ok { OnOk result (path self.new ≡ resumed (open_in (innermost self.old) element) (path self.old)) }
+        ensures err { OnErr result (path self.new ≡ path self.old) }
+    {
+        self.elements.reserve(1)?;
+        self.tip = None;
+        self.elements.push(element)?;
+        Ok(())
     }
 
     /// Makes an attribute of the current element the current node, by its number from 0.
@@ -126,7 +193,9 @@ impl NodeStack {
     /// The position of the node at a place by a test: one plus the number of earlier nodes of its list that pass, and at
     /// most 9223372036854775807. Allocates nothing.
     pub fn position(&self, place: usize, test: &NodeTest) -> u64
-        requires { place < length (path self.now).nodes }
+        requires place { place < length (path self.now).nodes }
+        // A node that waited has the counts for the tests that it passes.
+        requires told { IsTrue (is_told (path self.now) place test.now) }
         ensures value { result ≡ position (path self.now) place test.now }
         ensures bound { result < 2 ^ 63 }
     {
@@ -135,8 +204,41 @@ impl NodeStack {
         };
         let siblings = siblings(&self.document, &self.elements, outer);
         match self.elements.get(outer) {
-            Some(element) => siblings.earlier(test, passes(test, element.view())) + 1,
+            Some(element) => earlier(&element.own, element.view(), siblings, test) + 1,
             None => tip_position(&self.tip, siblings, attributes(&self.elements), test),
+        }
+    }
+
+    /// Whether `position` may be asked: it may of each node that didn't wait. Allocates nothing.
+    pub fn is_told(&self, place: usize, test: &NodeTest) -> bool
+        requires { place < length (path self.now).nodes }
+        ensures { result ≡ is_told (path self.now) place test.now }
+    {
+        let Some(outer) = place.checked_sub(1) else {
+            return true;
+        };
+        match self.elements.get(outer) {
+            Some(element) => has_told(&element.own, element.view(), test),
+            None => tip_is_told(&self.tip, test),
+        }
+    }
+
+    /// The string value of the node at a place: an element has that of its first child, where that is a text. Allocates
+    /// nothing.
+    pub fn string_value(&self, place: usize) -> &Text
+        requires { place < length (path self.now).nodes }
+        ensures { result.now ≡ text_of (node_at (path self.now) place) }
+    {
+        self.text_of(self.view(place))
+    }
+
+    /// The string value of a node, as of an attribute of an element of the path. Allocates nothing.
+    pub fn text_of<'a>(&'a self, node: NodeView<'a>) -> &'a Text
+        ensures { result.now ≡ string_value (node_of node.entry) }
+    {
+        match node.text() {
+            Some(text) => text,
+            None => &self.empty,
         }
     }
 

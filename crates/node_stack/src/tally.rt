@@ -1,12 +1,15 @@
 //! Counters of the nodes that a list has had so far.
 
-ghost use Rattle.std.specs.Prelude.{◌≡◌, ◌+◌, ◌-◌, ◌^◌, min, OnOk, OnErr, encode_utf8_all};
+ghost use Rattle.std.specs.Prelude.{◌≡◌, ◌+◌, ◌-◌, ◌^◌, min, OnOk, OnErr, None, encode_utf8_all};
 ghost use Rattle.std.specs.BTreeMap.{IsUnchanged};
 ghost use Rattle.std.specs.Option.{option_copied};
+ghost use Rattle.node_stack.specs.Counts.{capped};
 ghost use Rattle.node_stack.specs.Times as spec;
 ghost use Rattle.node_stack.specs.Times.{more, CountsText};
 ghost use Rattle.node_stack.specs.Names.{again_of, elements_of, CountsName, SameNames};
 
+use crate::node::NodeView;
+use crate::own::Own;
 use std::alloc::Global;
 use std::collections::BTreeMap;
 use stx_base::{Memory, Name, NodeTest, Text};
@@ -19,6 +22,7 @@ pub(crate) const MOST: u64 = 9_223_372_036_854_775_806;
 pub(crate) enum Child<'a> {
     Element(&'a Name),
     Chars,
+    CData,
     Comment,
     Pi(&'a Text),
 }
@@ -40,15 +44,18 @@ pub(crate) struct Tally {
     targets: BTreeMap<String, u64>,
     nodes: u64,
     elements: u64,
+    /// Text nodes and CDATA nodes.
     chars: u64,
+    cdata: u64,
     comments: u64,
     instructions: u64,
 }
 
 impl Tally {
-    ghost use Rattle.node_stack.specs.Counts.{capped, counted, none};
+    ghost use Rattle.node_stack.specs.Counts.{counted, none};
+    ghost use Rattle.node_stack.specs.Open.{node_of, KeepsOwn};
     ghost use Rattle.node_stack.specs.Tally.{before, count_of, counts, kind_of, without};
-    ghost use Rattle.node_stack.specs.Test.{Element, Chars, Comment, Pi};
+    ghost use Rattle.node_stack.specs.Test.{Element, CData, Chars, Comment, Pi};
 
     /// Allocates nothing.
     pub fn new(alloc: Global) -> Tally
@@ -61,6 +68,7 @@ impl Tally {
             nodes: 0,
             elements: 0,
             chars: 0,
+            cdata: 0,
             comments: 0,
             instructions: 0,
         }
@@ -77,6 +85,10 @@ impl Tally {
             Child::Pi(target) => self.add_instruction(target),
             Child::Chars => {
                 self.add_chars();
+                Ok(())
+            }
+            Child::CData => {
+                self.add_cdata();
                 Ok(())
             }
             Child::Comment => {
@@ -116,6 +128,15 @@ impl Tally {
         self.nodes = self.nodes.saturating_add(1);
     }
 
+    fn add_cdata(&mut self)
+        ensures counts { counts self.new ≡ counted CData (counts self.old) }
+        ensures before { before self.new CData ≡ (counts self.old).passing }
+    {
+        self.cdata = self.cdata.saturating_add(1);
+        self.chars = self.chars.saturating_add(1);
+        self.nodes = self.nodes.saturating_add(1);
+    }
+
     fn add_comment(&mut self)
         ensures counts { counts self.new ≡ counted Comment (counts self.old) }
         ensures before { before self.new Comment ≡ (counts self.old).passing }
@@ -137,6 +158,30 @@ impl Tally {
         earlier.min(MOST)
     }
 
+    /// What a node of the list, which is counted too, keeps while it waits.
+    pub fn own(&self, node: NodeView<'_>) -> Own
+        ensures { KeepsOwn self.now None (node_of node.entry) result }
+    {
+        match node {
+            NodeView::Element { name, .. } => Own::beside_one(
+                times_named(&self.namespaces, name),
+                elements_within(&self.namespaces, &name.uri),
+                self.elements,
+                self.nodes,
+            ),
+            NodeView::Chars(_) => Own::beside_one(0, 0, self.chars, self.nodes),
+            NodeView::CData(_) => Own::beside_one(self.cdata, 0, self.chars, self.nodes),
+            NodeView::Comment(_) => Own::beside_one(0, 0, self.comments, self.nodes),
+            NodeView::Pi { target, .. } => Own::beside_one(
+                times(self.targets.get(target.as_str())),
+                0,
+                self.instructions,
+                self.nodes,
+            ),
+            NodeView::Document | NodeView::Attribute(_) => Own::beside_one(0, 0, 0, self.nodes),
+        }
+    }
+
     /// How many nodes pass a test, as far as 64 bits go.
     fn count(&self, test: &NodeTest) -> u64
         ensures { result ≡ min (2 ^ 64 - 1) (count_of self.now test.now) }
@@ -147,6 +192,7 @@ impl Tally {
             NodeTest::AnyElement => self.elements,
             NodeTest::AnyNode => self.nodes,
             NodeTest::Chars => self.chars,
+            NodeTest::CData => self.cdata,
             NodeTest::Comment => self.comments,
             NodeTest::AnyPi => self.instructions,
             NodeTest::Pi(target) => times(self.targets.get(target.as_str())),

@@ -24,7 +24,8 @@ pub fn passes(test: &NodeTest, node: NodeView<'_>) -> bool
         },
         NodeTest::AnyElement => matches!(node, NodeView::Element { .. }),
         NodeTest::AnyNode => !matches!(node, NodeView::Document | NodeView::Attribute(_)),
-        NodeTest::Chars => matches!(node, NodeView::Chars(_)),
+        NodeTest::Chars => matches!(node, NodeView::Chars(_) | NodeView::CData(_)),
+        NodeTest::CData => matches!(node, NodeView::CData(_)),
         NodeTest::Comment => matches!(node, NodeView::Comment(_)),
         NodeTest::AnyPi => matches!(node, NodeView::Pi { .. }),
         NodeTest::Pi(wanted) => match node {

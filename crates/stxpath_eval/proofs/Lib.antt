@@ -1,4 +1,5 @@
 mod Answers
 mod Folds
 mod Loops
+mod Reached
 mod Shapes

@@ -1,11 +1,11 @@
--- Nodes in values: what is told of them, and their string values.
+-- Nodes in values, and what is told of them.
 use Rattle.std.specs.Prelude.{ℕ, ◌+◌, Bool, true, false, if◌then◌else◌, List, [], ◌∷◌, ◌++◌, map, slice_get, Option, Some, None, option_map}
 use Rattle.stx_base.specs.declared.name.Attr.{Attr}
 use Rattle.stx_base.specs.declared.name.Name.{Name}
 use Rattle.stx_base.specs.declared.node.First.{First}
 use Rattle.stx_base.specs.declared.node.First.TheVariants as first
 use Rattle.stx_base.specs.declared.node.NodeTest.{NodeTest}
-use Rattle.node_stack.specs.Path.{Node, Document, Element, Chars, Comment, Pi, Attribute, Path, attributes, node_at}
+use Rattle.node_stack.specs.Path.{Node, Document, Element, Pi, Attribute, Path, attributes, node_at, text_of}
 use Rattle.node_stack.specs.Test as kind
 use Rattle.node_stack.specs.Test.{passes}
 use Rattle.stxpath_values.specs.declared.value.Atom.{Atom}
@@ -31,20 +31,6 @@ passing_from place index t (a ∷ attrs) =
 abbrev pub attributes_at : Path → NodeTest → (place : ℕ) → List Item
 attributes_at p t place = passing_from place 0 t (attributes (node_at p place))
 
--- the text that is an element's first child
-abbrev pub first_text : First → List ℕ
-first_text (first.Chars text) = text
-first_text f = []
-
--- an element has that of its first child, where that is a text
-abbrev pub string_value : Node → List ℕ
-string_value Document = []
-string_value (Element name attrs decls f) = first_text f
-string_value (Chars text) = text
-string_value (Comment text) = text
-string_value (Pi target text) = text
-string_value (Attribute a) = a.value
-
 -- a node, or its attribute with a number
 abbrev pub referred_at : Option ℕ → Option Node → Option Node
 referred_at None n = n
@@ -53,10 +39,6 @@ referred_at (Some index) n = option_map (λ a. Attribute a) (slice_get (attribut
 -- the node that is referred to
 abbrev pub referred : Path → NodeRef → Option Node
 referred p r = referred_at r.attr (node_at p r.place)
-
-abbrev pub text_of : Option Node → List ℕ
-text_of None = []
-text_of (Some n) = string_value n
 
 -- an item, or the string value in place of a node
 abbrev pub atom_of : Path → Item → Atom

@@ -7,7 +7,7 @@ use Rattle.stx_base.specs.declared.expression.Op.{Op}
 use Rattle.stx_base.specs.declared.expression.Op.TheVariants.{Sub}
 use Rattle.stx_base.specs.declared.limits.Limits.{Limits}
 use Rattle.stx_base.specs.declared.node.NodeTest.{NodeTest}
-use Rattle.node_stack.specs.Path.{Node, Path, is_attribute, node_at, position}
+use Rattle.node_stack.specs.Path.{Node, Path, is_attribute, node_at, position, text_of}
 use Rattle.stxpath_syntax.specs.declared.expr.Bin.{Bin}
 use Rattle.stxpath_syntax.specs.declared.expr.Bin.TheVariants as bin
 use Rattle.stxpath_syntax.specs.declared.expr.Expr.{Expr}
@@ -25,7 +25,7 @@ use Rattle.stxpath_values.specs.declared.value.Item.{Item}
 use Rattle.stxpath_values.specs.declared.value.Item.TheVariants as item
 use Rattle.stxpath_values.specs.declared.fault.EvalFault.{EvalFault}
 use Rattle.stxpath_values.specs.declared.fault.EvalFault.TheVariants.{NotNode, NotOne, NoVariable, SequenceTooLong}
-use Rattle.stxpath_eval.specs.Nodes.{atoms, attributes_at, has_child, local_name_of, name_of, node, referred, text_of, uri_of}
+use Rattle.stxpath_eval.specs.Nodes.{atoms, attributes_at, has_child, local_name_of, name_of, node, referred, uri_of}
 use Rattle.stxpath_eval.specs.Setting.{Setting, current}
 use Rattle.stxpath_eval.specs.Steps.{Meaning, Reaching, along, step_layer}
 

@@ -2,6 +2,7 @@
 
 ghost use Rattle.std.specs.Prelude.{◌≡◌, ◌<◌, ◌≤◌, List as Items, ℕ, [], true, length, map, ◌++◌, IfOk, OnOk};
 ghost use Rattle.std.specs.Result.{result_map_both};
+ghost use Rattle.node_stack.specs.Path.{is_told};
 ghost use Rattle.node_stack.specs.Stack.{path};
 ghost use Rattle.stxpath_eval.specs.Env.{setting};
 ghost use Rattle.stxpath_syntax.specs.Shape.{are_called_well, are_steps_called_well, height, is_called_well, is_step_called_well};
@@ -30,6 +31,7 @@ pub fn eval<V: Vars>(
     env: &Env<'_, V>,
 ) -> Result<List<Item>, EvalStop>
     requires place { env.now.place < length (path stack.now).nodes }
+    requires told { is_told (path stack.now) env.now.place env.now.test.now ≡ true }
     requires arguments { is_called_well expr.now ≡ true }
     requires height { height expr.now ≤ 64 }
     ensures { IsAnswer result (value expr.now (setting V.value_of stack.now env.now)) }
@@ -45,6 +47,7 @@ fn evaluate<V: Vars>(
     env: &Env<'_, V>,
 ) -> Result<List<Item>, EvalStop>
     requires place { env.now.place < length (path stack.now).nodes }
+    requires told { is_told (path stack.now) env.now.place env.now.test.now ≡ true }
     requires arguments { is_called_well expr.now ≡ true }
     ensures { IsAnswer result (value expr.now (setting V.value_of stack.now env.now)) }
 {
@@ -88,6 +91,7 @@ fn arguments<V: Vars>(
     env: &Env<'_, V>,
 ) -> Result<List<List<Item>>, EvalStop>
     requires place { env.now.place < length (path stack.now).nodes }
+    requires told { is_told (path stack.now) env.now.place env.now.test.now ≡ true }
     requires arguments { are_called_well args.now ≡ true }
     ensures { IsAnswer result (each (λ m. m (setting V.value_of stack.now env.now)) (map value args.now)) }
 {
@@ -108,6 +112,7 @@ fn parts_joined<V: Vars>(
     env: &Env<'_, V>,
 ) -> Result<List<Item>, EvalStop>
     requires place { env.now.place < length (path stack.now).nodes }
+    requires told { is_told (path stack.now) env.now.place env.now.test.now ≡ true }
     requires arguments { are_called_well parts.now ≡ true }
     ensures { IsAnswer result (joined (setting V.value_of stack.now env.now) [] (map value parts.now)) }
 {
@@ -199,6 +204,7 @@ fn all_hold<V: Vars>(
     env: &Env<'_, V>,
 ) -> Result<bool, EvalStop>
     requires place { env.now.place < length (path stack.now).nodes }
+    requires told { is_told (path stack.now) env.now.place env.now.test.now ≡ true }
     requires arguments { are_called_well predicates.now ≡ true }
     ensures { IsAnswer result (spec.all_hold (map value predicates.now) (setting V.value_of stack.now env.now)) }
 {
@@ -212,13 +218,14 @@ fn all_hold<V: Vars>(
 
 /// Whether a predicate holds of the current node.
 #[cycle(evaluation)]
-fn holds<V: Vars>(
+pub(crate) fn holds<V: Vars>(
     alloc: Global,
     predicate: &Expr,
     stack: &NodeStack,
     env: &Env<'_, V>,
 ) -> Result<bool, EvalStop>
     requires place { env.now.place < length (path stack.now).nodes }
+    requires told { is_told (path stack.now) env.now.place env.now.test.now ≡ true }
     requires arguments { is_called_well predicate.now ≡ true }
     ensures { IsAnswer result (spec.holds (value predicate.now) (setting V.value_of stack.now env.now)) }
 {

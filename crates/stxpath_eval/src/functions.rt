@@ -4,6 +4,7 @@ ghost use Rattle.std.specs.Prelude.{◌≡◌, ◌∷◌, ◌<◌, ◌^◌, [], 
 ghost use Rattle.std.specs.Result.{result_map_both};
 ghost use Rattle.node_stack.specs.Open.{node_of};
 ghost use Rattle.node_stack.specs.Path as node;
+ghost use Rattle.node_stack.specs.Path.{is_told};
 ghost use Rattle.node_stack.specs.Stack.{path};
 ghost use Rattle.stxpath_eval.specs.Env.{setting};
 ghost use Rattle.stxpath_eval.specs.Nodes as nodes;
@@ -32,6 +33,7 @@ pub fn applied<V: Vars>(
     env: &Env<'_, V>,
 ) -> Result<List<Item>, EvalStop>
     requires place { env.now.place < length (path stack.now).nodes }
+    requires told { is_told (path stack.now) env.now.place env.now.test.now ≡ true }
     requires arguments { permits fun (length args.now) ≡ true }
     ensures { IsAnswer result (spec.applied (setting V.value_of stack.now env.now) fun args.now) }
 {
@@ -94,7 +96,7 @@ fn called(
 
 /// The current node's string value, in place of an argument that is left out.
 fn current_text(alloc: Global, stack: &NodeStack, place: usize) -> Result<List<List<Atom>>, Memory>
-    ensures { IfOk result (λ args. args ≡ (atom.Chars (nodes.text_of (node.node_at (path stack.now) place)) ∷ []) ∷ []) }
+    ensures { IfOk result (λ args. args ≡ (atom.Chars (node.text_of (node.node_at (path stack.now) place)) ∷ []) ∷ []) }
 {
     let text = text_of(alloc, node_at(stack, place))?;
     let mut arg = List::new(alloc);

@@ -1,6 +1,7 @@
 //! The value of an expression on a path.
 #![tactic(auto)]
 
+mod ask;
 mod binary;
 mod env;
 mod evaluation;
@@ -9,6 +10,7 @@ mod nodes;
 mod steps;
 mod values;
 
+pub use ask::holds;
 pub use env::{Env, Vars};
 pub use evaluation::eval;
 pub use nodes::atoms;

@@ -74,7 +74,7 @@ fn attribute_of(view: NodeView<'_>, index: usize) -> Option<NodeView<'_>>
 
 /// A node's string value; no text for none.
 pub(crate) fn text_of(alloc: Global, node: Option<NodeView<'_>>) -> Result<Text, Memory>
-    ensures { IfOk result (λ text. text ≡ spec.text_of (option_map node_of node.entry)) }
+    ensures { IfOk result (λ text. text ≡ node.text_of (option_map node_of node.entry)) }
 {
     match node {
         None => Ok(Text::new(alloc)),
@@ -87,7 +87,7 @@ pub(crate) fn text_of(alloc: Global, node: Option<NodeView<'_>>) -> Result<Text,
 
 /// A node's string value, where it isn't empty by the node's kind.
 fn string_value(view: NodeView<'_>) -> Option<&Text>
-    ensures { unwrap_or (option_copied result) [] ≡ spec.string_value (node_of view.entry) }
+    ensures { unwrap_or (option_copied result) [] ≡ node.string_value (node_of view.entry) }
 {
     match view {
         NodeView::Document => None,
@@ -95,7 +95,10 @@ fn string_value(view: NodeView<'_>) -> Option<&Text>
             First::Chars(text) => Some(text),
             First::Nothing | First::Other => None,
         },
-        NodeView::Chars(text) | NodeView::Comment(text) | NodeView::Pi { text, .. } => Some(text),
+        NodeView::Chars(text)
+        | NodeView::CData(text)
+        | NodeView::Comment(text)
+        | NodeView::Pi { text, .. } => Some(text),
         NodeView::Attribute(attr) => Some(&attr.value),
     }
 }

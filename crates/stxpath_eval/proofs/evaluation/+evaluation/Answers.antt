@@ -14,9 +14,11 @@ use Rattle.stxpath_values.specs.declared.value.Atom.TheVariants as atom
 use Rattle.stxpath_values.specs.declared.value.Item.{Item}
 use Rattle.stxpath_values.specs.declared.fault.EvalStop.TheVariants as stop
 use Rattle.node_stack.specs.Path.{position}
+use Rattle.node_stack.specs.Stack.{path}
 use Rattle.stxpath_eval.proofs.Answers.{arm, binary_at, goes_on, stops, stops_at}
 use Rattle.stxpath_eval.proofs.Folds.{reaching_step, value_abs, value_attr, value_binary, value_call, value_literal, value_neg, value_root, value_seq, value_up, value_var, value_whole}
 use Rattle.stxpath_eval.proofs.Loops.{along_at, along_more, each_length, each_map, each_stops, hold_at, hold_more, joined_at, joined_here, joined_more, joined_on, kept_first, kept_last, kept_more, kept_stops, none_left, stops_in, turn, with_kept, with_rest}
+use Rattle.stxpath_eval.proofs.Reached.{reached_told, reaches}
 use Rattle.stxpath_eval.proofs.Shapes.{called_well, left_called_well, operand_called_well, parts_called_well, predicates_called_well, right_called_well, steps_called_well}
 use Rattle.stxpath_eval.proofs.evaluation.+evaluation.Goals as goal
 use Rattle.stxpath_eval.proofs.evaluation.+evaluation.Goals.{step_from-else-loop-place-test, step_from-then-loop-place-test+in_ok-ends_at+else-place-place-end, step_from-then-branch+in_ok-push, step_from-else-branch}
@@ -82,15 +84,15 @@ evaluate-applied-requires g t c =
     let s = setting g.V.Vars.value_of c.args.stack.now c.args.env.now in
     let well = called_well _ _ (sym (ap is_called_well c.in-Call.is) ∙ c.requires.arguments) in
     let many = each_length (λ e. value e s) c.in-Call.args c.in_ok-args-in-Call.args (sym (each_map (λ m. m s) value c.in-Call.args) ∙ c.in_ok-args-in-Call.ensures) in
-    record { place = c.requires.place; arguments = ap (permits c.in-Call.fun) many ∙ well.0 }
+    record { place = c.requires.place; told = c.requires.told; arguments = ap (permits c.in-Call.fun) many ∙ well.0 }
 
 pub evaluate-arguments-requires : goal.evaluate-arguments-requires
 evaluate-arguments-requires g t c ks within =
-    (search (rules, the_lemmas), (within, (c.requires.place, (called_well _ _ (sym (ap is_called_well c.in-Call.is) ∙ c.requires.arguments)).1)))
+    (search (rules, the_lemmas), (within, (c.requires.place, (c.requires.told, (called_well _ _ (sym (ap is_called_well c.in-Call.is) ∙ c.requires.arguments)).1))))
 
 pub evaluate-parts_joined-requires : goal.evaluate-parts_joined-requires
 evaluate-parts_joined-requires g t c ks within =
-    (search (rules, the_lemmas), (within, (c.requires.place, parts_called_well _ (sym (ap is_called_well c.in-Seq.is) ∙ c.requires.arguments))))
+    (search (rules, the_lemmas), (within, (c.requires.place, (c.requires.told, parts_called_well _ (sym (ap is_called_well c.in-Seq.is) ∙ c.requires.arguments)))))
 
 pub evaluate-along-requires : goal.evaluate-along-requires
 evaluate-along-requires g t c ks within =
@@ -98,15 +100,15 @@ evaluate-along-requires g t c ks within =
 
 pub evaluate-evaluate-requires : goal.evaluate-evaluate-requires
 evaluate-evaluate-requires g t c ks within =
-    (search (rules, the_lemmas), (within, (c.requires.place, ap is_called_well c.get-in-Neg.ensures ∙ operand_called_well _ (sym (ap is_called_well c.in-Neg.is) ∙ c.requires.arguments))))
+    (search (rules, the_lemmas), (within, (c.requires.place, (c.requires.told, ap is_called_well c.get-in-Neg.ensures ∙ operand_called_well _ (sym (ap is_called_well c.in-Neg.is) ∙ c.requires.arguments)))))
 
 pub evaluate-evaluate-requires-in-Binary : goal.evaluate-evaluate-requires-in-Binary
 evaluate-evaluate-requires-in-Binary g t c ks within =
-    (search (rules, the_lemmas), (within, (c.requires.place, ap is_called_well c.get-in-Binary.ensures ∙ left_called_well _ _ _ (sym (ap is_called_well c.in-Binary.is) ∙ c.requires.arguments))))
+    (search (rules, the_lemmas), (within, (c.requires.place, (c.requires.told, ap is_called_well c.get-in-Binary.ensures ∙ left_called_well _ _ _ (sym (ap is_called_well c.in-Binary.is) ∙ c.requires.arguments)))))
 
 pub evaluate-evaluate-requires-in-Binary-2 : goal.evaluate-evaluate-requires-in-Binary-2
 evaluate-evaluate-requires-in-Binary-2 g t c ks within =
-    (search (rules, the_lemmas), (within, (c.requires.place, ap is_called_well c.get-in-Binary-2.ensures ∙ right_called_well _ _ _ (sym (ap is_called_well c.in-Binary.is) ∙ c.requires.arguments))))
+    (search (rules, the_lemmas), (within, (c.requires.place, (c.requires.told, ap is_called_well c.get-in-Binary-2.ensures ∙ right_called_well _ _ _ (sym (ap is_called_well c.in-Binary.is) ∙ c.requires.arguments)))))
 
 pub evaluate-returns-in_err-first-in-Binary : goal.evaluate-returns-in_err-first-in-Binary
 evaluate-returns-in_err-first-in-Binary g t c =
@@ -303,4 +305,6 @@ holds-returns g t c =
 
 pub ends_at-all_hold-requires : goal.ends_at-all_hold-requires
 ends_at-all_hold-requires g t c ks within =
-    (search (rules, the_lemmas), (within, (c.requires.place, predicates_called_well c.args.step.now c.requires.arguments)))
+    let p = path c.args.stack.now in
+    let reached = reaches _ _ (sym c.leads_to.ensures ∙ c.if-not-leads_to.false) in
+    (search (rules, the_lemmas), (within, (c.requires.place, (reached_told c.args.step.now.test p c.args.place reached, predicates_called_well c.args.step.now c.requires.arguments))))

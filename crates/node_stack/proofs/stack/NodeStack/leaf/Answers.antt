@@ -25,4 +25,4 @@ returns-clause-ok c =
     let items = with_items_is c.args.self.now.elements c.count_child.new.elements (c.count_child.auto.elements ∙ ap length v ∙ sym c.args.self.now.elements.ok.0) in
     let has = subst (λ es. HasChild c.args.self.now.document es c.count_child.new.document c.count_child.new.elements k) v c.in_ok-count_child.ensures.ok in
     ap (λ ps. record { limit = c.args.self.now.limit; nodes = ps })
-    (ap (λ es. nodes_of c.count_child.new.document es (Some (tip.Leaf c.args.leaf))) items ∙ leaf_entered c.args.self.now.document c.args.self.now.elements.items c.args.self.now.tip c.count_child.new.document c.count_child.new.elements c.args.leaf k c.requires has (sym c.child_of.ensures))
+    (ap (λ es. nodes_of c.count_child.new.document es (Some (tip.Leaf c.args.leaf None))) items ∙ leaf_entered c.args.self.now.document c.args.self.now.elements.items c.args.self.now.tip c.count_child.new.document c.count_child.new.elements c.args.leaf k c.requires has (sym c.child_of.ensures))
