@@ -1,5 +1,5 @@
 -- The counts of a path and the lists of all nodes.
-use Rattle.std.proofs.Common.{◌≡◌, ℕ, zero, suc, ◌+◌, ◌-◌, Bool, true, false, not, ◌&&◌, ◌||◌, cond, if◌then◌else◌, min, List, [], ◌∷◌, ◌++◌, Option, Some, None, length, map, take, count_by, slice_get, option_map, option_to_list, refl, ap, sym, ◌∙◌, subst, arith}
+use Rattle.std.proofs.Common.{◌≡◌, ℕ, ◌+◌, ◌-◌, Bool, true, false, not, ◌&&◌, ◌||◌, cond, if◌then◌else◌, min, List, [], ◌∷◌, ◌++◌, Option, Some, None, length, map, take, count_by, slice_get, option_map, option_to_list, refl, ap, sym, ◌∙◌, arith}
 use Rattle.std.proofs.lemmas.List.{append-nil, length-map, map-append, take-map}
 use Rattle.std.proofs.lemmas.List.Sums.{sum_by-cons}
 use Rattle.std.proofs.lemmas.Option.{slice_get-map}
@@ -7,8 +7,8 @@ use Rattle.stx_base.specs.declared.name.Attr.{Attr}
 use Rattle.stx_base.specs.declared.node.NodeTest.{NodeTest}
 use Rattle.node_stack.specs.Counts.{Counts, capped, counted, counted_all, none}
 use Rattle.node_stack.specs.Laws.{CountsPassing}
-use Rattle.node_stack.specs.Listed.{Call, aside, Enter, Leave, EnterAttribute, Park, Resume, Listed, ListedNode, Standing, all_done, all_done_listed, counted_listed, counted_node, done, done_listed, earlier_counts, last_listed, listed_attribute, listed_current, listed_position, listed_start, passing, resumed_at, start, with_listed_child}
-use Rattle.node_stack.specs.Path.{Node, Document, Attribute, Path, PathNode, attribute_at, attributes, current, is_told, kind_of, last_of, left, parked, position, position_at, told_at, with_child}
+use Rattle.node_stack.specs.Listed.{Call, aside, Enter, Leave, EnterAttribute, Park, Resume, Listed, ListedNode, Standing, all_done, all_done_listed, counted_listed, counted_node, done, done_listed, last_listed, listed_attribute, listed_current, listed_position, listed_start, passing, resumed_at, start, with_listed_child}
+use Rattle.node_stack.specs.Path.{Node, Document, Attribute, PathNode, attribute_at, attributes, current, is_told, kind_of, last_of, parked, position, position_at, told_at, with_child}
 use Rattle.node_stack.specs.Test.{Kind, passes}
 use Rattle.node_stack.specs.Test as kind
 

@@ -350,3 +350,30 @@ pub tip_told_is : (t : Tally) (attrs : List Attr) (top : Option Tip) (q : NodeTe
 tip_told_is t attrs None q = refl
 tip_told_is t attrs (Some (tip.Leaf l own)) q = refl
 tip_told_is t attrs (Some (tip.Attribute i)) q = attribute_told q attrs i (slice_get attrs i)
+
+leaf_is_no_element : (l : Leaf) → is_element (leaf_of l) ≡ false
+leaf_is_no_element (leaf.Chars t) = refl
+leaf_is_no_element (leaf.CData t) = refl
+leaf_is_no_element (leaf.Comment t) = refl
+leaf_is_no_element (leaf.Pi t u) = refl
+
+one_or_none : (b : Bool) (x : PathNode) → b ≡ false → length (if b then x ∷ [] else []) ≡ 0
+one_or_none true x h = cc
+one_or_none false x h = refl
+
+no_element_attribute : (attrs : List Attr) (i : ℕ) (o : Option Attr) → length (filter (λ x. is_element x.node) (attribute_at attrs i o)) ≡ 0
+no_element_attribute attrs i None = refl
+no_element_attribute attrs i (Some a) = refl
+
+no_element_at_tip : (t : Tally) (attrs : List Attr) (top : Option Tip) → length (filter (λ x. is_element x.node) (at_tip t attrs top)) ≡ 0
+no_element_at_tip t attrs None = refl
+no_element_at_tip t attrs (Some (tip.Leaf l own)) = one_or_none (is_element (leaf_of l)) _ (leaf_is_no_element l)
+no_element_at_tip t attrs (Some (tip.Attribute i)) = no_element_attribute attrs i (slice_get attrs i)
+
+elements_inside : (t : Tally) (attrs : List Attr) (es : List OpenElement) (top : Option Tip) → length (filter (λ x. is_element x.node) (inside t attrs es top)) ≡ length es
+elements_inside t attrs [] top = no_element_at_tip t attrs top
+elements_inside t attrs (e ∷ es) top = ap (λ n. suc n) (elements_inside e.children e.attrs es top)
+
+-- how many elements are open, whatever stands on the innermost
+pub depth_of : (d : Tally) (es : List OpenElement) (top : Option Tip) → length (filter (λ x. is_element x.node) (nodes_of d es top)) ≡ length es
+depth_of d es top = elements_inside d [] es top

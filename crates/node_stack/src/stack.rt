@@ -1,11 +1,11 @@
-ghost use Rattle.std.specs.Prelude.{[], true, option_map, ◌≡◌, ◌+◌, ◌<◌, ◌≤◌, ◌^◌, IsTrue, IfOk, IfErr, OnOk, OnErr, Some, length};
+ghost use Rattle.std.specs.Prelude.{[], true, option_map, ◌≡◌, ◌↔◌, ◌+◌, ◌<◌, ◌≤◌, ◌^◌, IsTrue, IfOk, IfErr, OnOk, OnErr, Some, length};
 ghost use Rattle.node_stack.specs.declared.fault.StackFault.TheVariants.{Depth};
 
 use crate::fault::StackFault;
 use crate::node::{Closed, Leaf, NodeView};
 use crate::open::{
-    Ended, OpenElement, Tip, attributes, child_of, count_child, earlier, has_told, is_leaf, siblings,
-    taken_leaf, tip_is_told, tip_position, view_tip,
+    Ended, OpenElement, Tip, attributes, child_of, count_child, earlier, has_told, is_leaf,
+    siblings, taken_leaf, tip_is_told, tip_position, view_tip,
 };
 use crate::parked::{Parked, Waiting, put_aside};
 use crate::tally::{Child, Tally};
@@ -207,6 +207,13 @@ impl NodeStack {
             Some(element) => earlier(&element.own, element.view(), siblings, test) + 1,
             None => tip_position(&self.tip, siblings, attributes(&self.elements), test),
         }
+    }
+
+    /// Whether fewer elements are open than may be. Allocates nothing.
+    pub fn has_room(&self) -> bool
+        ensures { IsTrue result ↔ (depth (path self.now) < (path self.now).limit) }
+    {
+        self.elements.len() < self.limit as usize
     }
 
     /// Whether `position` may be asked: it may of each node that didn't wait. Allocates nothing.

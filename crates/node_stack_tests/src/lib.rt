@@ -3,3 +3,5 @@
 
 #[cfg(test)]
 mod paths;
+#[cfg(test)]
+mod waiting;

@@ -552,6 +552,7 @@ fn shown(alloc: Global, view: NodeView<'_>) -> Result<String, Fail> {
             first,
         } => tell_element(name, attrs, decls, first, &mut out)?,
         NodeView::Chars(text) => write!(out, "text {}", text.as_str())?,
+        NodeView::CData(text) => write!(out, "cdata {}", text.as_str())?,
         NodeView::Comment(text) => write!(out, "comment {}", text.as_str())?,
         NodeView::Pi { target, text } => {
             write!(out, "pi {}|{}", target.as_str(), text.as_str())?;
@@ -648,7 +649,9 @@ fn take(
         }
         Ask(place, test, wanted) => {
             assert!(rt; *place < stack.len(), "{step:?}, {at:?}");
-            let found = stack.position(*place, &test.node_test(alloc)?);
+            let test = test.node_test(alloc)?;
+            assert!(rt; stack.is_told(*place, &test), "{step:?}, {at:?}");
+            let found = stack.position(*place, &test);
             assert_eq!(rt; found, *wanted, "{step:?}, {at:?}");
         }
         Level(wanted) => assert_eq!(rt; stack.level(), *wanted, "{step:?}, {at:?}"),
