@@ -98,7 +98,7 @@ fn called(
 fn current_text(alloc: Global, stack: &NodeStack, place: usize) -> Result<List<List<Atom>>, Memory>
     ensures { IfOk result (λ args. args ≡ (atom.Chars (node.text_of (node.node_at (path stack.now) place)) ∷ []) ∷ []) }
 {
-    let text = text_of(alloc, node_at(stack, place))?;
+    let text = text_of(alloc, node_at(stack, place), stack)?;
     let mut arg = List::new(alloc);
     arg.push(Atom::Chars(text))?;
     let mut args = List::new(alloc);

@@ -13,4 +13,4 @@ mod values;
 pub use ask::holds;
 pub use env::{Env, Vars};
 pub use evaluation::eval;
-pub use nodes::atoms;
+pub use nodes::{atoms, text};

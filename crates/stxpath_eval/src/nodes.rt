@@ -1,18 +1,20 @@
 //! Nodes in values.
 
-ghost use Rattle.std.specs.Prelude.{◌≡◌, ◌++◌, List as Items, ℕ, [], IfOk, OnOk, option_map, unwrap_or};
-ghost use Rattle.std.specs.Option.{option_copied};
+ghost use Rattle.std.specs.Prelude.{◌≡◌, ◌++◌, List as Items, ℕ, [], IfOk, OnOk, option_map};
 ghost use Rattle.node_stack.specs.Open.{node_of};
+ghost use Rattle.node_stack.specs.Path as path_node;
 ghost use Rattle.node_stack.specs.Path as node;
 ghost use Rattle.node_stack.specs.Path.{attributes};
 ghost use Rattle.node_stack.specs.Stack.{path};
 ghost use Rattle.stxpath_eval.specs.Nodes as spec;
+ghost use Rattle.stxpath_values.specs.Functions.{joined_text};
+ghost use Rattle.stxpath_values.specs.Outcome.{IsAnswer};
 ghost use Rattle.stxpath_values.specs.declared.value.Atom.TheVariants as atom;
 
 use node_stack::{NodeStack, NodeView, passes};
 use std::alloc::Global;
-use stx_base::{Attr, Copied, First, List, Memory, Name, NodeTest, Text};
-use stxpath_values::{Atom, Item, NodeRef};
+use stx_base::{Attr, Copied, Limits, List, Memory, Name, NodeTest, Text};
+use stxpath_values::{Atom, EvalStop, Item, NodeRef, join};
 
 /// The items, with string values in place of nodes.
 pub fn atoms(alloc: Global, items: &List<Item>, stack: &NodeStack) -> Result<List<Atom>, Memory>
@@ -26,13 +28,28 @@ pub fn atoms(alloc: Global, items: &List<Item>, stack: &NodeStack) -> Result<Lis
     Ok(made)
 }
 
+/// The texts of items in a row, with a separator between each two, where nodes have their string values. It is refused,
+/// and not built, where it has more characters than the limit.
+pub fn text(
+    alloc: Global,
+    separator: &Text,
+    items: &List<Item>,
+    stack: &NodeStack,
+    limits: &Limits,
+) -> Result<Text, EvalStop>
+    ensures { IsAnswer result (joined_text limits.now separator.now (spec.atoms (path stack.now) items.now)) }
+{
+    let atoms = atoms(alloc, items, stack)?;
+    join(alloc, separator, &atoms, limits)
+}
+
 fn atom_of(alloc: Global, item: &Item, stack: &NodeStack) -> Result<Atom, Memory>
     ensures { IfOk result (λ made. made ≡ spec.atom_of (path stack.now) item.now) }
 {
     match item {
         Item::Atom(atom) => atom.copy(alloc),
         Item::Node(node) => {
-            let text = text_of(alloc, referred(stack, *node))?;
+            let text = text_of(alloc, referred(stack, *node), stack)?;
             Ok(Atom::Chars(text))
         }
     }
@@ -73,33 +90,16 @@ fn attribute_of(view: NodeView<'_>, index: usize) -> Option<NodeView<'_>>
 }
 
 /// A node's string value; no text for none.
-pub(crate) fn text_of(alloc: Global, node: Option<NodeView<'_>>) -> Result<Text, Memory>
-    ensures { IfOk result (λ text. text ≡ node.text_of (option_map node_of node.entry)) }
+pub(crate) fn text_of(
+    alloc: Global,
+    node: Option<NodeView<'_>>,
+    stack: &NodeStack,
+) -> Result<Text, Memory>
+    ensures { IfOk result (λ text. text ≡ path_node.text_of (option_map node_of node.entry)) }
 {
     match node {
         None => Ok(Text::new(alloc)),
-        Some(view) => match string_value(view) {
-            Some(text) => text.copy(alloc),
-            None => Ok(Text::new(alloc)),
-        },
-    }
-}
-
-/// A node's string value, where it isn't empty by the node's kind.
-fn string_value(view: NodeView<'_>) -> Option<&Text>
-    ensures { unwrap_or (option_copied result) [] ≡ node.string_value (node_of view.entry) }
-{
-    match view {
-        NodeView::Document => None,
-        NodeView::Element { first, .. } => match first {
-            First::Chars(text) => Some(text),
-            First::Nothing | First::Other => None,
-        },
-        NodeView::Chars(text)
-        | NodeView::CData(text)
-        | NodeView::Comment(text)
-        | NodeView::Pi { text, .. } => Some(text),
-        NodeView::Attribute(attr) => Some(&attr.value),
+        Some(view) => stack.text_of(view).copy(alloc),
     }
 }
 

@@ -70,8 +70,15 @@ abbrev pub whole_value : ℤ → Result (List Atom) EvalFault
 whole_value z = and_then (whole z) (λ n. Ok (Whole n ∷ []))
 
 -- a text that is made of several, within the limit
+abbrev pub limited_text : Limits → List ℕ → Result (List ℕ) EvalFault
+limited_text limits cs = if nat_lt limits.text (length cs) then Err TextTooLong else Ok cs
+
 abbrev pub made_text : Limits → List ℕ → Result (List Atom) EvalFault
-made_text limits cs = if nat_lt limits.text (length cs) then Err TextTooLong else text_value cs
+made_text limits cs = and_then (limited_text limits cs) text_value
+
+-- the texts of atoms in a row, with one between each two, within the limit
+abbrev pub joined_text : Limits → (separator : List ℕ) → List Atom → Result (List ℕ) EvalFault
+joined_text limits separator atoms = limited_text limits (joined separator (map atom_text atoms))
 
 -- a list of several items, within the limit
 abbrev pub list_value : Limits → List Atom → Result (List Atom) EvalFault

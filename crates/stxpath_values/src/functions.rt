@@ -165,23 +165,36 @@ fn string_join(
 {
     let mut buffer = Buffer::new();
     let separator = text_of(separator, &mut buffer)?;
-    joined_within(alloc, separator, items.as_slice(), limits)
+    let text = joined_within(alloc, separator, items.as_slice(), limits)?;
+    one_text(alloc, text)
 }
 
-/// Atoms as one text, with one between each two, if it is within the limit. It isn't built where it isn't.
+/// The texts of atoms in a row, with a separator between each two. It is refused, and not built, where it has more
+/// characters than the limit.
+pub fn join(
+    alloc: Global,
+    separator: &Text,
+    atoms: &List<Atom>,
+    limits: &Limits,
+) -> Result<Text, EvalStop>
+    ensures { IsAnswer result (spec.joined_text limits.now separator.now atoms.now) }
+{
+    joined_within(alloc, separator.as_str(), atoms.as_slice(), limits)
+}
+
 fn joined_within(
     alloc: Global,
     separator: &str,
     atoms: &[Atom],
     limits: &Limits,
-) -> Result<List<Atom>, EvalStop>
-    ensures { IsAnswer result (spec.made_text limits.now (words.joined (chars separator.now) (map atom_text atoms.now))) }
+) -> Result<Text, EvalStop>
+    ensures { IsAnswer result (spec.joined_text limits.now (chars separator.now) atoms.now) }
 {
     if texts::is_longer(limits.text, separator, atoms) {
         return Err(EvalStop::Fault(EvalFault::TextTooLong));
     }
     let text = texts::joined(alloc, separator, atoms)?;
-    one_text(alloc, text)
+    Ok(text)
 }
 
 fn string_length(alloc: Global, text: &List<Atom>) -> Result<List<Atom>, EvalStop>

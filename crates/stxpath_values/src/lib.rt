@@ -17,5 +17,5 @@ pub use arithmetic::arith;
 pub use comparison::compare;
 pub use convert::{to_text, to_whole, truth};
 pub use fault::{EvalFault, EvalStop};
-pub use functions::{call, takes};
+pub use functions::{call, join, takes};
 pub use value::{Atom, Item, NodeRef};
