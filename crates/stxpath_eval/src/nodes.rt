@@ -2,8 +2,7 @@
 
 ghost use Rattle.std.specs.Prelude.{◌≡◌, ◌++◌, List as Items, ℕ, [], IfOk, OnOk, option_map};
 ghost use Rattle.node_stack.specs.Open.{node_of};
-ghost use Rattle.node_stack.specs.Path as path_node;
-ghost use Rattle.node_stack.specs.Path as node;
+ghost use Rattle.node_stack.specs.Path as paths;
 ghost use Rattle.node_stack.specs.Path.{attributes};
 ghost use Rattle.node_stack.specs.Stack.{path};
 ghost use Rattle.stxpath_eval.specs.Nodes as spec;
@@ -57,7 +56,7 @@ fn atom_of(alloc: Global, item: &Item, stack: &NodeStack) -> Result<Atom, Memory
 
 /// The node at a place, if the path goes so far.
 pub(crate) fn node_at(stack: &NodeStack, place: usize) -> Option<NodeView<'_>>
-    ensures { option_map node_of result ≡ node.node_at (path stack.now) place }
+    ensures { option_map node_of result ≡ paths.node_at (path stack.now) place }
 {
     if place < stack.len() {
         Some(stack.view(place))
@@ -95,7 +94,7 @@ pub(crate) fn text_of(
     node: Option<NodeView<'_>>,
     stack: &NodeStack,
 ) -> Result<Text, Memory>
-    ensures { IfOk result (λ text. text ≡ path_node.text_of (option_map node_of node.entry)) }
+    ensures { IfOk result (λ text. text ≡ paths.text_of (option_map node_of node.entry)) }
 {
     match node {
         None => Ok(Text::new(alloc)),

@@ -1,6 +1,7 @@
 //! Expressions evaluated on paths.
 
 ghost use Rattle.std.specs.Prelude.{◌≡◌, ◌<◌, ◌≤◌, true, length, IfOk};
+ghost use Rattle.node_stack.specs.Path.{is_told};
 ghost use Rattle.node_stack.specs.Stack.{path};
 ghost use Rattle.stxpath_syntax.specs.Shape.{height, is_called_well};
 
@@ -135,6 +136,7 @@ fn check_row(
     let (text, wanted) = parts_of(row);
     let expr = read(alloc, text)?;
     assert!(rt; env.place < stack.len(), "{text} at {}", env.place);
+    assert!(rt; stack.is_told(env.place, env.test), "{text} at {}", env.place);
     let found = shown(alloc, &eval(alloc, &expr, stack, env))?;
     assert_eq!(rt; found.as_str(), wanted, "of {text} at {}", env.place);
     Ok(())
@@ -202,6 +204,7 @@ fn told_atoms(
     env: &Env<'_, Variables>,
 ) -> Result<String, Fail>
     requires place { env.now.place < length (path stack.now).nodes }
+    requires told { is_told (path stack.now) env.now.place env.now.test.now ≡ true }
     requires arguments { is_called_well expr.now ≡ true }
     requires height { height expr.now ≤ 64 }
 {
@@ -221,6 +224,7 @@ fn check_atoms(
     let (text, wanted) = parts_of(row);
     let expr = read(alloc, text)?;
     assert!(rt; env.place < stack.len(), "{text} at {}", env.place);
+    assert!(rt; stack.is_told(env.place, env.test), "{text} at {}", env.place);
     let found = told_atoms(alloc, &expr, stack, env)?;
     assert_eq!(rt; found.as_str(), wanted, "string values of {text}");
     Ok(())
