@@ -36,7 +36,7 @@ module _ (dialect : Dialect) (scope : List Binding) where
       (Gives.no_reading ts h.0.at l (sticks dialect scope Means begun end d (at + length text) ts h.0 h.1))
   no_state Means begun end d at text ts fault.Memory l h = tt
 
-  ends_by : {A : Type 0} (Means : Readings A) (begun : State) (end : State → Option (Meant A)) → Decided dialect scope Means begun end
+  pub ends_by : {A : Type 0} (Means : Readings A) (begun : State) (end : State → Option (Meant A)) → Decided dialect scope Means begun end
       → (at : ℕ) (text : List ℕ) (ts : List Placed) (s : State) (o : Option (Meant A)) → Tokens at text ts None → run dialect scope ts begun ≡ Some s → end s ≡ o
       → Gives Means at text (whole_read o (at + length text))
   ends_by Means begun end d at text ts s None l e f = Gives.no_reading ts (at + length text) l (ends_early dialect scope Means begun end d (at + length text) ts s e f)

@@ -19,12 +19,12 @@ use Rattle.stxpath_syntax.specs.Template.{Answers, Read, Template, closing, is_b
 use Rattle.stxpath_syntax.specs.declared.fault.PathKind.TheVariants as kind
 use Rattle.stxpath_syntax.specs.Grammar as grammar
 use Rattle.stxpath_syntax.specs.Reading.{Gives, fault_of}
-use Rattle.stxpath_syntax.specs.Templating.{Cuts, with_piece, flushed, with_chars, behind, Appended}
+use Rattle.stxpath_syntax.specs.Templating.{Cuts, with_piece, flushed, with_chars, with_parts, Appended}
 use Rattle.stxpath_syntax.specs.Tokens.{has_at, is_quote}
 
 -- a template's rest, read whole, is the whole template's reading
 abbrev pub Rests : Dialect → List Binding → List ℕ → List AvtPart → List ℕ → ℕ → List ℕ → Type 0
-Rests dialect scope text parts plain at rest = (read : Read (List AvtPart)) → Template dialect scope at rest read → Template dialect scope 0 text (behind parts (with_chars plain read))
+Rests dialect scope text parts plain at rest = (read : Read (List AvtPart)) → Template dialect scope at rest read → Template dialect scope 0 text (with_parts parts (with_chars plain read))
 
 with_chars_push : (plain : List ℕ) (c : ℕ) (read : Read (List AvtPart)) → with_chars (plain ++ c ∷ []) read ≡ with_chars plain (with_char c read)
 with_chars_push [] c read = refl
@@ -45,11 +45,11 @@ chars_value (c ∷ []) value parts = refl
 chars_value (c ∷ d ∷ plain) value parts = ap (with_char c) (chars_value (d ∷ plain) value parts)
 
 behind_value : (before : List AvtPart) (plain : List ℕ) (value : Expr) (read : Read (List AvtPart))
-    → behind (before ++ flushed plain ++ Value value ∷ []) read ≡ behind before (with_chars plain (with_value value read))
+    → with_parts (before ++ flushed plain ++ Value value ∷ []) read ≡ with_parts before (with_chars plain (with_value value read))
 behind_value before plain value (Ok parts) =
     ap Ok (append_assoc (before ++ flushed plain) (Value value ∷ []) parts ∙ append_assoc before (flushed plain) (Value value ∷ parts))
-    ∙ ap (behind before) (sym (chars_value plain value parts))
-behind_value before plain value (Err why) = ap (behind before) (sym (chars_fault plain why))
+    ∙ ap (with_parts before) (sym (chars_value plain value parts))
+behind_value before plain value (Err why) = ap (with_parts before) (sym (chars_fault plain why))
 
 -- one piece more
 pub one_piece : (dialect : Dialect) (scope : List Binding) (text : List ℕ) (before after : List AvtPart) (plain chars : List ℕ) (p : Piece) (at len : ℕ) (rest : List ℕ)
@@ -57,18 +57,18 @@ pub one_piece : (dialect : Dialect) (scope : List Binding) (text : List ℕ) (be
     → ((read : Read (List AvtPart)) → Template dialect scope (at + len) (drop len rest) read → Template dialect scope at rest (with_piece p read))
     → Appended before plain p after chars → Rests dialect scope text after chars (at + len) (drop len rest)
 one_piece dialect scope text before after plain chars (piece.Plain c) at len rest inv cut (e, f) = λ read h.
-    let same : behind after (with_chars chars read) ≡ behind before (with_chars plain (with_char c read))
-    = ap (λ b. behind b (with_chars chars read)) e ∙ ap (λ p. behind before (with_chars p read)) f ∙ ap (behind before) (with_chars_push plain c read) in
+    let same : with_parts after (with_chars chars read) ≡ with_parts before (with_chars plain (with_char c read))
+    = ap (λ b. with_parts b (with_chars chars read)) e ∙ ap (λ p. with_parts before (with_chars p read)) f ∙ ap (with_parts before) (with_chars_push plain c read) in
     subst (λ r. Template dialect scope 0 text r) (sym same) (inv (with_char c read) (cut read h))
 one_piece dialect scope text before after plain chars (piece.Value value) at len rest inv cut (e, f) = λ read h.
-    let same : behind after (with_chars chars read) ≡ behind before (with_chars plain (with_value value read))
-    = ap (λ b. behind b (with_chars chars read)) e ∙ ap (λ p. behind (before ++ flushed plain ++ Value value ∷ []) (with_chars p read)) f
+    let same : with_parts after (with_chars chars read) ≡ with_parts before (with_chars plain (with_value value read))
+    = ap (λ b. with_parts b (with_chars chars read)) e ∙ ap (λ p. with_parts (before ++ flushed plain ++ Value value ∷ []) (with_chars p read)) f
     ∙ behind_value before plain value read in
     subst (λ r. Template dialect scope 0 text r) (sym same) (inv (with_value value read) (cut read h))
 
 pub piece_fault : (dialect : Dialect) (scope : List Binding) (text : List ℕ) (before : List AvtPart) (plain : List ℕ) (at : ℕ) (rest : List ℕ) (why : PathFault)
     → Rests dialect scope text before plain at rest → Template dialect scope at rest (Err why) → Template dialect scope 0 text (Err why)
-piece_fault dialect scope text before plain at rest why inv h = subst (λ r. Template dialect scope 0 text r) (ap (behind before) (chars_fault plain why)) (inv (Err why) h)
+piece_fault dialect scope text before plain at rest why inv h = subst (λ r. Template dialect scope 0 text r) (ap (with_parts before) (chars_fault plain why)) (inv (Err why) h)
 
 pub piece_error : (dialect : Dialect) (scope : List Binding) (text : List ℕ) (before : List AvtPart) (plain : List ℕ) (at : ℕ) (rest behind : List ℕ) (c : ℕ) (e : ParseFault)
     → Rests dialect scope text before plain at rest → rest ≡ c ∷ behind → Cuts dialect scope at (c ∷ behind) (Err e) → Answers (Template dialect scope 0 text) (Err e)
@@ -80,7 +80,7 @@ pub piece_end : (dialect : Dialect) (scope : List Binding) (text : List ℕ) (be
     → Rests dialect scope text before plain at rest → rest ≡ [] → Template dialect scope 0 text (Ok (before ++ flushed plain))
 piece_end dialect scope text before plain at rest inv e =
     let end : Template dialect scope at rest (Ok []) = subst (λ rest. Template dialect scope at rest (Ok [])) (sym e) (Template.end at) in
-    subst (λ r. Template dialect scope 0 text r) (ap (behind before) (chars_end plain)) (inv (Ok []) end)
+    subst (λ r. Template dialect scope 0 text r) (ap (with_parts before) (chars_end plain)) (inv (Ok []) end)
 
 -- ---- the piece at the front
 

@@ -8,10 +8,12 @@ pub mod Looping
 pub mod Cutting
 pub mod Deciding
 pub mod Templates
+pub mod Existing
 pub mod Pieces
 pub mod Wording
 pub mod Heights
 pub mod Readable
+pub mod Naming
 pub mod Shaping
 pub mod Evaluable
 pub mod WellMade

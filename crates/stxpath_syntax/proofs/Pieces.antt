@@ -10,7 +10,7 @@ use Rattle.stxpath_syntax.specs.declared.token.Placed.{Placed}
 use Rattle.stxpath_syntax.specs.declared.token.Token.{Token}
 use Rattle.stxpath_syntax.specs.declared.token.Token.TheVariants as token
 use Rattle.stxpath_syntax.specs.Grammar.{at, minus}
-use Rattle.stxpath_syntax.specs.Meaning.{more}
+use Rattle.stxpath_syntax.specs.Counting.{next_count}
 use Rattle.stxpath_syntax.specs.Tokens.{has_at, first_token, is_fraction, is_too_large, unreadable, is_too_deep, classed, behind, space, Stands, Lexed}
 
 abbrev pub before_at : ℕ → ℕ → Bool → Before
@@ -285,7 +285,7 @@ dot_whole rest (Breaks.at_close_predicate cs) = refl
 not_deep : (d : ℕ) → d ≤ 63 → nat_lt 63 d ≡ false
 not_deep d h = grind (arith, nat_tests)
 
-more_is : (d : ℕ) → d ≤ 63 → more d ≡ d + 1
+more_is : (d : ℕ) → d ≤ 63 → next_count d ≡ d + 1
 more_is d h = omega arith
 
 less_is : (d : ℕ) → d + 1 - 1 ≡ d

@@ -8,6 +8,7 @@ use Rattle.stx_base.specs.declared.expression.Fun.{Fun}
 use Rattle.stx_base.specs.declared.name.Binding.{Binding}
 use Rattle.stx_base.specs.declared.name.Name.{Name}
 use Rattle.stx_base.specs.declared.node.NodeTest.{NodeTest}
+use Rattle.stx_base.specs.Functions.{word}
 use Rattle.stxpath_syntax.specs.declared.expr.Bin.{Bin}
 use Rattle.stxpath_syntax.specs.declared.expr.Expr.{Expr}
 use Rattle.stxpath_syntax.specs.declared.expr.Expr.TheFolds.{fold-roll-Expr, fold-roll-PathStep, fold_out-PathStep}
@@ -17,7 +18,7 @@ use Rattle.stxpath_syntax.specs.declared.expr.Expr.TheViews.{rolls-Whole, rolls-
 use Rattle.stxpath_syntax.specs.declared.expr.Link.{Link}
 use Rattle.stxpath_syntax.specs.declared.expr.PathStep.{PathStep, out-PathStep}
 use Rattle.stxpath_syntax.specs.Meaning.{step_of}
-use Rattle.stxpath_syntax.specs.Printing.{word_of, sign_of, link_text, quoted, name_text, test_text, ending_text, parents_text, Printed, closed, loose, in_parentheses, operand, comma_before, listed, predicates, step_layer, layer, printed, step_text, prefix_bound, test_prefixes, ending_prefixes, all_prefixes, prefixes_of_step, prefixes_of_layer, prefixes_in, prefixes_in_step}
+use Rattle.stxpath_syntax.specs.Printing.{sign_of, link_text, quoted, name_text, test_text, ending_text, parents_text, Printed, closed, loose, in_parentheses, operand, comma_before, listed, predicates, step_layer, layer, printed, step_text, prefix_bound, test_prefixes, ending_prefixes, all_prefixes, prefixes_of_step, prefixes_of_layer, prefixes_in, prefixes_in_step}
 
 pub printed_whole : (i : ℤ) → printed (e.Whole i) ≡ closed (signed_decimal i)
 unfolding printed
@@ -31,7 +32,7 @@ pub printed_var : (name : Name) → printed (e.Var name) ≡ closed (36 ∷ name
 unfolding printed
 printed_var name = ap printed (sym (rolls-Var name)) ∙ fold-roll-Expr Printed (List ℕ) layer step_layer (Expr-F.Var name)
 
-pub printed_call : (f : Fun) (es : List Expr) → printed (e.Call f es) ≡ closed (word_of f ++ in_parentheses (listed (map printed es)))
+pub printed_call : (f : Fun) (es : List Expr) → printed (e.Call f es) ≡ closed (word f ++ in_parentheses (listed (map printed es)))
 unfolding printed
 printed_call f es = ap printed (sym (rolls-Call f es)) ∙ fold-roll-Expr Printed (List ℕ) layer step_layer (Expr-F.Call f es)
 

@@ -1,10 +1,12 @@
 -- The expressions that can be read, and that what well-made tokens mean is one of them.
 use Rattle.std.proofs.Common.{◌≡◌, ◌≢◌, ℕ, ◌+◌, ◌^◌, ◌≤◌, ◌<◌, Bool, true, false, cond, nat_eq, max, pos, List, [], ◌∷◌, ◌++◌, Some, None, Option, length, sym, ◌∙◌, refl, ap, subst, arith, ◌⊎◌, inl, inr, lit<, codes}
 use Rattle.std.specs.Prelude.{bytes_eq, encode_utf8_all}
+use Rattle.stx_base.specs.declared.expression.Fun.{Fun}
 use Rattle.stx_base.specs.declared.name.Binding.{Binding}
 use Rattle.stx_base.specs.declared.name.Name.{Name}
 use Rattle.stx_base.specs.declared.node.NodeTest.{NodeTest}
 use Rattle.stx_base.specs.declared.node.NodeTest.TheVariants as test
+use Rattle.stx_base.specs.Functions.{permits}
 use Rattle.stxpath_syntax.specs.declared.dialect.Dialect.{Dialect}
 use Rattle.stxpath_syntax.specs.declared.dialect.Dialect.TheVariants.{One, OneOne}
 use Rattle.stxpath_syntax.specs.declared.expr.Bin.{Bin}
@@ -21,11 +23,11 @@ use Rattle.stxpath_syntax.specs.declared.token.Placed.{Placed}
 use Rattle.stxpath_syntax.specs.declared.token.Token.{Token}
 use Rattle.stxpath_syntax.specs.declared.token.Token.TheVariants as token
 use Rattle.stxpath_syntax.specs.declared.token.Written.{Written}
-use Rattle.stxpath_syntax.specs.declared.words.Function.{Function}
 use Rattle.stxpath_syntax.specs.Grammar.{at, link_tokens, Test, AttrTest, Ending, Parents, Spells, Leading, Listed, Predicates, Step, Steps}
-use Rattle.stxpath_syntax.specs.Meaning.{refused, made, operated, step, none, and_also, called_by, name_by, name_of, binding_by, binding_of, step_of, type_of, function_of, more}
-use Rattle.stxpath_syntax.specs.Words.{function_named, cdata_test, type_named, permits, uri_of}
-use Rattle.stxpath_syntax.proofs.Heights.{IfFine, made_fine, joined_fine, function_plain}
+use Rattle.stxpath_syntax.specs.Counting.{next_count}
+use Rattle.stxpath_syntax.specs.Meaning.{refused, made, operated, step, none, and_also, called_by, name_by, name_of, binding_by, binding_of, step_of, type_of, function_of}
+use Rattle.stxpath_syntax.specs.Words.{cdata_test, type_named, uri_of}
+use Rattle.stxpath_syntax.proofs.Heights.{IfFine, made_fine, joined_fine}
 use Rattle.stxpath_syntax.proofs.Wording.{IsNc, OneQuote}
 
 -- ---- tokens
@@ -108,7 +110,7 @@ ending_good : (scope : List Binding) {ts : List Placed} {t : Meant (Option NodeT
 ending_good scope Ending.without a = (tt, refl)
 ending_good scope (Ending.attributes s {ts} {t} d) (x, a) = flat_made GoodAttr GoodEnding Some t (attr_good scope d a) (λ t g. g)
 
-more_small : (n : ℕ) → more n < 2 ^ 64
+more_small : (n : ℕ) → next_count n < 2 ^ 64
 more_small n = omega arith
 
 parents_small : (scope : List Binding) {ts : List Placed} {n : ℕ} → Parents scope ts n → n < 2 ^ 64
@@ -170,8 +172,8 @@ module _ (dialect : Dialect) where
       whole : (n : ℕ) → n < 2 ^ 63 → Good (e.Whole (pos n)) 1
       literal : (text : List ℕ) → OneQuote text → Good (e.Literal text) 1
       variable : (name : Name) → GoodName name → Good (e.Var name) 1
-      call : (f : Function) (word : List ℕ) (k h : ℕ) (es : List Expr) → function_named word ≡ Some f → permits f k ≡ true → GoodAll k es h → h + 1 ≤ 64
-          → Good (e.Call f.fun es) (h + 1)
+      call : (f : Fun) (k h : ℕ) (es : List Expr) → permits f k ≡ true → GoodAll k es h → h + 1 ≤ 64
+          → Good (e.Call f es) (h + 1)
       several : (k h : ℕ) (es : List Expr) → k ≢ 1 → GoodAll k es h → h + 1 ≤ 64 → Good (e.Seq es) (h + 1)
       negated : (x : Expr) (h : ℕ) → Good x h → h + 1 ≤ 64 → Good (e.Neg x) (h + 1)
       operation : (b : Bin) (x y : Expr) (h g : ℕ) → Good x h → Good y g → max h g + 1 ≤ 64 → Good (e.Binary b x y) (max h g + 1)
@@ -183,7 +185,7 @@ module _ (dialect : Dialect) where
     -- so many of them, one after another
     pub data GoodAll : ℕ → List Expr → ℕ → Type 0 where
       start : GoodAll 0 [] 0
-      further : (k h g : ℕ) (es : List Expr) (x : Expr) → GoodAll k es h → Good x g → max h g + 0 ≤ 64 → GoodAll (more k) (es ++ x ∷ []) (max h g + 0)
+      further : (k h g : ℕ) (es : List Expr) (x : Expr) → GoodAll k es h → Good x g → max h g + 0 ≤ 64 → GoodAll (next_count k) (es ++ x ∷ []) (max h g + 0)
 
     pub data GoodStep : PathStep → ℕ → Type 0 where
       tested : (l : Link) (t : NodeTest) (k h : ℕ) (es : List Expr) → l ≢ link.Start → GoodTest t → GoodAll k es h → max 0 h + 0 ≤ 64 → GoodStep (step_of l t es) (max 0 h + 0)
@@ -192,13 +194,12 @@ module _ (dialect : Dialect) where
       one_step : (s : PathStep) (h : ℕ) → GoodStep s h → max 0 h + 0 ≤ 64 → GoodSteps (s ∷ []) (max 0 h + 0)
       next_step : (steps : List PathStep) (s : PathStep) (h g : ℕ) → GoodSteps steps h → GoodStep s g → max h g + 0 ≤ 64 → GoodSteps (steps ++ s ∷ []) (max h g + 0)
 
-  call_good : (o : Option Function) (word : List ℕ) (p k : ℕ) (es : Meant (List Expr)) → ((f : Function) → o ≡ Some f → function_named word ≡ Some f) → IfFine (GoodAll k) es
-      → IfFine Good (called_by o p k es)
-  call_good None word p k es w a = tt
-  call_good (Some f) word p k es w a = by (permits f k) refl
+  call_good : (o : Option Fun) (p k : ℕ) (es : Meant (List Expr)) → IfFine (GoodAll k) es → IfFine Good (called_by o p k es)
+  call_good None p k es a = tt
+  call_good (Some f) p k es a = by (permits f k) refl
     where
-      by : (b : Bool) → permits f k ≡ b → IfFine Good (cond b (made 1 (e.Call f.fun) es) (refused kind.Arity p))
-      by true is = made_fine (GoodAll k) Good 1 (e.Call f.fun) es a (λ xs h g l. Good.call f word k h xs (w f refl) is g l)
+      by : (b : Bool) → permits f k ≡ b → IfFine Good (cond b (made 1 (e.Call f) es) (refused kind.Arity p))
+      by true is = made_fine (GoodAll k) Good 1 (e.Call f) es a (λ xs h g l. Good.call f k h xs is g l)
       by false is = tt
 
   minus_back : (m : Meant Expr) → IfFine Good m → IfFine Good (made 1 e.Neg m)
@@ -208,15 +209,15 @@ module _ (dialect : Dialect) where
   operated_good (operator.Binary b) p x y g k = joined_fine Good Good Good 1 (e.Binary b) x y g k (λ x y h i a c l. Good.operation b x y h i a c l)
   operated_good operator.Div p x y g k = tt
 
-  further_good : (k : ℕ) (es : Meant (List Expr)) (x : Meant Expr) → IfFine (GoodAll k) es → IfFine Good x → IfFine (GoodAll (more k)) (and_also es x)
-  further_good k es x g h = joined_fine (GoodAll k) Good (GoodAll (more k)) 0 (λ values value. values ++ value ∷ []) es x g h (λ es x h g a b l. GoodAll.further k h g es x a b l)
+  further_good : (k : ℕ) (es : Meant (List Expr)) (x : Meant Expr) → IfFine (GoodAll k) es → IfFine Good x → IfFine (GoodAll (next_count k)) (and_also es x)
+  further_good k es x g h = joined_fine (GoodAll k) Good (GoodAll (next_count k)) 0 (λ values value. values ++ value ∷ []) es x g h (λ es x h g a b l. GoodAll.further k h g es x a b l)
 
   -- expressions, however many
   abbrev SomeAll : List Expr → ℕ → Type 0
   SomeAll es h = (k : ℕ) × GoodAll k es h
 
   filtered_good : (es : Meant (List Expr)) (x : Meant Expr) → IfFine SomeAll es → IfFine Good x → IfFine SomeAll (and_also es x)
-  filtered_good es x g h = joined_fine SomeAll Good SomeAll 0 (λ values value. values ++ value ∷ []) es x g h (λ es x h g (k, a) b l. (more k, GoodAll.further k h g es x a b l))
+  filtered_good es x g h = joined_fine SomeAll Good SomeAll 0 (λ values value. values ++ value ∷ []) es x g h (λ es x h g (k, a) b l. (next_count k, GoodAll.further k h g es x a b l))
 
   step_good : (l : Link) (t : Meant NodeTest) (es : Meant (List Expr)) → l ≢ link.Start → IfFine (Flat GoodTest) t → IfFine SomeAll es → IfFine GoodStep (step l t es)
   step_good l t es ne g h =
@@ -234,7 +235,7 @@ module _ (dialect : Dialect) where
           made_fine (Flat GoodName) Good 1 e.Var (name_of scope name p) (name_good scope name p m)
           (λ name h (g, z) l. subst (λ k. Good (e.Var name) (k + 1)) (sym z) (Good.variable name g))
       good (Spells.call n p o c name {k} {ts} {es} d) (x, (y, a)) =
-          call_good (function_of name) (encode_utf8_all name.local) p k es (λ f is. function_plain name f is) (good_listed d (made_front ts (at c token.Close ∷ []) a))
+          call_good (function_of name) p k es (good_listed d (made_front ts (at c token.Close ∷ []) a))
       good (Spells.single n o c {ts} {x} d) (y, a) = good d (made_front ts (at c token.Close ∷ []) a)
       good (Spells.several n o c {k} {ts} {es} d ne) (y, a) =
           made_fine (GoodAll k) Good 1 e.Seq es (good_listed d (made_front ts (at c token.Close ∷ []) a)) (λ es h g l. Good.several k h es ne g l)

@@ -10,6 +10,9 @@ use Rattle.stx_base.specs.declared.name.Binding.{Binding}
 use Rattle.stx_base.specs.declared.name.Name.{Name}
 use Rattle.stx_base.specs.declared.node.NodeTest.{NodeTest}
 use Rattle.stx_base.specs.declared.node.NodeTest.TheVariants as test
+use Rattle.stx_base.specs.declared.expression.Fun.{Fun}
+use Rattle.stx_base.specs.declared.expression.Fun.TheVariants as fun
+use Rattle.stx_base.specs.Functions.{word, permits}
 use Rattle.stxpath_syntax.specs.declared.dialect.Dialect.{Dialect}
 use Rattle.stxpath_syntax.specs.declared.expr.Bin.{Bin}
 use Rattle.stxpath_syntax.specs.declared.expr.Expr.{Expr}
@@ -24,21 +27,21 @@ use Rattle.stxpath_syntax.specs.declared.token.Placed.{Placed}
 use Rattle.stxpath_syntax.specs.declared.token.Token.{Token}
 use Rattle.stxpath_syntax.specs.declared.token.Token.TheVariants as token
 use Rattle.stxpath_syntax.specs.declared.token.Written.{Written}
-use Rattle.stxpath_syntax.specs.declared.words.Function.{Function}
 use Rattle.stxpath_syntax.specs.Grammar.{at, minus, level, left_level, link_tokens, Test, AttrTest, Ending, Parents, Spells, Leading, Listed, Predicates, Step, Steps}
-use Rattle.stxpath_syntax.specs.Meaning.{of_height, made, flat, binary, var, step, step_of, name_by, name_of, binding_by, binding_of, type_of, called, called_by, more}
-use Rattle.stxpath_syntax.specs.Printing.{word_of, sign_of, link_text, quoted, prefixed, name_text, within_text, test_text, ending_text, parents_text, Printed, closed, loose, in_parentheses, in_brackets, operand, listed, predicates, printed, step_text, prefix_bound, test_prefixes, ending_prefixes, all_prefixes, prefixes_in, prefixes_in_step, Agrees}
+use Rattle.stxpath_syntax.specs.Counting.{next_count}
+use Rattle.stxpath_syntax.specs.Meaning.{of_height, made, flat, binary, var, step, step_of, name_by, name_of, binding_by, binding_of, type_of, called, called_by}
+use Rattle.stxpath_syntax.specs.Printing.{sign_of, link_text, quoted, prefixed, name_text, within_text, test_text, ending_text, parents_text, Printed, closed, loose, in_parentheses, in_brackets, operand, listed, predicates, printed, step_text, prefix_bound, test_prefixes, ending_prefixes, all_prefixes, prefixes_in, prefixes_in_step, Agrees}
 use Rattle.stxpath_syntax.specs.Reading.{Gives}
 use Rattle.stxpath_syntax.specs.Template.{IsExpression}
 use Rattle.stxpath_syntax.specs.Tokens.{begun, Tokens}
-use Rattle.stxpath_syntax.specs.Words.{function_named, lookup, permits, uri_of}
-use Rattle.stxpath_syntax.specs.declared.words.TheConstants.{FUNCTIONS}
+use Rattle.stxpath_syntax.specs.Words.{uri_of}
 use Rattle.stxpath_syntax.proofs.Completing.{level_bounds}
-use Rattle.stxpath_syntax.proofs.Heights.{found_in}
 use Rattle.stxpath_syntax.proofs.Pieces.{before_at, Piece, join, becomes, narrows, Any, Tok, after_space, before_space, Breaks, Closes, closes_break, NoSlash, open_bracket, close_bracket, open_predicate, close_predicate, comma, at_sign, dollar, minus_sign, star, slash, slashes, dot, dots}
 use Rattle.stxpath_syntax.proofs.Printing.{printed_whole, printed_literal, printed_var, printed_call, printed_seq, printed_neg, printed_binary, printed_root, printed_abs, printed_up, printed_attr, printed_step, prefixes_var, prefixes_call, prefixes_seq, prefixes_neg, prefixes_binary, prefixes_abs, prefixes_up, prefixes_attr, prefixes_step, map_snoc, flat_snoc, concat_snoc, led, listed_snoc}
 use Rattle.stxpath_syntax.proofs.Readable.{IsPrefix, GoodName, GoodTest, GoodAttr, GoodEnding, Good, GoodAll, GoodStep, GoodSteps, good}
 use Rattle.stxpath_syntax.proofs.WellMade.{well_made}
+use Rattle.stxpath_syntax.specs.Functions.{function_named}
+use Rattle.stxpath_syntax.proofs.Naming.{named_in_utf8}
 use Rattle.stxpath_syntax.proofs.Wording.{IsNc, OneQuote, plain_name, ncname, qname, within, quotes, whole, Spaced, bin_token, operator_sign, begins_from}
 
 -- ---- heights
@@ -79,21 +82,38 @@ both_four t u v w ts us (Two.two p q) (Two.two r s) = Four.four p q r s
 
 -- ---- functions
 
-function_word : (word : List ℕ) (f : Function) → function_named word ≡ Some f → function_named (encode_utf8_all (word_of f.fun)) ≡ Some f
-unfolding function_named lib.Utf8.encode
-function_word word f is =
-    found_in (λ f. lookup (map (λ entry. (entry.0.now, entry.1)) FUNCTIONS) (encode_utf8_all (word_of f.fun)) ≡ Some f)
-    (map (λ entry. (entry.0.now, entry.1)) FUNCTIONS) word f
-    (refl, (refl, (refl, (refl, (refl, (refl, (refl, (refl, (refl, (refl, (refl, (refl, (refl, (refl, (refl, (refl, (refl, (refl, (refl, (refl, (refl, (refl, (refl, (refl, (refl, (refl, (refl, (refl, (refl, (refl, tt))))))))))))))))))))))))))))))
-    is
-
 -- a function's name is an NCName
-word_is_name : (word : List ℕ) (f : Function) → function_named word ≡ Some f → IsNc (word_of f.fun)
-unfolding function_named
-word_is_name word f is =
-    found_in (λ f. IsNc (word_of f.fun)) (map (λ entry. (entry.0.now, entry.1)) FUNCTIONS) word f
-    ((refl, refl), ((refl, refl), ((refl, refl), ((refl, refl), ((refl, refl), ((refl, refl), ((refl, refl), ((refl, refl), ((refl, refl), ((refl, refl), ((refl, refl), ((refl, refl), ((refl, refl), ((refl, refl), ((refl, refl), ((refl, refl), ((refl, refl), ((refl, refl), ((refl, refl), ((refl, refl), ((refl, refl), ((refl, refl), ((refl, refl), ((refl, refl), ((refl, refl), ((refl, refl), ((refl, refl), ((refl, refl), ((refl, refl), ((refl, refl), tt))))))))))))))))))))))))))))))
-    is
+word_is_name : (f : Fun) → IsNc (word f)
+word_is_name fun.Name = (refl, refl)
+word_is_name fun.LocalName = (refl, refl)
+word_is_name fun.NamespaceUri = (refl, refl)
+word_is_name fun.Position = (refl, refl)
+word_is_name fun.Level = (refl, refl)
+word_is_name fun.HasChildNodes = (refl, refl)
+word_is_name fun.Str = (refl, refl)
+word_is_name fun.Integer = (refl, refl)
+word_is_name fun.Boolean = (refl, refl)
+word_is_name fun.Not = (refl, refl)
+word_is_name fun.True = (refl, refl)
+word_is_name fun.False = (refl, refl)
+word_is_name fun.Concat = (refl, refl)
+word_is_name fun.StringJoin = (refl, refl)
+word_is_name fun.StringLength = (refl, refl)
+word_is_name fun.Substring = (refl, refl)
+word_is_name fun.SubstringBefore = (refl, refl)
+word_is_name fun.SubstringAfter = (refl, refl)
+word_is_name fun.Contains = (refl, refl)
+word_is_name fun.StartsWith = (refl, refl)
+word_is_name fun.EndsWith = (refl, refl)
+word_is_name fun.NormalizeSpace = (refl, refl)
+word_is_name fun.Translate = (refl, refl)
+word_is_name fun.Count = (refl, refl)
+word_is_name fun.Empty = (refl, refl)
+word_is_name fun.Exists = (refl, refl)
+word_is_name fun.Sum = (refl, refl)
+word_is_name fun.ItemAt = (refl, refl)
+word_is_name fun.IndexOf = (refl, refl)
+word_is_name fun.Subsequence = (refl, refl)
 
 -- ---- what does not begin with a slash
 
@@ -303,7 +323,7 @@ module _ (dialect : Dialect) (other : List Binding) where
   is_one ts (Tok.tok p) = Parents.one p
 
   is_further : (n : ℕ) → n < 2 ^ 64 - 1 → n ≢ 0 → (ts us : List Placed) → Parents other ts n → Two token.Slash token.DotDot us → Parents other (ts ++ us) (n + 1)
-  is_further n l nz ts us d (Two.two s p) = let same : more n ≡ n + 1 = omega arith in subst (λ k. Parents other (ts ++ us) k) same (Parents.further s p d nz)
+  is_further n l nz ts us d (Two.two s p) = let same : next_count n ≡ n + 1 = omega arith in subst (λ k. Parents other (ts ++ us) k) same (Parents.further s p d nz)
 
   parents_some : {p d : ℕ} (n : ℕ) → n + 1 < 2 ^ 64 → Piece (λ ts. Parents other ts (n + 1)) Any (codes ".." ++ repeat n (codes "/..")) (before_at p d false) d true
   parents_some zero l = becomes is_one dots
@@ -457,14 +477,14 @@ module _ (dialect : Dialect) (other : List Binding) where
       (λ q. join (w.put q (d + 1) (omega (arith, m))) (λ r. narrows (λ rest b. tt) close_bracket) (λ rest b. Closes.at_close rest) (closes_several k h es ne l))
       (λ rest b. tt) (opens_again (e.Seq es) (h + 1)))
 
-  called_is : (name : List ℕ) (f : Function) (k h : ℕ) (es : List Expr) (p : ℕ) → function_named (encode_utf8_all name) ≡ Some f → permits f k ≡ true → h + 1 ≤ 64
-      → called (written [] name) p k (Fine es h) ≡ Fine (e.Call f.fun es) (h + 1)
+  called_is : (name : List ℕ) (f : Fun) (k h : ℕ) (es : List Expr) (p : ℕ) → function_named (encode_utf8_all name) ≡ Some f → permits f k ≡ true → h + 1 ≤ 64
+      → called (written [] name) p k (Fine es h) ≡ Fine (e.Call f es) (h + 1)
   called_is name f k h es p is allowed l =
-      ap (λ o. called_by o p k (Fine es h)) is ∙ rw allowed (fits (e.Call f.fun es) (h + 1) l)
+      ap (λ o. called_by o p k (Fine es h)) is ∙ rw allowed (fits (e.Call f es) (h + 1) l)
 
-  closes_call : (name : List ℕ) (f : Function) (k h : ℕ) (es : List Expr) → function_named (encode_utf8_all name) ≡ Some f → permits f k ≡ true → h + 1 ≤ 64
+  closes_call : (name : List ℕ) (f : Fun) (k h : ℕ) (es : List Expr) → function_named (encode_utf8_all name) ≡ Some f → permits f k ≡ true → h + 1 ≤ 64
       → (ts us : List Placed) → Listed dialect other k ts (Fine es h) → Tok token.Close us
-      → (n p o : ℕ) → Spells dialect other n (at p (plain_name name) ∷ at o token.Open ∷ (ts ++ us)) (Fine (e.Call f.fun es) (h + 1))
+      → (n p o : ℕ) → Spells dialect other n (at p (plain_name name) ∷ at o token.Open ∷ (ts ++ us)) (Fine (e.Call f es) (h + 1))
   closes_call name f k h es is allowed l ts us d (Tok.tok c) n p o =
       subst (λ m. Spells dialect other n (at p (plain_name name) ∷ at o token.Open ∷ (ts ++ at c token.Close ∷ [])) m) (called_is name f k h es p is allowed l)
       (Spells.call n p o c (written [] name) d)
@@ -478,31 +498,31 @@ module _ (dialect : Dialect) (other : List Binding) where
       → ((n p : ℕ) → Spells dialect other n (at p (plain_name name) ∷ us) (Fine x h)) → Means x h (ts ++ us)
   begins_call name x h ts us (Tok.tok p) s n = s n p
 
-  call : (name : List ℕ) (f : Function) (k h : ℕ) (es : List Expr) (text : List ℕ) → IsNc name → function_named (encode_utf8_all name) ≡ Some f → permits f k ≡ true
-      → h + 1 ≤ 64 → Listing k es h text → Printable (e.Call f.fun es) (h + 1) (closed (name ++ in_parentheses text))
+  call : (name : List ℕ) (f : Fun) (k h : ℕ) (es : List Expr) (text : List ℕ) → IsNc name → function_named (encode_utf8_all name) ≡ Some f → permits f k ≡ true
+      → h + 1 ≤ 64 → Listing k es h text → Printable (e.Call f es) (h + 1) (closed (name ++ in_parentheses text))
   call name f k h es text nc is allowed l w =
       firm (name ++ in_parentheses text)
       (λ place d m.
       join (ncname name nc)
       (λ i. join (open_bracket (omega (arith, m)))
       (λ q. join (w.put q (d + 1) (omega (arith, m))) (λ r. narrows (λ rest b. tt) close_bracket) (λ rest b. Closes.at_close rest) (closes_call name f k h es is allowed l))
-      (λ rest b. tt) (opens_call name (e.Call f.fun es) (h + 1)))
-      (λ rest b. Breaks.at_open ((text ++ 41 ∷ []) ++ rest)) (begins_call name (e.Call f.fun es) (h + 1)))
+      (λ rest b. tt) (opens_call name (e.Call f es) (h + 1)))
+      (λ rest b. Breaks.at_open ((text ++ 41 ∷ []) ++ rest)) (begins_call name (e.Call f es) (h + 1)))
 
   is_leading : (k h g : ℕ) (es : List Expr) (x : Expr) → max h g + 0 ≤ 64 → (ts us : List Placed)
-      → ((vs : List Placed) → Tok token.Comma vs → Leading dialect other (more k) (ts ++ vs) (Fine (es ++ x ∷ []) (max h g + 0))) → Tok token.Comma us
-      → Leading dialect other (more k) (ts ++ us) (Fine (es ++ x ∷ []) (max h g + 0))
+      → ((vs : List Placed) → Tok token.Comma vs → Leading dialect other (next_count k) (ts ++ vs) (Fine (es ++ x ∷ []) (max h g + 0))) → Tok token.Comma us
+      → Leading dialect other (next_count k) (ts ++ us) (Fine (es ++ x ∷ []) (max h g + 0))
   is_leading k h g es x l ts us f c = f us c
 
   leads : (k h g : ℕ) (es : List Expr) (x : Expr) → max h g + 0 ≤ 64 → (ts us : List Placed) → Leading dialect other k ts (Fine es h)
       → ((n : ℕ) → n ≤ 1 → Spells dialect other n us (Fine x g)) → (vs : List Placed) → Tok token.Comma vs
-      → Leading dialect other (more k) ((ts ++ us) ++ vs) (Fine (es ++ x ∷ []) (max h g + 0))
+      → Leading dialect other (next_count k) ((ts ++ us) ++ vs) (Fine (es ++ x ∷ []) (max h g + 0))
   leads k h g es x l ts us d s vs (Tok.tok p) =
-      subst (λ m. Leading dialect other (more k) (ts ++ us ++ at p token.Comma ∷ []) m) (fits (es ++ x ∷ []) (max h g + 0) l) (Leading.further p d (s 1 (omega arith)))
+      subst (λ m. Leading dialect other (next_count k) (ts ++ us ++ at p token.Comma ∷ []) m) (fits (es ++ x ∷ []) (max h g + 0) l) (Leading.further p d (s 1 (omega arith)))
 
   is_last : (k h g : ℕ) (es : List Expr) (x : Expr) → max h g + 0 ≤ 64 → (ts us : List Placed) → Leading dialect other k ts (Fine es h)
-      → ((n : ℕ) → n ≤ 1 → Spells dialect other n us (Fine x g)) → Listed dialect other (more k) (ts ++ us) (Fine (es ++ x ∷ []) (max h g + 0))
-  is_last k h g es x l ts us d s = subst (λ m. Listed dialect other (more k) (ts ++ us) m) (fits (es ++ x ∷ []) (max h g + 0) l) (Listed.last d (s 1 (omega arith)))
+      → ((n : ℕ) → n ≤ 1 → Spells dialect other n us (Fine x g)) → Listed dialect other (next_count k) (ts ++ us) (Fine (es ++ x ∷ []) (max h g + 0))
+  is_last k h g es x l ts us d s = subst (λ m. Listed dialect other (next_count k) (ts ++ us) m) (fits (es ++ x ∷ []) (max h g + 0) l) (Listed.last d (s 1 (omega arith)))
 
   closes_predicate : (h g : ℕ) (es : List Expr) (x : Expr) → max h g + 0 ≤ 64 → (us vs : List Placed) → ((n : ℕ) → n ≤ 1 → Spells dialect other n us (Fine x g)) → Tok token.ClosePredicate vs
       → (o : ℕ) (ts : List Placed) → Predicates dialect other ts (Fine es h) → Predicates dialect other (ts ++ at o token.OpenPredicate ∷ (us ++ vs)) (Fine (es ++ x ∷ []) (max h g + 0))
@@ -588,10 +608,10 @@ module _ (dialect : Dialect) (other : List Binding) where
         let b = subst (Agrees other) (prefixes_var name) a in
         rewritten (sym (printed_var name)) (firm (36 ∷ name_text name)
         (λ place d l. join dollar (λ q. narrows closes_break (prefixed_name name.prefix name.uri name.local n.0 n.1)) (λ rest c. tt) (is_variable name n b)))
-    write (Good.call f word k h es is allowed all l) a =
-        rewritten (sym (printed_call f.fun es))
-        (call (word_of f.fun) f k h es (listed (map printed es)) (word_is_name word f is) (function_word word f is) allowed l
-        (write_listed all (subst (Agrees other) (prefixes_call f.fun es) a)))
+    write (Good.call f k h es allowed all l) a =
+        rewritten (sym (printed_call f es))
+        (call (word f) f k h es (listed (map printed es)) (word_is_name f) (named_in_utf8 f) allowed l
+        (write_listed all (subst (Agrees other) (prefixes_call f es) a)))
     write (Good.several k h es ne all l) a =
         rewritten (sym (printed_seq es)) (several k h es (listed (map printed es)) ne l (write_listed all (subst (Agrees other) (prefixes_seq es) a)))
     write (Good.negated x h w l) a = rewritten (sym (printed_neg x)) (negated x h (printed x) l (write w (subst (Agrees other) (prefixes_neg x) a)))
@@ -698,7 +718,7 @@ small : {dialect : Dialect} {x : Expr} {h : ℕ} → Good dialect x h → 0 + h 
 small (Good.whole n l) = lit≤ tt
 small (Good.literal text o) = lit≤ tt
 small (Good.variable name n) = lit≤ tt
-small (Good.call f word k g es is allowed all l) = omega (arith, l)
+small (Good.call f k g es allowed all l) = omega (arith, l)
 small (Good.several k g es ne all l) = omega (arith, l)
 small (Good.negated x g w l) = omega (arith, l)
 small (Good.operation b x y i g w v l) = omega (arith, l)

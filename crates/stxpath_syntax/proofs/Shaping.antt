@@ -1,12 +1,13 @@
 -- What was read is called well and no higher than allowed.
 use Rattle.std.proofs.Common.{◌≡◌, ℕ, ℤ, ◌+◌, ◌-◌, ◌^◌, ◌≤◌, ◌<◌, Bool, true, false, cond, nat_le, nat_eq, ◌&&◌, max, min, List, [], ◌∷◌, ◌++◌, map, Option, Some, None, Result, Ok, Err, IfOk, length, sym, ◌∙◌, refl, ap, subst, arith, lit≤, lit<}
 use Rattle.std.specs.List.{list_all}
-use Rattle.std.specs.Prelude.{encode_utf8_all}
 use Rattle.std.proofs.lemmas.Bool.Decides.{nat_tests}
 use Rattle.std.proofs.lemmas.Bool.{false≢true}
 use Rattle.std.proofs.lemmas.List.{length_push, length-map}
 use Rattle.std.proofs.lemmas.List.Folds.{list_all-map}
 use Rattle.stx_base.specs.declared.expression.Fun.{Fun}
+use Rattle.stx_base.specs.declared.expression.Fun.TheVariants as fun
+use Rattle.stx_base.specs.Functions.{permits}
 use Rattle.stx_base.specs.declared.name.Binding.{Binding}
 use Rattle.stx_base.specs.declared.name.Name.{Name}
 use Rattle.stx_base.specs.declared.node.NodeTest.{NodeTest}
@@ -31,16 +32,14 @@ use Rattle.stxpath_syntax.specs.declared.token.Operator.{Operator}
 use Rattle.stxpath_syntax.specs.declared.token.Operator.TheVariants as operator
 use Rattle.stxpath_syntax.specs.declared.token.Placed.{Placed}
 use Rattle.stxpath_syntax.specs.declared.token.Written.{Written}
-use Rattle.stxpath_syntax.specs.declared.words.Function.{Function}
-use Rattle.stxpath_syntax.specs.declared.words.TheConstants.{FUNCTIONS}
 use Rattle.stxpath_syntax.specs.Grammar.{Test, AttrTest, Ending, Spells, Leading, Listed, Predicates, Step, Steps, AttrStep, Alternates, Pattern}
-use Rattle.stxpath_syntax.specs.Meaning.{refused, made, operated, step, none, and_also, called_by, name_by, name_of, binding_by, binding_of, step_of, function_of, more}
+use Rattle.stxpath_syntax.specs.Counting.{next_count}
+use Rattle.stxpath_syntax.specs.Meaning.{refused, made, operated, step, none, and_also, called_by, name_by, name_of, binding_by, binding_of, step_of, function_of}
 use Rattle.stxpath_syntax.specs.Reading.{Gives}
-use Rattle.stxpath_syntax.specs.Shape.{permits, all_true, step_called_well, layer_called_well, is_called_well, is_step_called_well, is_alternative_called_well, is_part_called_well, greatest, step_height, layer_height, height, height_of_step, alternative_height, part_height}
+use Rattle.stxpath_syntax.specs.Shape.{all_true, step_called_well, layer_called_well, is_called_well, is_step_called_well, is_alternative_called_well, is_part_called_well, greatest, step_height, layer_height, height, height_of_step, alternative_height, part_height}
 use Rattle.stxpath_syntax.specs.Template.{Template, Read, Answers, IsExpression, IsPattern, IsTemplate, with_char, with_value}
-use Rattle.stxpath_syntax.specs.Words.{function_named, uri_of}
-use Rattle.stxpath_syntax.specs.Words as table
-use Rattle.stxpath_syntax.proofs.Heights.{IfFine, made_fine, joined_fine, found_in, function_plain}
+use Rattle.stxpath_syntax.specs.Words.{uri_of}
+use Rattle.stxpath_syntax.proofs.Heights.{IfFine, made_fine, joined_fine}
 
 -- ---- by layers
 
@@ -172,9 +171,9 @@ greatest_push tall (y ∷ xs) x = ap (max (tall y)) (greatest_push tall xs x) �
 none_well : {A : Type 0} (test : A → Bool) (tall : A → ℕ) → AllWell test tall [] 0
 none_well test tall = record { are_well = refl; are_high = refl; are_low = lit≤ tt }
 
-one_more : {A : Type 0} (test : A → Bool) (tall : A → ℕ) (xs : List A) (x : A) (h g : ℕ) → AllWell test tall xs h → Well test tall x g → max h g + 0 ≤ 64
+one_more_well : {A : Type 0} (test : A → Bool) (tall : A → ℕ) (xs : List A) (x : A) (h g : ℕ) → AllWell test tall xs h → Well test tall x g → max h g + 0 ≤ 64
     → AllWell test tall (xs ++ x ∷ []) (max h g + 0)
-one_more test tall xs x h g a w l = record {
+one_more_well test tall xs x h g a w l = record {
   are_well = all_push test xs x a.are_well w.is_well;
   are_high =
       greatest_push tall xs x ∙ ap (λ n. max n (tall x)) a.are_high ∙ ap (max h) w.is_high
@@ -186,7 +185,7 @@ also_well : {A : Type 0} (test : A → Bool) (tall : A → ℕ) (xs : Meant (Lis
     → IfFine (AllWell test tall) (and_also xs x)
 also_well test tall xs x a w =
     joined_fine (AllWell test tall) (Well test tall) (AllWell test tall) 0 (λ values value. values ++ value ∷ []) xs x a w
-    (λ xs x h g a w l. one_more test tall xs x h g a w l)
+    (λ xs x h g a w l. one_more_well test tall xs x h g a w l)
 
 abbrev WellExpr : Expr → ℕ → Type 0
 WellExpr = Well is_called_well height
@@ -205,11 +204,11 @@ record Counted (k : ℕ) (es : List Expr) (h : ℕ) : Type 0 where
 none_counted : Counted 0 [] 0
 none_counted = record { all_well = none_well is_called_well height; count = refl }
 
-further_counted : (k : ℕ) (es : Meant (List Expr)) (x : Meant Expr) → IfFine (Counted k) es → IfFine WellExpr x → IfFine (Counted (more k)) (and_also es x)
+further_counted : (k : ℕ) (es : Meant (List Expr)) (x : Meant Expr) → IfFine (Counted k) es → IfFine WellExpr x → IfFine (Counted (next_count k)) (and_also es x)
 further_counted k es x a w =
-    joined_fine (Counted k) WellExpr (Counted (more k)) 0 (λ values value. values ++ value ∷ []) es x a w
+    joined_fine (Counted k) WellExpr (Counted (next_count k)) 0 (λ values value. values ++ value ∷ []) es x a w
     (λ es x h g a w l. record {
-      all_well = one_more is_called_well height es x h g a.all_well w l;
+      all_well = one_more_well is_called_well height es x h g a.all_well w l;
       count = (let e = length_push es x in omega (arith, e, a.count));
     })
 
@@ -221,55 +220,74 @@ le_of n k h = grind (arith, nat_tests)
 le_to : (n k : ℕ) → n ≤ k → nat_le n k ≡ true
 le_to n k h = grind (arith, nat_tests)
 
+eq_of : (n k : ℕ) → nat_eq n k ≡ true → n ≡ k
+eq_of n k h = grind (arith, nat_tests)
+
 eq_to : (n k : ℕ) → n ≡ k → nat_eq n k ≡ true
 eq_to n k h = grind (arith, nat_tests)
 
-left_of : (a b : Bool) → (a && b) ≡ true → a ≡ true
-left_of true b h = refl
-left_of false b h = h
-
-right_of : (a b : Bool) → (a && b) ≡ true → b ≡ true
-right_of true b h = h
-right_of false b h = absurd (false≢true h)
+both : (a b : Bool) → (a && b) ≡ true → (a ≡ true) × (b ≡ true)
+both true b h = (refl, h)
+both false b h = absurd (false≢true h)
 
 -- a count that stops at the last number of 64 bits
 abbrev kept : ℕ → ℕ
 kept n = min n (2 ^ 64 - 1)
 
-at_most : (k n : ℕ) → k < 9 → (nat_le 0 (kept n) && nat_le (kept n) k) ≡ true → nat_le n k ≡ true
+at_most : (k n : ℕ) → k < 9 → nat_le (kept n) k ≡ true → nat_le n k ≡ true
 at_most k n s h =
-    let l = le_of (kept n) k (right_of (nat_le 0 (kept n)) (nat_le (kept n) k) h) in
+    let l = le_of (kept n) k h in
     le_to n k (omega (arith, l, s))
 
-just : (k n : ℕ) → k < 9 → (nat_le k (kept n) && nat_le (kept n) k) ≡ true → nat_eq n k ≡ true
+just : (k n : ℕ) → k < 9 → nat_eq (kept n) k ≡ true → nat_eq n k ≡ true
 just k n s h =
-    let f = le_of k (kept n) (left_of (nat_le k (kept n)) (nat_le (kept n) k) h) in
-    let l = le_of (kept n) k (right_of (nat_le k (kept n)) (nat_le (kept n) k) h) in
-    eq_to n k (omega (arith, f, l, s))
+    let e = eq_of (kept n) k h in
+    eq_to n k (omega (arith, e, s))
 
-from_on : (n : ℕ) → (nat_le 2 (kept n) && true) ≡ true → nat_le 2 n ≡ true
-from_on n h =
-    let f = le_of 2 (kept n) (left_of (nat_le 2 (kept n)) true h) in
+from_two : (n : ℕ) → nat_le 2 (kept n) ≡ true → nat_le 2 n ≡ true
+from_two n h =
+    let f = le_of 2 (kept n) h in
     le_to 2 n (omega (arith, f))
 
 between : (n : ℕ) → (nat_le 2 (kept n) && nat_le (kept n) 3) ≡ true → (nat_le 2 n && nat_le n 3) ≡ true
 between n h =
-    let f = le_of 2 (kept n) (left_of (nat_le 2 (kept n)) (nat_le (kept n) 3) h) in
-    let l = le_of (kept n) 3 (right_of (nat_le 2 (kept n)) (nat_le (kept n) 3) h) in
-    let x = le_to 2 n (omega (arith, f)) in
-    let y = le_to n 3 (omega (arith, l)) in
+    let b = both (nat_le 2 (kept n)) (nat_le (kept n) 3) h in
+    let x = from_two n b.0 in
+    let y = at_most 3 n (lit< tt) b.1 in
     rw (x, y) refl
 
--- what the table permits is what the function may have
-abbrev Permits : Function → Type 0
-Permits f = (n : ℕ) → table.permits f (kept n) ≡ true → permits f.fun n ≡ true
-
-function_permits : (word : List ℕ) (f : Function) → function_named word ≡ Some f → Permits f
-unfolding function_named
-function_permits word f is =
-    found_in Permits (map (λ entry. (entry.0.now, entry.1)) FUNCTIONS) word f
-    ((λ n h. at_most 1 n (lit< tt) h), ((λ n h. at_most 1 n (lit< tt) h), ((λ n h. at_most 1 n (lit< tt) h), ((λ n h. just 0 n (lit< tt) h), ((λ n h. just 0 n (lit< tt) h), ((λ n h. just 0 n (lit< tt) h), ((λ n h. at_most 1 n (lit< tt) h), ((λ n h. just 1 n (lit< tt) h), ((λ n h. just 1 n (lit< tt) h), ((λ n h. just 1 n (lit< tt) h), ((λ n h. just 0 n (lit< tt) h), ((λ n h. just 0 n (lit< tt) h), ((λ n h. from_on n h), ((λ n h. just 2 n (lit< tt) h), ((λ n h. at_most 1 n (lit< tt) h), ((λ n h. between n h), ((λ n h. just 2 n (lit< tt) h), ((λ n h. just 2 n (lit< tt) h), ((λ n h. just 2 n (lit< tt) h), ((λ n h. just 2 n (lit< tt) h), ((λ n h. just 2 n (lit< tt) h), ((λ n h. at_most 1 n (lit< tt) h), ((λ n h. just 3 n (lit< tt) h), ((λ n h. just 1 n (lit< tt) h), ((λ n h. just 1 n (lit< tt) h), ((λ n h. just 1 n (lit< tt) h), ((λ n h. just 1 n (lit< tt) h), ((λ n h. just 2 n (lit< tt) h), ((λ n h. just 2 n (lit< tt) h), ((λ n h. between n h), tt))))))))))))))))))))))))))))))
-    is
+-- a count that stops there permits nothing more
+kept_permits : (f : Fun) (n : ℕ) → permits f (kept n) ≡ true → permits f n ≡ true
+kept_permits fun.Name n h = at_most 1 n (lit< tt) h
+kept_permits fun.LocalName n h = at_most 1 n (lit< tt) h
+kept_permits fun.NamespaceUri n h = at_most 1 n (lit< tt) h
+kept_permits fun.Position n h = just 0 n (lit< tt) h
+kept_permits fun.Level n h = just 0 n (lit< tt) h
+kept_permits fun.HasChildNodes n h = just 0 n (lit< tt) h
+kept_permits fun.Str n h = at_most 1 n (lit< tt) h
+kept_permits fun.Integer n h = just 1 n (lit< tt) h
+kept_permits fun.Boolean n h = just 1 n (lit< tt) h
+kept_permits fun.Not n h = just 1 n (lit< tt) h
+kept_permits fun.True n h = just 0 n (lit< tt) h
+kept_permits fun.False n h = just 0 n (lit< tt) h
+kept_permits fun.Concat n h = from_two n h
+kept_permits fun.StringJoin n h = just 2 n (lit< tt) h
+kept_permits fun.StringLength n h = at_most 1 n (lit< tt) h
+kept_permits fun.Substring n h = between n h
+kept_permits fun.SubstringBefore n h = just 2 n (lit< tt) h
+kept_permits fun.SubstringAfter n h = just 2 n (lit< tt) h
+kept_permits fun.Contains n h = just 2 n (lit< tt) h
+kept_permits fun.StartsWith n h = just 2 n (lit< tt) h
+kept_permits fun.EndsWith n h = just 2 n (lit< tt) h
+kept_permits fun.NormalizeSpace n h = at_most 1 n (lit< tt) h
+kept_permits fun.Translate n h = just 3 n (lit< tt) h
+kept_permits fun.Count n h = just 1 n (lit< tt) h
+kept_permits fun.Empty n h = just 1 n (lit< tt) h
+kept_permits fun.Exists n h = just 1 n (lit< tt) h
+kept_permits fun.Sum n h = just 1 n (lit< tt) h
+kept_permits fun.ItemAt n h = just 2 n (lit< tt) h
+kept_permits fun.IndexOf n h = just 2 n (lit< tt) h
+kept_permits fun.Subsequence n h = between n h
 
 -- ---- expressions
 
@@ -317,24 +335,23 @@ ending_flat : (scope : List Binding) {ts : List Placed} {t : Meant (Option NodeT
 ending_flat scope Ending.without = refl
 ending_flat scope (Ending.attributes s {ts} {t} d) = flat_on Some t (attr_flat scope d)
 
-call_well : (f : Function) (k h : ℕ) (es : List Expr) → Permits f → table.permits f k ≡ true → Counted k es h → h + 1 ≤ 64 → WellExpr (e.Call f.fun es) (h + 1)
-call_well f k h es may is a l = record {
+call_well : (f : Fun) (k h : ℕ) (es : List Expr) → permits f k ≡ true → Counted k es h → h + 1 ≤ 64 → WellExpr (e.Call f es) (h + 1)
+call_well f k h es is a l = record {
   is_well =
-      called_call f.fun es
-      ∙ ap (λ n. permits f.fun n && all_true (map is_called_well es)) (length-map es is_called_well)
-      ∙ ap (λ b. b && all_true (map is_called_well es)) (may (length es) (subst (λ n. table.permits f n ≡ true) a.count is))
+      called_call f es
+      ∙ ap (λ n. permits f n && all_true (map is_called_well es)) (length-map es is_called_well)
+      ∙ ap (λ b. b && all_true (map is_called_well es)) (kept_permits f (length es) (subst (λ n. permits f n ≡ true) a.count is))
       ∙ list_all-map (λ b. b) is_called_well es ∙ a.all_well.are_well;
-  is_high = high_call f.fun es ∙ ap (λ n. n + 1) a.all_well.are_high;
+  is_high = high_call f es ∙ ap (λ n. n + 1) a.all_well.are_high;
   is_low = l;
 }
 
-called_is_well : (o : Option Function) (word : List ℕ) (p k : ℕ) (es : Meant (List Expr)) → ((f : Function) → o ≡ Some f → function_named word ≡ Some f) → IfFine (Counted k) es
-    → IfFine WellExpr (called_by o p k es)
-called_is_well None word p k es w a = tt
-called_is_well (Some f) word p k es w a = by (table.permits f k) refl
+called_is_well : (o : Option Fun) (p k : ℕ) (es : Meant (List Expr)) → IfFine (Counted k) es → IfFine WellExpr (called_by o p k es)
+called_is_well None p k es a = tt
+called_is_well (Some f) p k es a = by (permits f k) refl
   where
-    by : (b : Bool) → table.permits f k ≡ b → IfFine WellExpr (cond b (made 1 (e.Call f.fun) es) (refused kind.Arity p))
-    by true is = made_fine (Counted k) WellExpr 1 (e.Call f.fun) es a (λ xs h g l. call_well f k h xs (function_permits word f (w f refl)) is g l)
+    by : (b : Bool) → permits f k ≡ b → IfFine WellExpr (cond b (made 1 (e.Call f) es) (refused kind.Arity p))
+    by true is = made_fine (Counted k) WellExpr 1 (e.Call f) es a (λ xs h g l. call_well f k h xs is g l)
     by false is = tt
 
 seq_well : (es : List Expr) (h : ℕ) → WellExprs es h → h + 1 ≤ 64 → WellExpr (e.Seq es) (h + 1)
@@ -391,7 +408,7 @@ module _ (dialect : Dialect) (scope : List Binding) where
     well (Spells.variable n d p name) =
         leaf_on e.Var (name_of scope name p) (named_flat scope name p) (λ name. leaf_well (e.Var name) (called_var name) (high_var name))
     well (Spells.call n p o c name {k} {ts} {es} d) =
-        called_is_well (function_of name) (encode_utf8_all name.local) p k es (λ f is. function_plain name f is) (well_listed d)
+        called_is_well (function_of name) p k es (well_listed d)
     well (Spells.single n o c {ts} {x} d) = well d
     well (Spells.several n o c {k} {ts} {es} d ne) =
         made_fine (Counted k) WellExpr 1 e.Seq es (well_listed d) (λ es h a l. seq_well es h a.all_well l)

@@ -1,4 +1,6 @@
+pub mod Counting
 pub mod Words
+pub mod Functions
 pub mod Tokens
 pub mod Lexing
 pub mod Meaning

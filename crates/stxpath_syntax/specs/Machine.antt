@@ -36,7 +36,8 @@ use Rattle.stxpath_syntax.specs.declared.token.Token.{Token}
 use Rattle.stxpath_syntax.specs.declared.token.Token.TheVariants as token
 use Rattle.stxpath_syntax.specs.declared.token.Written.{Written}
 use Rattle.stxpath_syntax.specs.Grammar.{level, left_level}
-use Rattle.stxpath_syntax.specs.Meaning.{none, flat, neg, operated, and_also, seq, var, attr, root, untested, some, up, abs, step as step_meant, steps, name_of, type_of, element_named, element_within, attribute_named, attribute_within, called, more}
+use Rattle.stxpath_syntax.specs.Counting.{next_count}
+use Rattle.stxpath_syntax.specs.Meaning.{none, flat, neg, operated, and_also, seq, var, attr, root, untested, some, up, abs, step as step_meant, steps, name_of, type_of, element_named, element_within, attribute_named, attribute_within, called}
 
 -- what follows a token, if a reading goes on with it
 abbrev pub Next : Type 0
@@ -107,13 +108,13 @@ grouped items count last = if count == 0 then last else seq (and_also items last
 -- `)` behind an expression
 abbrev pub close : List Frame × Meant Expr → Next
 close (Group items count ∷ frames, last) = completed frames (grouped items count last)
-close (Call name at items count ∷ frames, last) = completed frames (called name at (more count) (and_also items last))
+close (Call name at items count ∷ frames, last) = completed frames (called name at (next_count count) (and_also items last))
 close _ = None
 
 -- brackets with one more expression, behind a comma
 abbrev pub separated : Frame → Meant Expr → Option Frame
-separated (Group items count) last = Some (Group (and_also items last) (more count))
-separated (Call name at items count) last = Some (Call name at (and_also items last) (more count))
+separated (Group items count) last = Some (Group (and_also items last) (next_count count))
+separated (Call name at items count) last = Some (Call name at (and_also items last) (next_count count))
 separated _ last = None
 
 -- a comma behind an expression
@@ -251,7 +252,7 @@ above frames n at t = complete frames (up n untested) at t
 
 -- a token behind `.` or `..`, and `/`
 abbrev pub higher : ℕ → Token → Option Mode
-higher n token.DotDot = if n == 0 then None else Some (Above (more n))
+higher n token.DotDot = if n == 0 then None else Some (Above (next_count n))
 higher n token.At = Some (Attribute (owner.Above n))
 higher n _ = None
 
@@ -380,6 +381,11 @@ abbrev pub Turns : Next → Result Mode Stop → List Frame → Type 0
 Turns next (Ok mode) frames = next ≡ Some (frames, mode)
 Turns next (Err stop.Stuck) frames = next ≡ None
 Turns next (Err stop.Memory) frames = Unit {0}
+
+-- the frame that was on top, if it binds at least so tightly
+abbrev pub TakesBound : ℕ → List Frame → Option Frame → List Frame → Type 0
+TakesBound least old None new = (top_binds least old ≡ false) × (new ≡ old)
+TakesBound least old (Some frame) new = (top_binds least old ≡ true) × (old ≡ frame ∷ new)
 
 abbrev pub Gathers : ℕ → List Frame → Meant Expr → Result (Meant Expr) Memory → List Frame → Type 0
 Gathers least old last (Ok operand) new = gathered least old last ≡ (new, operand)

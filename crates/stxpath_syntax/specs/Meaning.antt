@@ -1,9 +1,11 @@
 -- What tokens mean: a value with the height of its tree, a tree that is too high, or the first fault in the order of the tokens.
-use Rattle.std.specs.Prelude.{ℕ, ◌+◌, ◌-◌, ◌^◌, ◌==◌, max, min, nat_le, List, [], ◌∷◌, ◌++◌, Option, Some, None, length, if◌then◌else◌, encode_utf8_all}
+use Rattle.std.specs.Prelude.{ℕ, ◌+◌, ◌==◌, max, nat_le, List, [], ◌∷◌, ◌++◌, Option, Some, None, length, if◌then◌else◌, encode_utf8_all}
+use Rattle.stx_base.specs.declared.expression.Fun.{Fun}
 use Rattle.stx_base.specs.declared.name.Name.{Name}
 use Rattle.stx_base.specs.declared.name.Binding.{Binding}
 use Rattle.stx_base.specs.declared.node.NodeTest.{NodeTest}
 use Rattle.stx_base.specs.declared.node.NodeTest.TheVariants as test
+use Rattle.stx_base.specs.Functions.{permits}
 use Rattle.stxpath_syntax.specs.declared.dialect.Dialect.{Dialect}
 use Rattle.stxpath_syntax.specs.declared.expr.Alternative.{Alternative}
 use Rattle.stxpath_syntax.specs.declared.expr.Alternative.TheVariants as alternative
@@ -20,8 +22,8 @@ use Rattle.stxpath_syntax.specs.declared.meant.Meant.TheVariants.{Fine, High, Ba
 use Rattle.stxpath_syntax.specs.declared.token.Written.{Written}
 use Rattle.stxpath_syntax.specs.declared.token.Operator.{Operator}
 use Rattle.stxpath_syntax.specs.declared.token.Operator.TheVariants as operator
-use Rattle.stxpath_syntax.specs.declared.words.Function.{Function}
-use Rattle.stxpath_syntax.specs.Words.{function_named, type_named, permits, uri_of}
+use Rattle.stxpath_syntax.specs.Functions.{function_named}
+use Rattle.stxpath_syntax.specs.Words.{type_named, uri_of}
 
 -- how high a tree may be, a leaf being 1
 abbrev pub max_height : ℕ
@@ -47,12 +49,12 @@ spoiled High = High
 spoiled (Fine value height) = High
 
 -- made of two, one after the other: a fault of the first comes first, and any fault before a height
-abbrev pub joined : {A B C : Type 0} → ℕ → (A → B → C) → Meant A → Meant B → Meant C
-joined levels f (Bad fault) b = Bad fault
-joined levels f High b = spoiled b
-joined levels f (Fine a height) (Bad fault) = Bad fault
-joined levels f (Fine a height) High = High
-joined levels f (Fine a height) (Fine b more) = of_height (f a b) (max height more + levels)
+abbrev pub made_of_two : {A B C : Type 0} → ℕ → (A → B → C) → Meant A → Meant B → Meant C
+made_of_two levels f (Bad fault) b = Bad fault
+made_of_two levels f High b = spoiled b
+made_of_two levels f (Fine a height) (Bad fault) = Bad fault
+made_of_two levels f (Fine a height) High = High
+made_of_two levels f (Fine a height) (Fine b more) = of_height (f a b) (max height more + levels)
 
 -- no value yet
 abbrev pub none : {A : Type 0} → Meant (List A)
@@ -60,13 +62,13 @@ none = Fine [] 0
 
 -- values one after another, and one more
 abbrev pub and_also : {A : Type 0} → Meant (List A) → Meant A → Meant (List A)
-and_also = joined 0 (λ values value. values ++ value ∷ [])
+and_also = made_of_two 0 (λ values value. values ++ value ∷ [])
 
 abbrev pub neg : Meant Expr → Meant Expr
 neg = made 1 e.Neg
 
 abbrev pub binary : Bin → Meant Expr → Meant Expr → Meant Expr
-binary bin = joined 1 (e.Binary bin)
+binary bin = made_of_two 1 (e.Binary bin)
 
 -- the fault that `div` at a place makes of its left operand
 abbrev pub divided : ℕ → Meant Expr → PathFault
@@ -103,14 +105,14 @@ abbrev pub up : ℕ → Meant (Option NodeTest) → Meant Expr
 up n = made 1 (e.Up n)
 
 abbrev pub abs : Meant (List PathStep) → Meant (Option NodeTest) → Meant Expr
-abs = joined 1 e.Abs
+abs = made_of_two 1 e.Abs
 
 abbrev pub step_of : Link → NodeTest → List Expr → PathStep
 step_of link test predicates = roll-PathStep (record { link = link; test = test; predicates = predicates })
 
 -- a step is as high as its highest predicate
 abbrev pub step : Link → Meant NodeTest → Meant (List Expr) → Meant PathStep
-step link = joined 0 (step_of link)
+step link = made_of_two 0 (step_of link)
 
 abbrev pub steps : Meant (List PathStep) → Meant Alternative
 steps = made 0 alternative.Steps
@@ -151,17 +153,13 @@ abbrev pub type_of : Dialect → Written → Option NodeTest
 type_of dialect written = if length written.prefix == 0 then type_named dialect (encode_utf8_all written.local) else None
 
 -- a function has no prefix
-abbrev pub function_of : Written → Option Function
+abbrev pub function_of : Written → Option Fun
 function_of written = if length written.prefix == 0 then function_named (encode_utf8_all written.local) else None
 
-abbrev pub called_by : Option Function → ℕ → ℕ → Meant (List Expr) → Meant Expr
+abbrev pub called_by : Option Fun → ℕ → ℕ → Meant (List Expr) → Meant Expr
 called_by None at n arguments = refused kind.UnknownFunction at
-called_by (Some f) at n arguments = if permits f n then made 1 (e.Call f.fun) arguments else refused kind.Arity at
+called_by (Some f) at n arguments = if permits f n then made 1 (e.Call f) arguments else refused kind.Arity at
 
 -- a call of n arguments, with its name at a place: its own fault stands before those of its arguments
 abbrev pub called : Written → ℕ → ℕ → Meant (List Expr) → Meant Expr
 called written = called_by (function_of written)
-
--- one more, up to the last number of 64 bits
-abbrev pub more : ℕ → ℕ
-more n = min (n + 1) (2 ^ 64 - 1)

@@ -4,14 +4,13 @@ use Rattle.std.specs.Fmt.{signed_decimal}
 use Rattle.std.specs.List.{concat, flat_map, join_by, list_any, repeat}
 use Rattle.stx_base.specs.declared.expression.Cmp.{Cmp}
 use Rattle.stx_base.specs.declared.expression.Cmp.TheVariants as cmp
-use Rattle.stx_base.specs.declared.expression.Fun.{Fun}
-use Rattle.stx_base.specs.declared.expression.Fun.TheVariants as fun
 use Rattle.stx_base.specs.declared.expression.Op.{Op}
 use Rattle.stx_base.specs.declared.expression.Op.TheVariants as op
 use Rattle.stx_base.specs.declared.name.Binding.{Binding}
 use Rattle.stx_base.specs.declared.name.Name.{Name}
 use Rattle.stx_base.specs.declared.node.NodeTest.{NodeTest}
 use Rattle.stx_base.specs.declared.node.NodeTest.TheVariants as test
+use Rattle.stx_base.specs.Functions.{word}
 use Rattle.stxpath_syntax.specs.declared.expr.Bin.{Bin}
 use Rattle.stxpath_syntax.specs.declared.expr.Bin.TheVariants as bin
 use Rattle.stxpath_syntax.specs.declared.expr.Expr.{Expr}
@@ -21,38 +20,6 @@ use Rattle.stxpath_syntax.specs.declared.expr.Link.{Link}
 use Rattle.stxpath_syntax.specs.declared.expr.Link.TheVariants as link
 use Rattle.stxpath_syntax.specs.declared.expr.PathStep.{PathStep}
 use Rattle.stxpath_syntax.specs.Words.{uri_of}
-
-abbrev pub word_of : Fun → List ℕ
-word_of fun.Name = codes "name"
-word_of fun.LocalName = codes "local-name"
-word_of fun.NamespaceUri = codes "namespace-uri"
-word_of fun.Position = codes "position"
-word_of fun.Level = codes "level"
-word_of fun.HasChildNodes = codes "has-child-nodes"
-word_of fun.Str = codes "string"
-word_of fun.Integer = codes "integer"
-word_of fun.Boolean = codes "boolean"
-word_of fun.Not = codes "not"
-word_of fun.True = codes "true"
-word_of fun.False = codes "false"
-word_of fun.Concat = codes "concat"
-word_of fun.StringJoin = codes "string-join"
-word_of fun.StringLength = codes "string-length"
-word_of fun.Substring = codes "substring"
-word_of fun.SubstringBefore = codes "substring-before"
-word_of fun.SubstringAfter = codes "substring-after"
-word_of fun.Contains = codes "contains"
-word_of fun.StartsWith = codes "starts-with"
-word_of fun.EndsWith = codes "ends-with"
-word_of fun.NormalizeSpace = codes "normalize-space"
-word_of fun.Translate = codes "translate"
-word_of fun.Count = codes "count"
-word_of fun.Empty = codes "empty"
-word_of fun.Exists = codes "exists"
-word_of fun.Sum = codes "sum"
-word_of fun.ItemAt = codes "item-at"
-word_of fun.IndexOf = codes "index-of"
-word_of fun.Subsequence = codes "subsequence"
 
 abbrev pub comparison_sign : Cmp → List ℕ
 comparison_sign cmp.Eq = codes "="
@@ -163,7 +130,7 @@ abbrev pub layer : Expr-F Printed (List ℕ) → Printed
 layer (Expr-F.Whole i) = closed (signed_decimal i)
 layer (Expr-F.Literal text) = closed (quoted text)
 layer (Expr-F.Var name) = closed (36 ∷ name_text name)
-layer (Expr-F.Call f arguments) = closed (word_of f ++ in_parentheses (listed arguments))
+layer (Expr-F.Call f arguments) = closed (word f ++ in_parentheses (listed arguments))
 layer (Expr-F.Seq items) = closed (in_parentheses (listed items))
 layer (Expr-F.Neg x) = loose (45 ∷ operand x)
 layer (Expr-F.Binary b x y) = loose (operand x ++ 32 ∷ (sign_of b ++ 32 ∷ operand y))

@@ -1,8 +1,7 @@
 -- Expressions as trees: how many arguments each call has, and how high a tree is.
-use Rattle.std.specs.Prelude.{◌≡◌, ℕ, ◌+◌, ◌≤◌, All, max, ◌==◌, nat_le, Bool, true, ◌&&◌, List, [], ◌∷◌, length, map}
+use Rattle.std.specs.Prelude.{◌≡◌, ℕ, ◌+◌, ◌≤◌, All, max, Bool, true, ◌&&◌, List, [], ◌∷◌, length, map}
 use Rattle.std.specs.List.{list_all}
-use Rattle.stx_base.specs.declared.expression.Fun.{Fun}
-use Rattle.stx_base.specs.declared.expression.Fun.TheVariants as fun
+pub use Rattle.stx_base.specs.Functions.{permits}
 use Rattle.stxpath_syntax.specs.declared.expr.Alternative.{Alternative}
 use Rattle.stxpath_syntax.specs.declared.expr.Alternative.TheVariants as alternative
 use Rattle.stxpath_syntax.specs.declared.expr.AvtPart.{AvtPart}
@@ -11,39 +10,6 @@ use Rattle.stxpath_syntax.specs.declared.expr.Expr.{Expr}
 use Rattle.stxpath_syntax.specs.declared.expr.Expr.TheFolds.{fold-Expr, fold-PathStep}
 use Rattle.stxpath_syntax.specs.declared.expr.Expr.TheOpen.{Expr-F, PathStep-F}
 use Rattle.stxpath_syntax.specs.declared.expr.PathStep.{PathStep}
-
--- how many arguments a function may have
-abbrev pub permits : Fun → ℕ → Bool
-permits fun.Name n = nat_le n 1
-permits fun.LocalName n = nat_le n 1
-permits fun.NamespaceUri n = nat_le n 1
-permits fun.Position n = n == 0
-permits fun.Level n = n == 0
-permits fun.HasChildNodes n = n == 0
-permits fun.Str n = nat_le n 1
-permits fun.Integer n = n == 1
-permits fun.Boolean n = n == 1
-permits fun.Not n = n == 1
-permits fun.True n = n == 0
-permits fun.False n = n == 0
-permits fun.Concat n = nat_le 2 n
-permits fun.StringJoin n = n == 2
-permits fun.StringLength n = nat_le n 1
-permits fun.Substring n = nat_le 2 n && nat_le n 3
-permits fun.SubstringBefore n = n == 2
-permits fun.SubstringAfter n = n == 2
-permits fun.Contains n = n == 2
-permits fun.StartsWith n = n == 2
-permits fun.EndsWith n = n == 2
-permits fun.NormalizeSpace n = nat_le n 1
-permits fun.Translate n = n == 3
-permits fun.Count n = n == 1
-permits fun.Empty n = n == 1
-permits fun.Exists n = n == 1
-permits fun.Sum n = n == 1
-permits fun.ItemAt n = n == 2
-permits fun.IndexOf n = n == 2
-permits fun.Subsequence n = nat_le 2 n && nat_le n 3
 
 abbrev pub all_true : List Bool → Bool
 all_true bs = list_all (λ b. b) bs

@@ -35,9 +35,9 @@ with_chars [] parts = parts
 with_chars (c ∷ cs) parts = with_char c (with_chars cs parts)
 
 -- parts before others
-abbrev pub behind : List AvtPart → Read (List AvtPart) → Read (List AvtPart)
-behind before (Ok parts) = Ok (before ++ parts)
-behind before (Err why) = Err why
+abbrev pub with_parts : List AvtPart → Read (List AvtPart) → Read (List AvtPart)
+with_parts before (Ok parts) = Ok (before ++ parts)
+with_parts before (Err why) = Err why
 
 -- parts and plain characters behind them, with one piece more
 abbrev pub Appended : List AvtPart → List ℕ → Piece → List AvtPart → List ℕ → Type 0

@@ -16,7 +16,7 @@ use Rattle.stxpath_syntax.specs.declared.token.Operator.TheVariants as operator
 use Rattle.stxpath_syntax.specs.declared.token.Token.{Token}
 use Rattle.stxpath_syntax.specs.declared.token.Token.TheVariants as token
 use Rattle.stxpath_syntax.specs.declared.token.Placed.{Placed}
-use Rattle.stxpath_syntax.specs.Meaning.{more}
+use Rattle.stxpath_syntax.specs.Counting.{next_count}
 use Rattle.stxpath_syntax.specs.Words.{operator_named}
 
 -- whether a character at this place passes the test
@@ -174,7 +174,7 @@ begun at = record { at = at; opened = 0; is_operand = false }
 abbrev pub behind : Before → Token → ℕ → Before
 behind before t end = record {
   at = end;
-  opened = if opens t then more before.opened else if closes t then before.opened - 1 else before.opened;
+  opened = if opens t then next_count before.opened else if closes t then before.opened - 1 else before.opened;
   is_operand = ends_operand t;
 }
 

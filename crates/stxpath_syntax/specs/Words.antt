@@ -1,5 +1,5 @@
--- The words of the path language: operators, functions, node types, prefixes. A word is compared by its UTF-8.
-use Rattle.std.specs.Prelude.{ℕ, Bool, true, ◌&&◌, nat_le, bytes_eq, List, [], ◌∷◌, map, Option, Some, None, if◌then◌else◌, codes, encode_utf8_all}
+-- The words of the path language: operators, node types, prefixes. A word is compared by its UTF-8.
+use Rattle.std.specs.Prelude.{ℕ, bytes_eq, List, [], ◌∷◌, Option, Some, None, if◌then◌else◌, codes, encode_utf8_all}
 use Rattle.std.specs.Option.{option_or}
 use Rattle.std.specs.Str.{chars}
 use Rattle.stx_base.specs.declared.name.Binding.{Binding}
@@ -11,8 +11,6 @@ use Rattle.stxpath_syntax.specs.declared.dialect.Dialect.TheVariants.{One, OneOn
 use Rattle.stxpath_syntax.specs.declared.expr.Bin.TheVariants as bin
 use Rattle.stxpath_syntax.specs.declared.token.Operator.{Operator}
 use Rattle.stxpath_syntax.specs.declared.token.Operator.TheVariants as operator
-use Rattle.stxpath_syntax.specs.declared.words.Function.{Function}
-use Rattle.stxpath_syntax.specs.declared.words.TheConstants.{FUNCTIONS}
 
 -- the operators that are words
 abbrev pub operator_named : List ℕ → Option Operator
@@ -38,23 +36,6 @@ type_named dialect word =
     else if bytes_eq word (codes "comment") then Some test.Comment
     else if bytes_eq word (codes "processing-instruction") then Some test.AnyPi
     else None
-
--- what stands beside the first entry with this word
-abbrev pub lookup : {A : Type 0} → List (List ℕ × A) → List ℕ → Option A
-lookup [] word = None
-lookup (entry ∷ entries) word = if bytes_eq entry.0 word then Some entry.1 else lookup entries word
-
--- the functions by name, with the numbers of arguments that they take: the table of the source
-unfoldable pub function_named : List ℕ → Option Function
-function_named = lookup (map (λ entry. (entry.0.now, entry.1)) FUNCTIONS)
-
--- whether n is no more than the bound, if there is one
-abbrev pub within : ℕ → Option ℕ → Bool
-within n None = true
-within n (Some most) = nat_le n most
-
-abbrev pub permits : Function → ℕ → Bool
-permits f n = nat_le f.least n && within n f.most
 
 -- the URI to which the list binds the prefix: its last binding of it is the nearest
 abbrev pub bound_by : List Binding → List ℕ → Option (List ℕ)

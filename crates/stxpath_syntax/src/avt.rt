@@ -15,14 +15,14 @@ use std::alloc::Global;
 use stx_base::{Binding, List, Memory, Text};
 
 /// What stands at the front of a template.
-#[derive(Debug, Drop)]
+#[derive(Drop)]
 enum Piece {
     Plain(char),
     Value(Expr),
 }
 
 /// A piece with its length.
-#[derive(Debug, Drop)]
+#[derive(Drop)]
 struct Cut {
     piece: Piece,
     len: usize,

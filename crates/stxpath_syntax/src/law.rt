@@ -7,9 +7,14 @@ pub fn one_reading()
     ensures { law.OneReading }
 {}
 
-/// A text is read as one expression, pattern or template, or has one first fault.
+/// Each text is read as one expression, pattern or template, or has one first fault: there is such an answer, and no other.
 pub fn one_answer()
     ensures { law.OneAnswer }
+{}
+
+/// Each function has its name, and no name but its own.
+pub fn named()
+    ensures { law.Named }
 {}
 
 /// What is printed of an expression that was read is read as it again.

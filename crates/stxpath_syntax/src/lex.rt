@@ -462,7 +462,7 @@ fn is_too_deep(opened: usize, token: &Token) -> bool
 }
 
 /// A token with its length and the white space before it.
-#[derive(Debug, Drop)]
+#[derive(Drop)]
 struct Found {
     placed: Placed,
     len: usize,

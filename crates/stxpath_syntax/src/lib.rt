@@ -5,6 +5,7 @@ mod avt;
 mod dialect;
 mod expr;
 mod fault;
+mod functions;
 pub mod law;
 mod lex;
 mod meant;

@@ -6,16 +6,16 @@ ghost use Rattle.stxpath_syntax.specs.Meaning as spec;
 
 use crate::expr::{Alternative, Bin, Expr, Link, PathStep};
 use crate::fault::{PathFault, PathKind};
+use crate::functions::permits;
 use crate::token::Operator;
-use crate::words::Function;
 use std::alloc::Global;
-use stx_base::{Boxed, List, Memory, Name, NodeTest};
+use stx_base::{Boxed, Fun, List, Memory, Name, NodeTest};
 
 /// How high a tree may be.
 const MAX_HEIGHT: usize = 64;
 
 /// What tokens mean, so far as it is of use.
-#[derive(Debug, Drop)]
+#[derive(Drop)]
 pub enum Meant<T> {
     /// A value, with the height of its tree.
     Fine(T, usize),
@@ -201,7 +201,7 @@ pub fn seq(items: Meant<List<Expr>>) -> Meant<Expr>
 
 /// A call of so many arguments, with its function's name at a place.
 pub fn called(
-    function: Option<Function>,
+    function: Option<Fun>,
     at: usize,
     count: usize,
     items: Meant<List<Expr>>,
@@ -210,20 +210,20 @@ pub fn called(
 {
     match function {
         None => refused(PathKind::UnknownFunction, at),
-        Some(function) => called_with(function, at, count, items),
+        Some(fun) => called_with(fun, at, count, items),
     }
 }
 
-fn called_with(function: Function, at: usize, count: usize, items: Meant<List<Expr>>) -> Meant<Expr>
-    ensures { result ≡ spec.called_by (Just function) at count items }
+fn called_with(fun: Fun, at: usize, count: usize, items: Meant<List<Expr>>) -> Meant<Expr>
+    ensures { result ≡ spec.called_by (Just fun) at count items }
 {
-    if !function.permits(count) {
+    if !permits(fun, count) {
         return refused(PathKind::Arity, at);
     }
     match items {
         Meant::Bad(fault) => Meant::Bad(fault),
         Meant::High => Meant::High,
-        Meant::Fine(items, height) => above(Expr::Call(function.fun, items), height),
+        Meant::Fine(items, height) => above(Expr::Call(fun, items), height),
     }
 }
 

@@ -1,6 +1,7 @@
 //! Tokens behind operands, and those that begin them.
 
 ghost use Rattle.std.specs.Prelude.{◌≡◌, Some as Just, IfOk};
+ghost use Rattle.stxpath_syntax.specs.Counting.{next_count};
 ghost use Rattle.stxpath_syntax.specs.Grammar as grammar;
 ghost use Rattle.stxpath_syntax.specs.Meaning as meaning;
 ghost use Rattle.stxpath_syntax.specs.Ending as ending;
@@ -73,6 +74,17 @@ fn top_binds(least: u8, stack: &Stack<Frame>) -> bool
     }
 }
 
+/// Takes the top off, where it is part of an operand that binds at least so tightly.
+fn take_bound(least: u8, stack: &mut Stack<Frame>) -> Option<Frame>
+    ensures { spec.TakesBound least stack.old result stack.new }
+{
+    if top_binds(least, stack) {
+        stack.pop()
+    } else {
+        None
+    }
+}
+
 /// Takes what binds at least so tightly off the stack and makes it one operand with the last.
 pub fn gather(
     alloc: Global,
@@ -83,11 +95,8 @@ pub fn gather(
     ensures { spec.Gathers least stack.old last result stack.new }
 {
     let mut operand = last;
-    'frames: while top_binds(least, stack) {
-        match stack.pop() {
-            Some(frame) => operand = reduced(alloc, frame, operand)?,
-            None => return Ok(operand),
-        }
+    'frames: while let Some(frame) = take_bound(least, stack) {
+        operand = reduced(alloc, frame, operand)?;
     }
     Ok(operand)
 }
@@ -157,7 +166,7 @@ fn called(
     items: Meant<List<Expr>>,
     last: Meant<Expr>,
 ) -> Result<Mode, Stop>
-    ensures { spec.Takes (Just (Mode.Complete (meaning.called name at (meaning.more count) (meaning.and_also items last)))) result }
+    ensures { spec.Takes (Just (Mode.Complete (meaning.called name at (next_count count) (meaning.and_also items last)))) result }
 {
     let items = meant::and_also(items, last)?;
     Ok(call(&name, at, count.saturating_add(1), items))
@@ -279,7 +288,7 @@ fn wait(
 }
 
 /// What ends an operand, or an operator that follows it.
-#[derive(Clone, Copy, Debug, PartialEq, Eq)]
+#[derive(Clone, Copy)]
 enum Behind {
     Operator(Operator),
     Close,

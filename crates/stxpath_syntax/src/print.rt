@@ -7,9 +7,10 @@ ghost use Rattle.std.specs.Str.{chars};
 ghost use Rattle.stxpath_syntax.specs.Printing as spec;
 
 use crate::expr::{Bin, Expr, Link, PathStep};
+use crate::functions::word_of;
 use itoa::Buffer;
 use std::alloc::Global;
-use stx_base::{Cmp, Fun, List, Memory, Name, NodeTest, Op, Text};
+use stx_base::{Cmp, List, Memory, Name, NodeTest, Op, Text};
 
 /// Prints an expression: one space round operators with two operands, `, ` between arguments, texts in `"`, or in `'`
 /// where they hold `"`, and parentheses round each operand that is an operation or the document node.
@@ -303,45 +304,6 @@ fn link_text(link: Link) -> &'static str
         Link::Start => "",
         Link::Slash => "/",
         Link::Deep => "//",
-    }
-}
-
-/// The function's name.
-#[tactic(auto)]
-fn word_of(fun: Fun) -> &'static str
-    ensures { chars result.now ≡ spec.word_of fun }
-{
-    match fun {
-        Fun::Name => "name",
-        Fun::LocalName => "local-name",
-        Fun::NamespaceUri => "namespace-uri",
-        Fun::Position => "position",
-        Fun::Level => "level",
-        Fun::HasChildNodes => "has-child-nodes",
-        Fun::Str => "string",
-        Fun::Integer => "integer",
-        Fun::Boolean => "boolean",
-        Fun::Not => "not",
-        Fun::True => "true",
-        Fun::False => "false",
-        Fun::Concat => "concat",
-        Fun::StringJoin => "string-join",
-        Fun::StringLength => "string-length",
-        Fun::Substring => "substring",
-        Fun::SubstringBefore => "substring-before",
-        Fun::SubstringAfter => "substring-after",
-        Fun::Contains => "contains",
-        Fun::StartsWith => "starts-with",
-        Fun::EndsWith => "ends-with",
-        Fun::NormalizeSpace => "normalize-space",
-        Fun::Translate => "translate",
-        Fun::Count => "count",
-        Fun::Empty => "empty",
-        Fun::Exists => "exists",
-        Fun::Sum => "sum",
-        Fun::ItemAt => "item-at",
-        Fun::IndexOf => "index-of",
-        Fun::Subsequence => "subsequence",
     }
 }
 

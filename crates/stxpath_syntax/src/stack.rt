@@ -8,7 +8,7 @@ use std::alloc::Global;
 use std::marker::Model;
 use stx_base::{List, Memory};
 
-#[derive(Debug, Drop)]
+#[derive(Drop)]
 pub struct Stack<T> {
     items: Vec<T>,
 }

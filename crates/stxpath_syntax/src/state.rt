@@ -7,7 +7,7 @@ use crate::token::{Operator, Written};
 use stx_base::{List, NodeTest, Text};
 
 /// A path that waits for the test of a step.
-#[derive(Debug, Drop)]
+#[derive(Drop)]
 pub struct Begun {
     pub steps: Meant<List<PathStep>>,
     /// What stands before the step.
@@ -17,7 +17,7 @@ pub struct Begun {
 }
 
 /// The name of a step, at its place.
-#[derive(Debug, Drop)]
+#[derive(Drop)]
 pub struct Named {
     pub begun: Begun,
     pub name: Written,
@@ -25,7 +25,7 @@ pub struct Named {
 }
 
 /// The steps of a path so far.
-#[derive(Debug, Drop)]
+#[derive(Drop)]
 pub struct Walk {
     /// The steps before the last one.
     pub steps: Meant<List<PathStep>>,
@@ -37,7 +37,7 @@ pub struct Walk {
 }
 
 /// What waits for an expression that is being read.
-#[derive(Debug, Drop)]
+#[derive(Drop)]
 pub enum Frame {
     /// `-`
     Negated,
@@ -66,7 +66,7 @@ pub enum Frame {
 }
 
 /// What a test of attributes belongs to.
-#[derive(Debug, Drop)]
+#[derive(Drop)]
 pub enum Owner {
     /// The current node.
     Here,
@@ -79,7 +79,7 @@ pub enum Owner {
 }
 
 /// What the next token may be.
-#[derive(Debug, Drop)]
+#[derive(Drop)]
 pub enum Mode {
     /// An operand begins.
     Operand,
@@ -111,7 +111,7 @@ pub enum Mode {
     Complete(Meant<Expr>),
 }
 
-#[derive(Debug, Drop)]
+#[derive(Drop)]
 pub struct State {
     pub stack: Stack<Frame>,
     pub mode: Mode,

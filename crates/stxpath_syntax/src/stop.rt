@@ -3,7 +3,7 @@ ghost use Rattle.std.specs.Prelude.{◌≡◌, Err as Fails};
 use stx_base::Memory;
 
 /// Why there is no next state: no reading goes on with the token, or memory was wanting.
-#[derive(Clone, Copy, Debug, PartialEq, Eq)]
+#[derive(Clone, Copy)]
 pub enum Stop {
     Stuck,
     Memory,

@@ -2,21 +2,21 @@ use crate::expr::Bin;
 use stx_base::Text;
 
 /// A QName as it is written (Namespaces in XML 1.0, 4).
-#[derive(Debug, Drop)]
+#[derive(Drop)]
 pub struct Written {
     /// Empty where there is none.
     pub prefix: Text,
     pub local: Text,
 }
 
-#[derive(Clone, Copy, Debug, PartialEq, Eq)]
+#[derive(Clone, Copy)]
 pub enum Operator {
     Binary(Bin),
     /// `div`, which would give a fraction.
     Div,
 }
 
-#[derive(Debug, Drop)]
+#[derive(Drop)]
 pub enum Token {
     Whole(i64),
     /// A text in quotes.
@@ -48,14 +48,14 @@ pub enum Token {
 }
 
 /// A token with the place of its first character.
-#[derive(Debug, Drop)]
+#[derive(Drop)]
 pub struct Placed {
     pub token: Token,
     pub at: usize,
 }
 
 /// What stands before the rest of a text.
-#[derive(Clone, Copy, Debug, PartialEq, Eq)]
+#[derive(Clone, Copy)]
 pub struct Before {
     /// The place of the next character.
     pub at: usize,
