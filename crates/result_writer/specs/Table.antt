@@ -1,5 +1,5 @@
 -- The prefixes of a start tag, and what is declared in it (Namespaces in XML 1.0, 3, 5 and 6).
-use Rattle.std.specs.Prelude.{ℕ, zero, suc, ◌+◌, Bool, ◌&&◌, ◌||◌, not, if◌then◌else◌, List, [], ◌∷◌, ◌++◌, codes, length, filter, encode_utf8_all}
+use Rattle.std.specs.Prelude.{◌≡◌, ◌<◌, ◌≤◌, ℕ, zero, suc, ◌+◌, Bool, true, ◌&&◌, ◌||◌, not, if◌then◌else◌, List, [], ◌∷◌, ◌++◌, codes, length, filter, encode_utf8_all}
 use Rattle.std.specs.Cmp.Lexicographic.{slice_cmp}
 use Rattle.std.specs.Fmt.{decimal}
 use Rattle.std.specs.List.{list_any}
@@ -34,6 +34,11 @@ free_from table k (suc n) = if has_prefix table (numbered k) then free_from tabl
 -- the first of these that the table doesn't have: it has at most as many as entries
 abbrev pub free_prefix : List Binding → List ℕ
 free_prefix table = free_from table 0 (length table)
+
+-- the first n of these are in the table, which has as many entries
+pub record HasPassed (table : List Binding) (n : ℕ) : Type 0 where
+  pub within : n ≤ length table
+  pub there : (k : ℕ) → k < n → has_prefix table (numbered k) ≡ true
 
 -- the prefix that an attribute is written with: its own one, where it has one that isn't taken. No default namespace
 -- applies to attributes

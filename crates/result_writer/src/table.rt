@@ -2,7 +2,7 @@
 
 ghost use Rattle.std.specs.Prelude.{◌≡◌, if◌then◌else◌, IfOk, OnOk};
 ghost use Rattle.result_writer.specs.Allowed.{is_empty, same};
-ghost use Rattle.result_writer.specs.Table.{attribute_prefix, bound, entered, free_prefix, has_prefix, is_new, is_taken, numbered, prefixes, with_attributes, with_scope};
+ghost use Rattle.result_writer.specs.Table.{attribute_prefix, bound, entered, free_prefix, HasPassed, has_prefix, is_new, is_taken, numbered, prefixes, with_attributes, with_scope};
 
 use crate::words::{is_empty, is_word, same};
 use std::alloc::Global;
@@ -59,28 +59,39 @@ fn numbered(alloc: Global, number: usize) -> Result<Text, Memory>
     Ok(Text::from_string(prefix))
 }
 
-/// The first of ns0, ns1, ns2 and so on that isn't in the table.
-fn free_prefix(alloc: Global, table: &List<Binding>) -> Result<Text, Memory>
-    ensures { IfOk result (λ prefix. prefix ≡ free_prefix table.now) }
+/// The number of the first of ns0, ns1, ns2 and so on that isn't in the table, where those before `passed` are in it.
+fn first_free(alloc: Global, table: &List<Binding>, passed: usize) -> Result<usize, Memory>
+    requires { HasPassed table.now passed }
+    ensures free { IfOk result (λ number. numbered number ≡ free_prefix table.now) }
+    ensures passed { IfOk result (λ number. HasPassed table.now number) }
 {
-    for number in 0..table.len() {
+    for number in passed..table.len() {
         let prefix = numbered(alloc, number)?;
         if !has_prefix(table, &prefix) {
-            return Ok(prefix);
+            return Ok(number);
         }
     }
-    numbered(alloc, table.len())
+    Ok(table.len())
 }
 
-/// The prefix that an attribute is written with.
-fn attribute_prefix(alloc: Global, table: &List<Binding>, name: &Name) -> Result<Text, Memory>
-    ensures { IfOk result (λ prefix. prefix ≡ attribute_prefix table.now name.now) }
+/// The prefix that an attribute is written with. The numbered prefixes before `passed` are in the table, so that none is
+/// tried at each attribute anew.
+fn attribute_prefix(
+    alloc: Global,
+    table: &List<Binding>,
+    name: &Name,
+    passed: &mut usize,
+) -> Result<Text, Memory>
+    requires { HasPassed table.now passed.old }
+    ensures prefix { IfOk result (λ prefix. prefix ≡ attribute_prefix table.now name.now) }
+    ensures passed { HasPassed table.now passed.new }
 {
     if is_empty(&name.uri) || (!is_empty(&name.prefix) && !is_taken(table, name)) {
-        name.prefix.copy(alloc)
-    } else {
-        free_prefix(alloc, table)
+        return name.prefix.copy(alloc);
     }
+    let number = first_free(alloc, table, *passed)?;
+    *passed = number;
+    numbered(alloc, number)
 }
 
 /// Enters the attributes' prefixes, and hands them out.
@@ -93,8 +104,9 @@ pub fn enter_attributes(
     ensures prefixes { IfOk result (λ made. made ≡ prefixes table.old attrs.now) }
 {
     let mut prefixes = List::new(alloc);
+    let mut passed = 0;
     for attr in attrs {
-        let prefix = attribute_prefix(alloc, table, &attr.name)?;
+        let prefix = attribute_prefix(alloc, table, &attr.name, &mut passed)?;
         enter_bound(alloc, table, &prefix, &attr.name.uri)?;
         prefixes.push(prefix)?;
     }

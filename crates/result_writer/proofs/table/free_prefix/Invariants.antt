@@ -1,7 +1,0 @@
-use Rattle.std.proofs.Common.{◌≡◌, ◌-◌, length}
-use Rattle.result_writer.specs.Table.{free_from, free_prefix}
-use Rattle.result_writer.proofs.table.free_prefix.Given as goal
-
--- the table has all prefixes so far
-abbrev pub invariant-loop-number : goal.invariant-loop-number
-invariant-loop-number l = free_from l.table l.number (length l.table - l.number) ≡ free_prefix l.table
