@@ -6,12 +6,14 @@ use Rattle.std.proofs.lemmas.Bool.{and_parts}
 use Rattle.std.proofs.lemmas.List.{length-reverse, length-take-le, take-append-drop}
 use Rattle.stx_base.specs.declared.name.Binding.{Binding}
 use Rattle.stx_base.specs.declared.name.Name.{Name}
+use Rattle.stx_base.specs.declared.part.Part.TheVariants as part
 use Rattle.result_writer.specs.Allowed.{is_good_name}
 use Rattle.result_writer.specs.Opened.{declared_by, elements}
-use Rattle.result_writer.specs.Target.{Element, Left, in_force, is_closed, start_fault, unless}
+use Rattle.result_writer.specs.Target.{Element, Left, Target, behind, closed, in_force, is_closed, settled, start_fault, unless}
 use Rattle.result_writer.specs.declared.fault.ResultFault.{ResultFault}
 use Rattle.result_writer.specs.declared.fault.ResultFault.TheVariants.{BadName}
 use Rattle.result_writer.specs.declared.opened.OpenElement.{OpenElement}
+use Rattle.result_writer.specs.declared.tag.HeldTag.{HeldTag}
 
 pub length-elements : (es : List OpenElement) (bs : List Binding) → length (elements es bs) ≡ length es
 length-elements [] bs = refl
@@ -38,6 +40,13 @@ pub item_passes : {X : Type 0} (p : X → Bool) (xs : List X) (i : ℕ) (x : X) 
 item_passes p [] i x h e = absurd cc
 item_passes p (y ∷ ys) zero x h e = let same : y ≡ x = cc in subst (λ z. p z ≡ true) same (and_parts (p y) (list_all p ys) h).0
 item_passes p (y ∷ ys) (suc i) x h e = item_passes p ys i x (and_parts (p y) (list_all p ys) h).1 e
+
+-- an end behind what it settles
+pub end-settled : (t : Target) (name : Name) → behind (behind t (part.Chars [])) (part.End name) ≡ behind t (part.End name)
+end-settled t name = ap (λ es. record t { left = record { elements = es; held = None } }) (same t.left.elements t.left.held) where
+  same : (es : List Element) (held : Option HeldTag) → closed (settled es held) None ≡ closed es held
+  same es None = refl
+  same es (Some tag) = refl
 
 passes : (t : Bool) (f : ResultFault) (others : Option ResultFault) → unless t f others ≡ None → t ≡ true
 passes true f others h = refl

@@ -2,11 +2,15 @@
 use Rattle.std.specs.Prelude.{◌≡◌, ℕ, ◌+◌, ◌-◌, Bool, false, true, List, [], ◌∷◌, ◌++◌, Option, Some, None, length, take, drop, reverse}
 use Rattle.std.specs.List.{list_all}
 use Rattle.stx_base.specs.declared.name.Binding.{Binding}
+use Rattle.stx_base.specs.declared.part.Part.{Part}
+use Rattle.stx_base.specs.declared.part.Part.TheVariants as part
 use Rattle.result_writer.specs.Allowed.{is_good_name}
 use Rattle.result_writer.specs.Steady.{given, keep_bindings}
-use Rattle.result_writer.specs.Target.{Element, Target}
+use Rattle.result_writer.specs.Tag.{dressed}
+use Rattle.result_writer.specs.Target.{Element, Left, Target, in_force}
 use Rattle.result_writer.specs.declared.opened.Around.{Around}
 use Rattle.result_writer.specs.declared.opened.OpenElement.{OpenElement}
+use Rattle.result_writer.specs.declared.opened.SettledTag.{SettledTag}
 use Rattle.result_writer.specs.declared.opened.Opened.TheInside.{Inside}
 use Rattle.result_writer.specs.declared.tag.Dressed.{Dressed}
 use Rattle.result_writer.specs.declared.tag.HeldTag.{HeldTag}
@@ -61,11 +65,23 @@ abbrev pub declared_in : Option Dressed → List Binding
 declared_in None = []
 declared_in (Some d) = d.declared
 
+-- The tag that a part settles, as it is written.
+
+abbrev pub settled_tag : List Element → Option HeldTag → Option SettledTag
+settled_tag outer None = None
+settled_tag outer (Some tag) = Some (record { name = tag.name; attrs = tag.attrs; declared = (dressed (in_force outer) tag).declared })
+
+-- an attribute settles none
+abbrev pub settled_by : Left → Part → Option SettledTag
+settled_by l (part.Attribute name value) = None
+settled_by l p = settled_tag l.elements l.held
+
 -- what settling leaves
 pub record Settles (old : Around) (d : Option Dressed) (new : Around) : Type 0 where
   pub elements : new.elements.items ≡ old.elements.items ++ elements_of (held old) d
   pub bindings : new.bindings.items ≡ old.bindings.items ++ declared_in d
   pub scope : new.tag.scope ≡ old.tag.scope
+  pub attrs : new.tag.attrs ≡ old.tag.attrs
   pub keeps : new.keeps ≡ true → keep_bindings new.bindings.items new.tag.scope ≡ true
   pub settled : new.holds ≡ false
 

@@ -86,6 +86,15 @@ impl Attributes {
         self.list = list;
     }
 
+    /// Moves all attributes out. Allocates nothing.
+    pub fn take(&mut self) -> List<Attr>
+        ensures taken { result ≡ self.old }
+        ensures left { self.new ≡ [] }
+    {
+        self.places.clear();
+        mem::replace(&mut self.list, List::new(self.alloc))
+    }
+
     /// Drops all attributes. Allocates nothing.
     pub fn clear(&mut self)
         ensures { self.new ≡ [] }

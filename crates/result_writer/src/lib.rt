@@ -19,5 +19,5 @@ mod writer;
 
 pub use allowed::holds_cdata_text;
 pub use fault::{ResultFault, WriteStop};
-pub use opened::Opened;
+pub use opened::{Opened, SettledTag};
 pub use writer::{Writer, write};

@@ -2,12 +2,13 @@ ghost use Rattle.std.specs.Prelude.{◌≡◌, ◌<◌, ◌+◌, ◌++◌, ◌�
 ghost use Rattle.std.specs.Option.{option_copied};
 ghost use Rattle.stx_base.specs.declared.name.Attr.{Attr};
 ghost use Rattle.stx_base.specs.declared.name.Name.{Name};
-ghost use Rattle.stx_base.specs.declared.part.Part.TheVariants.{Start, Attribute, End, Chars};
+ghost use Rattle.stx_base.specs.declared.part.Part.TheVariants.{Start, Attribute, End, Chars, CData, Comment, Pi};
 ghost use Rattle.result_writer.specs.Allowed.{is_good_name};
+ghost use Rattle.stx_base.specs.Character.{is_cdata_text};
 ghost use Rattle.stx_base.specs.Course.{Begins};
 ghost use Rattle.result_writer.specs.Nodes as nodes;
 ghost use Rattle.result_writer.specs.Nodes.{attribute_part};
-ghost use Rattle.result_writer.specs.Opened.{dressing, held, SameAround, Settles};
+ghost use Rattle.result_writer.specs.Opened.{declared_in, dressing, held, settled_by, settled_tag, SameAround, Settles};
 ghost use Rattle.result_writer.specs.Steady.{keep_bindings};
 ghost use Rattle.result_writer.specs.Target as spec;
 ghost use Rattle.result_writer.specs.Target.{behind, cdata_text, comment_text, data_text, depth, dressed_in, end_text, fresh, holds_cdata_text, innermost, instruction_text, is_closed, left_by, tag_text, with_attribute, IsCause, TakesAtOnce};
@@ -18,7 +19,7 @@ use crate::allowed::{
 use crate::attributes::Attributes;
 use crate::bytes::{append, append_byte, append_two};
 use crate::fault::{ResultFault, WriteStop};
-use crate::steady::{copy_unless_same, keep_bindings, keeps_names};
+use crate::steady::{copy_unless_same, keep_bindings, keeps_names, unless_same};
 use crate::tag::{Dressed, HeldTag, append_end_tag, append_open_tag, dress};
 use crate::words::{is_empty, same_name};
 use std::alloc::Global;
@@ -32,6 +33,16 @@ pub struct OpenElement {
     name: Name,
     /// How many bindings its tag declared.
     declared: usize,
+}
+
+/// A start tag that is settled, as it is written.
+#[derive(Debug, Drop)]
+pub struct SettledTag {
+    pub name: Name,
+    /// In their order, each of another name, with the prefixes that they were put with.
+    pub attrs: List<Attr>,
+    /// What the tag declares, in the order of the prefixes.
+    pub declared: List<Binding>,
 }
 
 /// What is open around the next part.
@@ -87,7 +98,7 @@ impl Opened {
         }
     }
 
-    /// Takes a part. After a refusal all is unchanged.
+    /// Takes a part, of which no text is copied that needn't be kept. After a refusal all is unchanged.
     pub fn accept(&mut self, part: &Part) -> Result<(), WriteStop>
         requires { holds_cdata_text part.now ≡ true }
         // It is taken only where it has no fault.
@@ -96,13 +107,150 @@ impl Opened {
         ensures ok { OnOk result (self.new ≡ behind self.old part.now) }
         ensures err { OnErr result (self.new ≡ self.old) }
     {
+        match part {
+            Part::Start { name, scope } => self.accept_start(name, scope),
+            Part::Attribute { name, value } => self.accept_attribute(name, value),
+            Part::End { name } => Ok(self.accept_end(name)?),
+            Part::Chars { text } => self.accept_chars(text),
+            Part::CData { text } => Ok(self.accept_cdata(text)?),
+            Part::Comment { text } => self.accept_comment(text),
+            Part::Pi { target, text } => self.accept_instruction(target, text),
+        }
+    }
+
+    /// The same of an element's start, whose scope is copied only where it isn't that of the start before.
+    pub fn accept_start(&mut self, name: &Name, scope: &List<Binding>) -> Result<(), WriteStop>
+        ensures taken { OnOk result (spec.fault self.old.limit self.old.left (Start name.now scope.now) ≡ None) }
+        ensures fault { IfErr result (IsCause (spec.fault self.old.limit self.old.left (Start name.now scope.now))) }
+        ensures ok { OnOk result (self.new ≡ behind self.old (Start name.now scope.now)) }
+        ensures err { OnErr result (self.new ≡ self.old) }
+    {
+        if let Some(fault) = self.start_fault(name) {
+            return Err(WriteStop::Fault(fault));
+        }
+        let name = name.copy(self.alloc)?;
+        let other = self.other_scope(scope)?;
+        let dressed = self.dressed()?;
+        self.start(name, other, dressed)?;
+        Ok(())
+    }
+
+    /// The same of an attribute.
+    pub fn accept_attribute(&mut self, name: &Name, value: &Text) -> Result<(), WriteStop>
+        ensures taken { OnOk result (spec.fault self.old.limit self.old.left (Attribute name.now value.now) ≡ None) }
+        ensures fault { IfErr result (IsCause (spec.fault self.old.limit self.old.left (Attribute name.now value.now))) }
+        ensures ok { OnOk result (self.new ≡ behind self.old (Attribute name.now value.now)) }
+        ensures err { OnErr result (self.new ≡ self.old) }
+    {
+        if let Some(fault) = self.attribute_fault(name, value) {
+            return Err(WriteStop::Fault(fault));
+        }
+        let name = name.copy(self.alloc)?;
+        let value = value.copy(self.alloc)?;
+        self.add_attribute(name, value)?;
+        Ok(())
+    }
+
+    /// The same of an element's end. Allocates nothing.
+    pub fn accept_end(&mut self, name: &Name) -> Result<(), ResultFault>
+        ensures taken { OnOk result (spec.fault self.old.limit self.old.left (End name.now) ≡ None) }
+        ensures fault { IfErr result (λ fault. spec.fault self.old.limit self.old.left (End name.now) ≡ Some fault) }
+        ensures ok { OnOk result (self.new ≡ behind self.old (End name.now)) }
+        ensures err { OnErr result (self.new ≡ self.old) }
+    {
+        if let Some(fault) = self.end_fault(name) {
+            return Err(fault);
+        }
+        let _ended = self.end();
+        Ok(())
+    }
+
+    /// The same of characters.
+    pub fn accept_chars(&mut self, text: &Text) -> Result<(), WriteStop>
+        ensures taken { OnOk result (spec.fault self.old.limit self.old.left (Chars text.now) ≡ None) }
+        ensures fault { IfErr result (IsCause (spec.fault self.old.limit self.old.left (Chars text.now))) }
+        ensures ok { OnOk result (self.new ≡ behind self.old (Chars text.now)) }
+        ensures err { OnErr result (self.new ≡ self.old) }
+    {
+        if let Some(fault) = chars_fault(text) {
+            return Err(WriteStop::Fault(fault));
+        }
+        self.settle_held()?;
+        Ok(())
+    }
+
+    /// The same of a CDATA section, which has no fault.
+    pub fn accept_cdata(&mut self, text: &Text) -> Result<(), Memory>
+        requires { is_cdata_text text.now ≡ true }
+        ensures ok { OnOk result (self.new ≡ behind self.old (CData text.now)) }
+        ensures err { OnErr result (self.new ≡ self.old) }
+    {
+        self.settle_held()
+    }
+
+    /// The same of a comment.
+    pub fn accept_comment(&mut self, text: &Text) -> Result<(), WriteStop>
+        ensures taken { OnOk result (spec.fault self.old.limit self.old.left (Comment text.now) ≡ None) }
+        ensures fault { IfErr result (IsCause (spec.fault self.old.limit self.old.left (Comment text.now))) }
+        ensures ok { OnOk result (self.new ≡ behind self.old (Comment text.now)) }
+        ensures err { OnErr result (self.new ≡ self.old) }
+    {
+        if let Some(fault) = comment_fault(text) {
+            return Err(WriteStop::Fault(fault));
+        }
+        self.settle_held()?;
+        Ok(())
+    }
+
+    /// The same of a processing instruction.
+    pub fn accept_instruction(&mut self, target: &Text, text: &Text) -> Result<(), WriteStop>
+        ensures taken { OnOk result (spec.fault self.old.limit self.old.left (Pi target.now text.now) ≡ None) }
+        ensures fault { IfErr result (IsCause (spec.fault self.old.limit self.old.left (Pi target.now text.now))) }
+        ensures ok { OnOk result (self.new ≡ behind self.old (Pi target.now text.now)) }
+        ensures err { OnErr result (self.new ≡ self.old) }
+    {
+        if let Some(fault) = instruction_fault(target, text) {
+            return Err(WriteStop::Fault(fault));
+        }
+        self.settle_held()?;
+        Ok(())
+    }
+
+    /// Takes a part, and hands out the tag that was held back and is settled by it. After a refusal all is unchanged.
+    pub fn accept_settling(&mut self, part: &Part) -> Result<Option<SettledTag>, WriteStop>
+        requires { holds_cdata_text part.now ≡ true }
+        ensures taken { OnOk result (spec.fault self.old.limit self.old.left part.now ≡ None) }
+        ensures fault { IfErr result (IsCause (spec.fault self.old.limit self.old.left part.now)) }
+        ensures ok { OnOk result (self.new ≡ behind self.old part.now) }
+        ensures err { OnErr result (self.new ≡ self.old) }
+        ensures settled { IfOk result (λ tag. tag ≡ settled_by self.old.left part.now) }
+    {
         if let Some(fault) = self.fault(part) {
             return Err(WriteStop::Fault(fault));
         }
-        let dressed = self.dressed()?;
-        let part = part.copy(self.alloc)?;
-        self.take(part, dressed)?;
-        Ok(())
+        match part {
+            Part::Start { name, scope } => {
+                let name = name.copy(self.alloc)?;
+                let other = self.other_scope(scope)?;
+                let tag = self.settle_tag()?;
+                self.hold(name, other);
+                Ok(tag)
+            }
+            Part::Attribute { name, value } => {
+                let name = name.copy(self.alloc)?;
+                let value = value.copy(self.alloc)?;
+                self.add_attribute(name, value)?;
+                Ok(None)
+            }
+            Part::End { .. } => {
+                let tag = self.settle_tag()?;
+                let _ended = self.end();
+                Ok(tag)
+            }
+            Part::Chars { .. } | Part::CData { .. } | Part::Comment { .. } | Part::Pi { .. } => {
+                Ok(self.settle_tag()?)
+            }
+        }
     }
 
     /// Whether no element is open.
@@ -112,8 +260,8 @@ impl Opened {
         !self.around.holds && self.around.elements.is_empty()
     }
 
-    /// The first fault of a part.
-    pub(crate) fn fault(&self, part: &Part) -> Option<ResultFault>
+    /// The first fault of a part, which is judged without taking it. Allocates nothing.
+    pub fn fault(&self, part: &Part) -> Option<ResultFault>
         ensures { result ≡ spec.fault self.now.limit self.now.left part.now }
     {
         match part {
@@ -284,28 +432,44 @@ impl Opened {
         }
     }
 
-    /// Takes a part that is accepted. After a refusal all is unchanged.
-    fn take(&mut self, part: Part, dressed: Option<Dressed>) -> Result<(), Memory>
-        requires dressed { dressing self.old.left.held dressed ≡ dressed_in self.old.left.elements self.old.left.held }
-        requires accepted { spec.fault self.old.limit self.old.left part ≡ None }
-        ensures ok { OnOk result (self.new ≡ behind self.old part) }
+    /// The tag that is held back is settled, if there is one. After a refusal all is unchanged.
+    fn settle_held(&mut self) -> Result<(), Memory>
+        ensures ok { OnOk result (self.new ≡ behind self.old (Chars [])) }
         ensures err { OnErr result (self.new ≡ self.old) }
     {
-        match part {
-            Part::Start { name, scope } => self.start(name, Some(scope), dressed),
-            Part::Attribute { name, value } => self.add_attribute(name, value),
-            Part::End { name: _name } => {
-                let _ended = self.end();
-                Ok(())
-            }
-            Part::Chars { text: _text }
-            | Part::CData { text: _text }
-            | Part::Comment { text: _text } => self.settle(dressed),
-            Part::Pi {
-                target: _target,
-                text: _text,
-            } => self.settle(dressed),
+        let dressed = self.dressed()?;
+        self.settle(dressed)
+    }
+
+    /// The same, where the tag is handed out.
+    fn settle_tag(&mut self) -> Result<Option<SettledTag>, Memory>
+        ensures ok { OnOk result (self.new ≡ behind self.old (Chars [])) }
+        ensures tag { IfOk result (λ tag. tag ≡ settled_tag self.old.left.elements self.old.left.held) }
+        ensures err { OnErr result (self.new ≡ self.old) }
+    {
+        if !self.around.holds {
+            return Ok(None);
         }
+        let name = self.around.tag.name.copy(self.alloc)?;
+        let dressed = self.dressed()?;
+        let declared = declared_in(self.alloc, &dressed)?;
+        self.around.settle(self.alloc, dressed)?;
+        let attrs = self.around.tag.attrs.take();
+        Ok(Some(SettledTag {
+            name,
+            attrs,
+            declared,
+        }))
+    }
+
+    /// Takes the start of an element that is accepted, where no tag is held back.
+    fn hold(&mut self, name: Name, other: Option<List<Binding>>)
+        requires none { self.old.left.held ≡ None }
+        requires good { is_good_name name ≡ true }
+        ensures { self.new ≡ behind self.old (Start name (unwrap_or other self.old.last)) }
+    {
+        self.around.tag.attrs.clear();
+        self.around.hold(name, other);
     }
 
     /// A copy of a scope, unless it is that of the start before.
@@ -313,6 +477,13 @@ impl Opened {
         ensures { IfOk result (λ other. unwrap_or other self.now.last ≡ scope.now) }
     {
         copy_unless_same(self.alloc, scope, &self.around.tag.scope)
+    }
+
+    /// A scope, unless it is that of the start before. Allocates nothing.
+    pub(crate) fn unless_last(&self, scope: List<Binding>) -> Option<List<Binding>>
+        ensures { unwrap_or result self.now.last ≡ scope }
+    {
+        unless_same(scope, &self.around.tag.scope)
     }
 
     /// Takes the start of an element that is accepted, in the scope of the start before unless it is in another. After a
@@ -464,6 +635,7 @@ impl Around {
         ensures elements { self.new.elements.items ≡ self.old.elements.items ++ record { name = self.old.tag.name; declared = declared } ∷ [] }
         ensures bindings { self.new.bindings ≡ self.old.bindings }
         ensures scope { self.new.tag.scope ≡ self.old.tag.scope }
+        ensures attrs { self.new.tag.attrs ≡ self.old.tag.attrs }
         ensures holds { self.new.holds ≡ false }
         ensures keeps { self.new.keeps ≡ self.old.keeps }
     {
@@ -489,6 +661,16 @@ impl Around {
         }
         self.tag.name = name;
         self.holds = true;
+    }
+}
+
+/// A copy of what a tag declares.
+fn declared_in(alloc: Global, dressed: &Option<Dressed>) -> Result<List<Binding>, Memory>
+    ensures { IfOk result (λ made. made ≡ declared_in dressed.now) }
+{
+    match dressed {
+        None => Ok(List::new(alloc)),
+        Some(dressed) => dressed.declared.copy(alloc),
     }
 }
 

@@ -65,6 +65,17 @@ pub fn copy_unless_same(
     }
 }
 
+/// A scope, unless it is the same as another.
+pub fn unless_same(scope: List<Binding>, other: &List<Binding>) -> Option<List<Binding>>
+    ensures { unwrap_or result other.now ≡ scope }
+{
+    if are_same(scope.as_slice(), other.as_slice()) {
+        None
+    } else {
+        Some(scope)
+    }
+}
+
 fn are_same(bindings: &[Binding], others: &[Binding]) -> bool
     ensures { result ≡ true → bindings.now ≡ others.now }
 {

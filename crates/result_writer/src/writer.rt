@@ -11,6 +11,7 @@ ghost use Rattle.result_writer.specs.Target as spec;
 ghost use Rattle.result_writer.specs.Target.{behind, chars_fault, holds_cdata_text, dressed_in, end_text, first_fault, fresh, innermost, is_closed, left_by, settles, text, whole_fault, IsCause, TakesAtOnce};
 
 use crate::chars::append_chars;
+use crate::escape::{Context, append_escaped};
 use crate::fault::{ResultFault, WriteStop};
 use crate::opened::{
     Opened, append_cdata, append_comment, append_instruction, attributes_fault, comment_fault,
@@ -88,13 +89,36 @@ impl Writer {
         ensures unwritten { OnErr result (out.new.items ≡ out.old.items) }
     {
         match part {
-            Part::Start { name, scope } => self.put_start(name, &scope, out),
+            Part::Start { name, scope } => self.put_owned_start(name, scope, out),
             Part::Attribute { name, value } => self.put_attribute(name, value),
             Part::End { name } => self.put_end(&name, out),
             Part::Chars { text } => self.put_chars(&text, out),
             Part::CData { text } => Ok(self.put_cdata(&text, out)?),
             Part::Comment { text } => self.put_comment(&text, out),
             Part::Pi { target, text } => self.put_instruction(&target, &text, out),
+        }
+    }
+
+    /// The same of a part that has no fault, which isn't judged again.
+    pub fn put_judged(&mut self, part: Part, out: &mut Vec<u8>) -> Result<(), Memory>
+        requires judged { spec.fault self.old.limit self.old.left part ≡ None }
+        requires text { holds_cdata_text part ≡ true }
+        ensures ok { OnOk result (self.new ≡ behind self.old part) }
+        ensures err { OnErr result (self.new ≡ self.old) }
+        ensures written { OnOk result (out.new.items ≡ out.old.items ++ settles self.old.left part) }
+        ensures unwritten { OnErr result (out.new.items ≡ out.old.items) }
+    {
+        match part {
+            Part::Start { name, scope } => {
+                let other = self.opened.unless_last(scope);
+                self.write_start(name, other, out)
+            }
+            Part::Attribute { name, value } => self.opened.add_attribute(name, value),
+            Part::End { name: _name } => self.write_end(out),
+            Part::Chars { text } => self.write_chars(&text, out),
+            Part::CData { text } => self.put_cdata(&text, out),
+            Part::Comment { text } => self.write_comment(&text, out),
+            Part::Pi { target, text } => self.write_instruction(&target, &text, out),
         }
     }
 
@@ -117,11 +141,50 @@ impl Writer {
             return Err(WriteStop::Fault(fault));
         }
         let other = self.opened.other_scope(scope)?;
+        self.write_start(name, other, out)?;
+        Ok(())
+    }
+
+    /// The same of one that is accepted, in the scope of the start before unless it is in another.
+    fn write_start(
+        &mut self,
+        name: Name,
+        other: Option<List<Binding>>,
+        out: &mut Vec<u8>,
+    ) -> Result<(), Memory>
+        requires { is_good_name name ≡ true }
+        ensures ok { OnOk result (self.new ≡ behind self.old (Start name (unwrap_or other self.old.last))) }
+        ensures err { OnErr result (self.new ≡ self.old) }
+        ensures written { OnOk result (out.new.items ≡ out.old.items ++ settles self.old.left (Start name (unwrap_or other self.old.last))) }
+        ensures unwritten { OnErr result (out.new.items ≡ out.old.items) }
+    {
         let len = out.len();
         if start(&mut self.opened, name, other, out).is_err() {
             out.truncate(len);
-            return Err(WriteStop::Memory);
+            return Err(Memory);
         }
+        Ok(())
+    }
+
+    /// The same of a start whose scope is handed over.
+    fn put_owned_start(
+        &mut self,
+        name: Name,
+        scope: List<Binding>,
+        out: &mut Vec<u8>,
+    ) -> Result<(), WriteStop>
+        ensures taken { OnOk result (spec.fault self.old.limit self.old.left (Start name scope) ≡ None) }
+        ensures fault { IfErr result (IsCause (spec.fault self.old.limit self.old.left (Start name scope))) }
+        ensures ok { OnOk result (self.new ≡ behind self.old (Start name scope)) }
+        ensures err { OnErr result (self.new ≡ self.old) }
+        ensures written { OnOk result (out.new.items ≡ out.old.items ++ settles self.old.left (Start name scope)) }
+        ensures unwritten { OnErr result (out.new.items ≡ out.old.items) }
+    {
+        if let Some(fault) = self.opened.start_fault(&name) {
+            return Err(WriteStop::Fault(fault));
+        }
+        let other = self.opened.unless_last(scope);
+        self.write_start(name, other, out)?;
         Ok(())
     }
 
@@ -200,10 +263,21 @@ impl Writer {
         if let Some(fault) = self.opened.end_fault(name) {
             return Err(WriteStop::Fault(fault));
         }
+        self.write_end(out)?;
+        Ok(())
+    }
+
+    /// The same of one that is accepted.
+    fn write_end(&mut self, out: &mut Vec<u8>) -> Result<(), Memory>
+        ensures ok { (name : Spelled) → OnOk result (self.new ≡ behind self.old (End name)) }
+        ensures err { OnErr result (self.new ≡ self.old) }
+        ensures written { OnOk result (out.new.items ≡ out.old.items ++ end_text self.old.left.elements self.old.left.held) }
+        ensures unwritten { OnErr result (out.new.items ≡ out.old.items) }
+    {
         let len = out.len();
         if end(&mut self.opened, out).is_err() {
             out.truncate(len);
-            return Err(WriteStop::Memory);
+            return Err(Memory);
         }
         Ok(())
     }
@@ -250,6 +324,21 @@ impl Writer {
         Ok(())
     }
 
+    /// The same of characters that are accepted.
+    fn write_chars(&mut self, text: &Text, out: &mut Vec<u8>) -> Result<(), Memory>
+        ensures ok { OnOk result (self.new ≡ behind self.old (Chars text.now)) }
+        ensures err { OnErr result (self.new ≡ self.old) }
+        ensures written { OnOk result (out.new.items ≡ out.old.items ++ settles self.old.left (Chars text.now)) }
+        ensures unwritten { OnErr result (out.new.items ≡ out.old.items) }
+    {
+        let len = out.len();
+        if judged_chars(&mut self.opened, text, out).is_err() {
+            out.truncate(len);
+            return Err(Memory);
+        }
+        Ok(())
+    }
+
     /// The same of a CDATA section, which has no fault. After a refusal all is unchanged.
     pub fn put_cdata(&mut self, text: &Text, out: &mut Vec<u8>) -> Result<(), Memory>
         requires { is_cdata_text text.now ≡ true }
@@ -278,10 +367,21 @@ impl Writer {
         if let Some(fault) = comment_fault(text) {
             return Err(WriteStop::Fault(fault));
         }
+        self.write_comment(text, out)?;
+        Ok(())
+    }
+
+    /// The same of one that is accepted.
+    fn write_comment(&mut self, text: &Text, out: &mut Vec<u8>) -> Result<(), Memory>
+        ensures ok { OnOk result (self.new ≡ behind self.old (Comment text.now)) }
+        ensures err { OnErr result (self.new ≡ self.old) }
+        ensures written { OnOk result (out.new.items ≡ out.old.items ++ settles self.old.left (Comment text.now)) }
+        ensures unwritten { OnErr result (out.new.items ≡ out.old.items) }
+    {
         let len = out.len();
         if comment(&mut self.opened, text, out).is_err() {
             out.truncate(len);
-            return Err(WriteStop::Memory);
+            return Err(Memory);
         }
         Ok(())
     }
@@ -303,10 +403,26 @@ impl Writer {
         if let Some(fault) = instruction_fault(target, text) {
             return Err(WriteStop::Fault(fault));
         }
+        self.write_instruction(target, text, out)?;
+        Ok(())
+    }
+
+    /// The same of one that is accepted.
+    fn write_instruction(
+        &mut self,
+        target: &Text,
+        text: &Text,
+        out: &mut Vec<u8>,
+    ) -> Result<(), Memory>
+        ensures ok { OnOk result (self.new ≡ behind self.old (Pi target.now text.now)) }
+        ensures err { OnErr result (self.new ≡ self.old) }
+        ensures written { OnOk result (out.new.items ≡ out.old.items ++ settles self.old.left (Pi target.now text.now)) }
+        ensures unwritten { OnErr result (out.new.items ≡ out.old.items) }
+    {
         let len = out.len();
         if instruction(&mut self.opened, target, text, out).is_err() {
             out.truncate(len);
-            return Err(WriteStop::Memory);
+            return Err(Memory);
         }
         Ok(())
     }
@@ -463,6 +579,20 @@ fn chars_dressed(
     append_chars(text.as_str(), out)?;
     opened.settle(dressed)?;
     Ok(())
+}
+
+/// The same of characters that are accepted.
+#[tactic(auto, using(crate::proofs::Growing::begins_trans, crate::proofs::Growing::begins_self))]
+fn judged_chars(opened: &mut Opened, text: &Text, out: &mut Vec<u8>) -> Result<(), Memory>
+    ensures ok { OnOk result (opened.new ≡ behind opened.old (Chars text.now)) }
+    ensures err { OnErr result (opened.new ≡ opened.old) }
+    ensures written { OnOk result (out.new.items ≡ out.old.items ++ settles opened.old.left (Chars text.now)) }
+    ensures kept { Begins out.old.items out.new.items }
+{
+    let dressed = opened.dressed()?;
+    opened.append_tag(&dressed, out)?;
+    append_escaped(Context::Content, text.as_str().as_bytes(), out)?;
+    opened.settle(dressed)
 }
 
 /// The same of a CDATA section.

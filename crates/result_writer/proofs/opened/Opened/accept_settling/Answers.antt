@@ -1,0 +1,19 @@
+use Rattle.std.proofs.Common.{ap, sym, ◌∙◌}
+use Rattle.stx_base.specs.declared.part.Part.TheVariants.{End}
+use Rattle.result_writer.specs.Allowed.{is_good_name}
+use Rattle.result_writer.specs.Target.{Target, behind, fault}
+use Rattle.result_writer.proofs.Opening.{end-settled, good_start}
+use Rattle.result_writer.proofs.opened.Opened.accept_settling.Goals as goal
+
+pub hold-requires-clause-good : goal.hold-requires-clause-good
+hold-requires-clause-good c =
+    let t = c.args.self.now in
+    ap is_good_name c.in_ok-name-in-Start.ensures
+    ∙ good_start t.limit t.left c.in-Start.name (ap (fault t.limit t.left) (sym c.in-Start.is) ∙ sym c.in_default.ensures)
+
+pub returns-in_ok-tag-in-End-clause-ok : goal.returns-in_ok-tag-in-End-clause-ok
+returns-in_ok-tag-in-End-clause-ok c =
+    let t = c.args.self.now in
+    c.end-ended.ensures c.in-End.name
+    ∙ ap (λ (t : Target). behind t (End c.in-End.name)) c.in_ok-tag-in-End.ensures.ok
+    ∙ end-settled t c.in-End.name ∙ ap (behind t) (sym c.in-End.is)
