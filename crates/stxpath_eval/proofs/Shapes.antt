@@ -4,7 +4,8 @@ use Rattle.std.specs.List.{list_all}
 use Rattle.std.proofs.lemmas.List.{length-map}
 use Rattle.stx_base.specs.declared.expression.Fun.{Fun}
 use Rattle.stx_base.specs.declared.node.NodeTest.{NodeTest}
-use Rattle.stxpath_syntax.specs.Shape.{all_true, are_called_well, are_steps_called_well, is_called_well, is_step_called_well, permits}
+use Rattle.stxpath_syntax.specs.Shape.{all_true, are_called_well, are_steps_called_well, is_called_well, is_step_called_well}
+use Rattle.stx_base.specs.Functions.{permits}
 use Rattle.stxpath_eval.proofs.Folds.{well_abs, well_binary, well_call, well_neg, well_seq, well_step}
 use Rattle.stxpath_syntax.specs.declared.expr.Bin.{Bin}
 use Rattle.stxpath_syntax.specs.declared.expr.Expr.{Expr}

@@ -5,7 +5,8 @@ use Rattle.std.specs.Int.{w64}
 use Rattle.std.proofs.Math.Facts.{to_z-of_z}
 use Rattle.stxpath_eval.specs.Env.{setting}
 use Rattle.stxpath_eval.specs.Nodes.{atoms}
-use Rattle.stxpath_syntax.specs.Shape.{is_called_well, permits}
+use Rattle.stx_base.specs.Functions.{permits}
+use Rattle.stxpath_syntax.specs.Shape.{is_called_well}
 use Rattle.stxpath_eval.specs.Steps.{all_hold, along, ends_at, holds, holds_by}
 use Rattle.stxpath_eval.specs.Value.{applied, binary, joined, meant, measured, negated, nodes_at, one, operated, reaching, value, variable}
 use Rattle.stxpath_syntax.specs.declared.expr.Expr.{Expr, the_lemmas}
