@@ -1,0 +1,23 @@
+/// The kinds of nodes that are passed through where no template is chosen.
+#[derive(Clone, Copy, Debug, PartialEq, Eq)]
+pub struct Kinds {
+    /// Start and end tags.
+    pub elements: bool,
+    /// Text nodes and CDATA nodes.
+    pub text: bool,
+    /// CDATA nodes, also where text isn't passed through.
+    pub cdata: bool,
+    pub comments: bool,
+    pub instructions: bool,
+    pub attributes: bool,
+}
+
+/// What is passed through where no template is chosen, as a group says it.
+#[derive(Clone, Copy, Debug, PartialEq, Eq)]
+pub enum Pass {
+    None,
+    /// Text nodes and CDATA nodes.
+    Chars,
+    All,
+    Kinds(Kinds),
+}
