@@ -22,14 +22,6 @@ pub struct LiteralAttr {
     pub value: Avt,
 }
 
-/// One branch of a `choose`.
-#[cycle(instruction)]
-#[derive(Debug, Drop)]
-pub struct When {
-    pub test: Expr,
-    pub body: List<Instr>,
-}
-
 /// An instruction, a literal element or a literal text of a body. `at` is its start tag, or the text's first byte;
 /// `scope` is the bindings in force there.
 #[cycle(instruction)]
@@ -183,4 +175,12 @@ pub enum Instr {
         select: Option<Expr>,
         at: Place,
     },
+}
+
+/// One branch of a `choose`.
+#[cycle(instruction)]
+#[derive(Debug, Drop)]
+pub struct When {
+    pub test: Expr,
+    pub body: List<Instr>,
 }
