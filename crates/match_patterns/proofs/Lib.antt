@@ -1,0 +1,4 @@
+mod Bools
+mod Endings
+mod Walks
+mod Fitting

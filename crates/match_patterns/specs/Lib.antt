@@ -1,0 +1,4 @@
+pub mod Fits
+pub mod Priority
+pub mod Grouping
+pub mod Walk
