@@ -1,14 +1,15 @@
 -- One turn of each search for a numbered instruction.
 use Rattle.std.proofs.Common.{◌≡◌, ℕ, zero, suc, ◌+◌, ◌<◌, ◌≤◌, List, [], ◌∷◌, ◌++◌, length, get_or, take, map, Some, refl, ap, sym, subst, ◌∙◌, arith, add-one, length-append}
 use Rattle.std.proofs.lemmas.Grind.{flat_map-append}
+use Rattle.std.proofs.lemmas.List.{append-nil}
 use Rattle.std.specs.List.{flat_map, slice_get}
-use Rattle.sheet_model.specs.Body.{body_nesting, children, in_order, nesting}
+use Rattle.sheet_model.specs.Body.{all_of, body_nesting, children, in_order, nesting}
 use Rattle.sheet_model.specs.Searching.{Searches}
 use Rattle.sheet_model.specs.declared.find.Outcome.{Outcome}
 use Rattle.sheet_model.specs.declared.find.Outcome.TheVariants.{Found, Behind}
 use Rattle.sheet_model.specs.declared.instr.Instr.{Instr}
 use Rattle.sheet_model.proofs.Lists.{flat_at, flat_more, got_before, got_behind}
-use Rattle.sheet_model.proofs.Nests.{nesting_is, nests_within}
+use Rattle.sheet_model.proofs.Nests.{body_nesting-append, nesting_is, nests_within}
 
 -- an instruction before those within it
 abbrev led : ℕ → Instr → List Instr
@@ -70,3 +71,32 @@ found_behind_body n g xs i x number left behind h at is passed = omega (arith, f
 pub goes_on : (a b : List Instr) (number left : ℕ) (o : Outcome) → length a + left ≡ number → Searches b left o → Searches (a ++ b) number o
 goes_on a b number left (Found i) is found = subst (λ k. slice_get (a ++ b) k ≡ Some i.now) is (got_behind a b left i.now found)
 goes_on a b number left (Behind k) is passed = omega (arith, length-append a b, passed)
+
+nothing : (n : ℕ) → in_order n [] ≡ []
+nothing zero = refl
+nothing (suc n) = refl
+
+-- as many levels as there are give all
+enough : (n m : ℕ) (body : List Instr) → body_nesting body ≤ n → body_nesting body ≤ m → in_order n body ≡ in_order m body
+enough n m [] p q = nothing n ∙ sym (nothing m)
+enough zero m (i ∷ body) p q = absurd (omega (arith, nesting_is i))
+enough (suc n) zero (i ∷ body) p q = absurd (omega (arith, nesting_is i))
+enough (suc n) (suc m) (i ∷ body) p q =
+    ap (λ l. (i ∷ l) ++ in_order (suc n) body) (enough n m (children i) (omega (arith, nesting_is i)) (omega (arith, nesting_is i)))
+    ∙ ap (λ l. (i ∷ in_order m (children i)) ++ l) (enough (suc n) (suc m) body (omega arith) (omega arith))
+
+pub all_of-append : (a b : List Instr) → all_of (a ++ b) ≡ all_of a ++ all_of b
+all_of-append a b =
+    let most = body_nesting-append a b in
+    in_order-append (body_nesting (a ++ b)) a b
+    ∙ ap (λ l. l ++ in_order (body_nesting (a ++ b)) b) (enough (body_nesting (a ++ b)) (body_nesting a) a (omega arith) (omega arith))
+    ∙ ap (λ l. all_of a ++ l) (enough (body_nesting (a ++ b)) (body_nesting b) b (omega arith) (omega arith))
+
+single : (n : ℕ) (i : Instr) → nesting i ≤ n → in_order n (i ∷ []) ≡ i ∷ all_of (children i)
+single zero i p = absurd (omega (arith, nesting_is i))
+single (suc n) i p =
+    append-nil (i ∷ in_order n (children i))
+    ∙ ap (λ l. i ∷ l) (enough n (body_nesting (children i)) (children i) (omega (arith, nesting_is i)) (omega arith))
+
+pub all_of-single : (i : Instr) → all_of (i ∷ []) ≡ i ∷ all_of (children i)
+all_of-single i = single (body_nesting (i ∷ [])) i (omega arith)

@@ -3,3 +3,8 @@ pub mod Body
 pub mod Parts
 pub mod Standing
 pub mod Searching
+pub mod Names
+pub mod Groups
+pub mod Entries
+pub mod Sound
+pub mod Laws

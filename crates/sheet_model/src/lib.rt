@@ -4,6 +4,7 @@
 mod find;
 mod inner;
 mod instr;
+pub mod law;
 mod nesting;
 mod pass;
 mod sheet;
