@@ -1,5 +1,5 @@
 -- Lists, their greatest numbers, and lists joined.
-use Rattle.std.proofs.Common.{◌≡◌, ℕ, ◌+◌, ◌<◌, ◌≤◌, max, List, [], ◌∷◌, ◌++◌, length, get_or, take, drop, map, Option, Some, refl, ap, sym, subst, ◌∙◌, arith, length-append}
+use Rattle.std.proofs.Common.{◌≡◌, ℕ, ◌+◌, ◌<◌, ◌≤◌, max, List, [], ◌∷◌, ◌++◌, length, get_or, take, drop, map, Some, refl, ap, sym, subst, ◌∙◌, arith, length-append}
 use Rattle.std.proofs.lemmas.List.{append-nil, at_drop_more, get_or_append_left, get_or-append-add, take_more}
 use Rattle.std.proofs.lemmas.Grind.{flat_map-append, common_steps}
 use Rattle.std.proofs.lemmas.Option.{get_or_from_slice_get, slice_get-get_or, slice_get_within}
@@ -37,7 +37,7 @@ parted_at xs i x h at = ap (λ l. take i xs ++ l) (sym (left_at xs i x h at)) �
 pub greatest_at : {A : Type 0} (f : A → ℕ) (xs : List A) (i : ℕ) (x : A) → i < length xs → x ≡ get_or xs i x → f x ≤ greatest (map f xs)
 greatest_at f xs i x h at =
     let whole : greatest (map f (take i xs) ++ f x ∷ map f (drop (i + 1) xs)) ≡ greatest (map f xs) =
-        ap greatest (sym (map-append f (take i xs) (x ∷ drop (i + 1) xs))) ∙ ap (λ l. greatest (map f l)) (parted_at xs i x h at) in
+    ap greatest (sym (map-append f (take i xs) (x ∷ drop (i + 1) xs))) ∙ ap (λ l. greatest (map f l)) (parted_at xs i x h at) in
     omega (arith, whole, greatest-append (map f (take i xs)) (f x ∷ map f (drop (i + 1) xs)))
 
 -- the greatest of joined lists

@@ -1,5 +1,5 @@
 -- How deep instructions nest, by what stands within them.
-use Rattle.std.proofs.Common.{◌≡◌, ℕ, ◌+◌, ◌<◌, ◌≤◌, List, [], ◌∷◌, ◌++◌, length, get_or, map, max, refl, ap, sym, ◌∙◌, arith}
+use Rattle.std.proofs.Common.{◌≡◌, ℕ, ◌+◌, ◌<◌, ◌≤◌, List, [], ◌∷◌, ◌++◌, length, get_or, map, max, refl, ap, sym, ◌∙◌}
 use Rattle.std.specs.List.{flat_map}
 use Rattle.stxpath_syntax.specs.Shape.{greatest}
 use Rattle.sheet_model.specs.Body.{body_nesting, branch_nesting, children, inner, layer_nesting, nesting, sheet_nesting}

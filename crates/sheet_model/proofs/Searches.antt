@@ -1,5 +1,5 @@
 -- One turn of each search for a numbered instruction.
-use Rattle.std.proofs.Common.{◌≡◌, ℕ, zero, suc, ◌+◌, ◌<◌, ◌≤◌, List, [], ◌∷◌, ◌++◌, length, get_or, take, map, Some, refl, ap, sym, subst, ◌∙◌, arith, add-one, length-append}
+use Rattle.std.proofs.Common.{◌≡◌, ℕ, zero, suc, ◌+◌, ◌<◌, ◌≤◌, List, [], ◌∷◌, ◌++◌, length, get_or, take, Some, refl, ap, sym, subst, ◌∙◌, arith, add-one, length-append}
 use Rattle.std.proofs.lemmas.Grind.{flat_map-append}
 use Rattle.std.proofs.lemmas.List.{append-nil}
 use Rattle.std.specs.List.{flat_map, slice_get}
@@ -8,7 +8,7 @@ use Rattle.sheet_model.specs.Searching.{Searches}
 use Rattle.sheet_model.specs.declared.find.Outcome.{Outcome}
 use Rattle.sheet_model.specs.declared.find.Outcome.TheVariants.{Found, Behind}
 use Rattle.sheet_model.specs.declared.instr.Instr.{Instr}
-use Rattle.sheet_model.proofs.Lists.{flat_at, flat_more, got_before, got_behind}
+use Rattle.sheet_model.proofs.Lists.{flat_at, flat_more, got_behind}
 use Rattle.sheet_model.proofs.Nests.{body_nesting-append, nesting_is, nests_within}
 
 -- an instruction before those within it

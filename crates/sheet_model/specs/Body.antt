@@ -6,7 +6,6 @@ use Rattle.sheet_model.specs.declared.instr.Instr.{Instr}
 use Rattle.sheet_model.specs.declared.instr.Instr.TheFolds.{fold-Instr}
 use Rattle.sheet_model.specs.declared.instr.Instr.TheOpen.{Instr-F, When-F}
 use Rattle.sheet_model.specs.declared.instr.Instr.TheViews.{out-Instr}
-use Rattle.sheet_model.specs.declared.instr.When.{When}
 use Rattle.sheet_model.specs.declared.sheet.Procedure.{Procedure}
 use Rattle.sheet_model.specs.declared.sheet.Sheet.{Sheet}
 use Rattle.sheet_model.specs.declared.sheet.Template.{Template}

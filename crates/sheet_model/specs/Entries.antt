@@ -1,6 +1,6 @@
 -- How many entries the lists of a sheet have, but for those of bindings.
-use Rattle.std.specs.Prelude.{ℕ, ◌+◌, List, [], ◌∷◌, length, sum, sum_by, Option, Some, None}
-use Rattle.std.specs.Option.{option_map_or, option_to_list}
+use Rattle.std.specs.Prelude.{ℕ, ◌+◌, List, length, sum, sum_by}
+use Rattle.std.specs.Option.{option_to_list}
 use Rattle.stxpath_syntax.specs.declared.expr.Alternative.{Alternative}
 use Rattle.stxpath_syntax.specs.declared.expr.Alternative.TheVariants as alternative
 use Rattle.stxpath_syntax.specs.declared.expr.Avt.{Avt}

@@ -1,12 +1,10 @@
 -- Groups within groups, and what is found in them.
-use Rattle.std.specs.Prelude.{◌≡◌, ◌<◌, ℕ, zero, suc, ◌==◌, false, List, [], ◌∷◌, Option, Some, None, length, slice_get, All, AllPairs, Any, IsTrue}
+use Rattle.std.specs.Prelude.{◌≡◌, ℕ, zero, suc, ◌==◌, false, List, [], ◌∷◌, Option, Some, None, length, slice_get, AllPairs, Any, IsTrue}
 use Rattle.std.specs.List.{list_any}
 use Rattle.std.specs.Option.{option_and_then}
 use Rattle.stx_base.specs.declared.name.Name.{Name}
 use Rattle.sheet_model.specs.Names.{Mention, GroupNamed, ProcedureNamed, BufferNamed, VariableNamed, LocalDeclared, ParamsNamed, is_among, is_same}
-use Rattle.sheet_model.specs.declared.sheet.Buffer.{Buffer}
 use Rattle.sheet_model.specs.declared.sheet.Group.{Group}
-use Rattle.sheet_model.specs.declared.sheet.Procedure.{Procedure}
 use Rattle.sheet_model.specs.declared.sheet.Sheet.{Sheet}
 use Rattle.sheet_model.specs.declared.sheet.Variable.{Variable}
 

@@ -1,5 +1,5 @@
 -- The names that a body says, as they wait to be found.
-use Rattle.std.specs.Prelude.{Bool, not, ◌&&◌, if◌then◌else◌, bytes_eq, List, [], ◌∷◌, ◌++◌, map, filter, Option, Some, None}
+use Rattle.std.specs.Prelude.{Bool, not, ◌&&◌, bytes_eq, List, [], ◌∷◌, ◌++◌, map, filter}
 use Rattle.std.specs.List.{flat_map, list_any}
 use Rattle.std.specs.Option.{option_to_list}
 use Rattle.stx_base.specs.declared.name.Name.{Name}

@@ -15,7 +15,6 @@ use Rattle.stxpath_syntax.specs.declared.expr.Alternative.{Alternative}
 use Rattle.stxpath_syntax.specs.declared.expr.Alternative.TheVariants as alternative
 use Rattle.stxpath_syntax.specs.declared.expr.Avt.{Avt}
 use Rattle.stxpath_syntax.specs.declared.expr.Link.TheVariants.{Start}
-use Rattle.stxpath_syntax.specs.declared.expr.PathStep.{PathStep}
 use Rattle.stxpath_syntax.specs.declared.expr.Pattern.{Pattern}
 use Rattle.sheet_model.specs.Body.{instructions, sheet_nesting}
 use Rattle.sheet_model.specs.Entries.{entries}

@@ -1,7 +1,7 @@
-use Rattle.std.proofs.Common.{◌≡◌, ℕ, zero, suc, ◌+◌, ◌≤◌, List, [], ◌++◌, length, take, Some, ap, sym, subst, ◌∙◌, arith}
+use Rattle.std.proofs.Common.{◌≡◌, ℕ, zero, suc, ◌+◌, ◌≤◌, List, [], length, Some, ap, sym, subst, ◌∙◌, arith}
 use Rattle.std.proofs.lemmas.List.{take_all}
 use Rattle.std.specs.List.{flat_map, slice_get}
-use Rattle.sheet_model.specs.Body.{body_nesting, children, in_order, nesting}
+use Rattle.sheet_model.specs.Body.{body_nesting, in_order, nesting}
 use Rattle.sheet_model.specs.Searching.{Searches}
 use Rattle.sheet_model.specs.declared.instr.Instr.{Instr}
 use Rattle.sheet_model.specs.declared.instr.When.{When}
@@ -26,17 +26,17 @@ pub search-returns-in_default : goal.search-returns-in_default
 search-returns-in_default t c =
     subst (λ (l : List Instr). (n : ℕ) → body_nesting l ≤ n → slice_get (in_order n l) c.args.number ≡ Some c.instr-item.result) c.as_slice-instr-items.ensures
     (λ n deep.
-        let so = c.loop-instr.invariant n deep in
-        found_here n c.as_slice-instr-items.result.now c.loop-instr.instr-index c.instr-item.result c.args.number c.loop-instr-test.true c.instr-item.is deep
-        (omega (arith, so, c.in_default.ensures)))
+    let so = c.loop-instr.invariant n deep in
+    found_here n c.as_slice-instr-items.result.now c.loop-instr.instr-index c.instr-item.result c.args.number c.loop-instr-test.true c.instr-item.is deep
+    (omega (arith, so, c.in_default.ensures)))
 
 pub search-returns-in-Found : goal.search-returns-in-Found
 search-returns-in-Found t c =
     subst (λ (l : List Instr). (n : ℕ) → body_nesting l ≤ n → slice_get (in_order n l) c.args.number ≡ Some c.in-Found.instr.now) c.as_slice-instr-items.ensures
     (λ n deep.
-        let so = c.loop-instr.invariant n deep in
-        found_within n c.as_slice-instr-items.result.now c.loop-instr.instr-index c.instr-item.result c.args.number c.in-Some.less c.in-Found.instr.now
-        c.loop-instr-test.true c.instr-item.is deep (omega (arith, so, c.in-Some.ensures)) c.in-Found.ensures)
+    let so = c.loop-instr.invariant n deep in
+    found_within n c.as_slice-instr-items.result.now c.loop-instr.instr-index c.instr-item.result c.args.number c.in-Some.less c.in-Found.instr.now
+    c.loop-instr-test.true c.instr-item.is deep (omega (arith, so, c.in-Some.ensures)) c.in-Found.ensures)
 
 pub search-loop-instr-preserved : goal.search-loop-instr-preserved
 search-loop-instr-preserved t c = λ n deep.
@@ -55,11 +55,11 @@ pub search_branches-returns-in-Found : goal.search_branches-returns-in-Found
 search_branches-returns-in-Found t c =
     subst (λ (l : List When). (n : ℕ) → body_nesting (branched l) ≤ n → slice_get (in_order n (branched l)) c.args.number ≡ Some c.in-Found.instr.now) c.as_slice-when-items.ensures
     (λ n deep.
-        let within = greatest_at (λ (w : When). body_nesting w.body) c.as_slice-when-items.result.now c.loop-when.when-index c.when-item.result c.loop-when-test.true c.when-item.is in
-        let whole = greatest-flat nesting body_of c.as_slice-when-items.result.now in
-        subst (λ l. slice_get l c.args.number ≡ Some c.in-Found.instr.now) (sym (in_order-flat n body_of c.as_slice-when-items.result.now))
-        (found_in_body n body_of c.as_slice-when-items.result.now c.loop-when.when-index c.when-item.result c.args.number c.loop-when.left c.in-Found.instr.now
-        c.loop-when-test.true c.when-item.is (c.loop-when.invariant n deep) (c.in-Found.ensures n (omega arith))))
+    let within = greatest_at (λ (w : When). body_nesting w.body) c.as_slice-when-items.result.now c.loop-when.when-index c.when-item.result c.loop-when-test.true c.when-item.is in
+    let whole = greatest-flat nesting body_of c.as_slice-when-items.result.now in
+    subst (λ l. slice_get l c.args.number ≡ Some c.in-Found.instr.now) (sym (in_order-flat n body_of c.as_slice-when-items.result.now))
+    (found_in_body n body_of c.as_slice-when-items.result.now c.loop-when.when-index c.when-item.result c.args.number c.loop-when.left c.in-Found.instr.now
+    c.loop-when-test.true c.when-item.is (c.loop-when.invariant n deep) (c.in-Found.ensures n (omega arith))))
 
 pub search_branches-loop-when-preserved : goal.search_branches-loop-when-preserved
 search_branches-loop-when-preserved t c = λ n deep.
@@ -72,10 +72,10 @@ pub search_branches-returns : goal.search_branches-returns
 search_branches-returns t c =
     subst (λ (l : List When). (n : ℕ) → body_nesting (branched l) ≤ n → length (in_order n (branched l)) + c.loop-when.left ≡ c.args.number) c.as_slice-when-items.ensures
     (λ n deep.
-        ap (λ l. length l + c.loop-when.left) (in_order-flat n body_of c.as_slice-when-items.result.now)
-        ∙ ap (λ l. length (flat_map (λ (w : When). in_order n w.body) l) + c.loop-when.left)
-          (sym (take_all c.loop-when.when-index c.as_slice-when-items.result.now (omega arith)))
-        ∙ c.loop-when.invariant n deep)
+    ap (λ l. length l + c.loop-when.left) (in_order-flat n body_of c.as_slice-when-items.result.now)
+    ∙ ap (λ l. length (flat_map (λ (w : When). in_order n w.body) l) + c.loop-when.left)
+    (sym (take_all c.loop-when.when-index c.as_slice-when-items.result.now (omega arith)))
+    ∙ c.loop-when.invariant n deep)
 
 pub search_within-search-requires : goal.search_within-search-requires
 search_within-search-requires t c =

@@ -1,10 +1,9 @@
-use Rattle.std.proofs.Common.{◌≡◌, ℕ, ◌+◌, ◌≤◌, List, ◌++◌, length, take, map, max, ap, sym, subst, ◌∙◌, arith}
+use Rattle.std.proofs.Common.{◌≡◌, ℕ, ◌+◌, List, take, map, ap, ◌∙◌, arith}
 use Rattle.std.proofs.lemmas.Grind.{common_steps}
 use Rattle.std.proofs.lemmas.List.{take_all}
 use Rattle.std.specs.List.{flat_map}
 use Rattle.stxpath_syntax.specs.Shape.{greatest}
-use Rattle.sheet_model.specs.Body.{body_nesting, children, nesting}
-use Rattle.sheet_model.specs.Standing.{listed}
+use Rattle.sheet_model.specs.Body.{body_nesting, nesting}
 use Rattle.sheet_model.specs.declared.instr.Instr.{Instr}
 use Rattle.sheet_model.specs.declared.instr.When.{When}
 use Rattle.sheet_model.proofs.Lists.{greatest-flat, greatest_at, greatest_more}

@@ -1,4 +1,4 @@
-use Rattle.std.proofs.Common.{◌≡◌, ℕ, ◌+◌, ◌≤◌, List, ◌++◌, length, take, map, max, Some, refl, ap, sym, subst, ◌∙◌, arith, length-append}
+use Rattle.std.proofs.Common.{◌≡◌, ℕ, ◌+◌, ◌≤◌, List, ◌++◌, length, take, map, Some, refl, ap, sym, subst, ◌∙◌, arith, length-append}
 use Rattle.std.proofs.lemmas.List.{take_all}
 use Rattle.std.proofs.lemmas.Option.{slice_get_past}
 use Rattle.std.specs.List.{flat_map, slice_get}
@@ -41,7 +41,7 @@ returns-in-Found c =
     let same = ap (λ l. greatest (map (λ (t : Template). body_nesting t.body) l)) c.as_slice-template-items.ensures in
     let deep : body_nesting c.template-item.result.body ≤ n = omega arith in
     let found = found_in_body n of_template c.as_slice-template-items.result.now c.loop-template.template-index c.template-item.result c.args.number c.loop-template.left x
-        c.loop-template-test.true c.template-item.is c.loop-template.invariant (c.in-Found.ensures n deep) in
+    c.loop-template-test.true c.template-item.is c.loop-template.invariant (c.in-Found.ensures n deep) in
     let here = subst (λ l. slice_get (by_templates n l) c.args.number ≡ Some x) c.as_slice-template-items.ensures found in
     sym (ap (λ l. slice_get l c.args.number) (instructions_are s) ∙ got_before (by_templates n s.templates) (by_procedures n s.procedures) c.args.number x here)
 
@@ -82,7 +82,7 @@ returns-in-Found-search c =
     let at : length (by_templates n s.templates) + number ≡ c.args.number = omega arith in
     sym (ap (λ l. slice_get l c.args.number) (instructions_are s)
     ∙ subst (λ k. slice_get (by_templates n s.templates ++ by_procedures n s.procedures) k ≡ Some x) at
-      (got_behind (by_templates n s.templates) (by_procedures n s.procedures) number x here))
+    (got_behind (by_templates n s.templates) (by_procedures n s.procedures) number x here))
 
 pub loop-procedure-preserved : goal.loop-procedure-preserved
 loop-procedure-preserved c =

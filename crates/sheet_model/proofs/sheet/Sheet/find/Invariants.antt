@@ -1,4 +1,4 @@
-use Rattle.std.proofs.Common.{◌≡◌, ℕ, ◌+◌, take, length}
+use Rattle.std.proofs.Common.{◌≡◌, ◌+◌, take, length}
 use Rattle.std.specs.List.{flat_map}
 use Rattle.sheet_model.specs.Body.{in_order, sheet_nesting}
 use Rattle.sheet_model.specs.declared.sheet.Procedure.{Procedure}
