@@ -1,6 +1,6 @@
 -- How steps end, by how those before the last one end.
-use Rattle.std.proofs.Common.{◌≡◌, ◌≢◌, ℕ, ◌+◌, ◌<◌, ◌≤◌, Bool, true, false, ◌&&◌, ◌==◌, List, [], ◌∷◌, ◌++◌, Option, None, Some, Result, Ok, Err, length, refl, ap, sym, subst, ◌∙◌, arith, IfOk}
-use Rattle.std.proofs.lemmas.Bool.{eqb-true, eq-eqb}
+use Rattle.std.proofs.Common.{◌≡◌, ◌≢◌, ℕ, ◌+◌, ◌≤◌, Bool, true, false, ◌&&◌, ◌==◌, List, [], ◌∷◌, ◌++◌, Option, None, Some, Result, Ok, Err, length, refl, ap, sym, ◌∙◌, arith, IfOk}
+use Rattle.std.proofs.lemmas.Bool.{eqb-true}
 use Rattle.std.proofs.lemmas.List.Folds.{list_all-append}
 use Rattle.std.specs.List.{list_all}
 use Rattle.stx_base.specs.declared.limits.Limits.{Limits}
@@ -15,7 +15,6 @@ use Rattle.stxpath_eval.specs.Setting.{Setting, at_step}
 use Rattle.stxpath_eval.specs.Steps.{holds}
 use Rattle.stxpath_eval.specs.Value.{value}
 use Rattle.stxpath_syntax.specs.declared.expr.Expr.{Expr}
-use Rattle.stxpath_syntax.specs.declared.expr.Link.{Link}
 use Rattle.stxpath_syntax.specs.declared.expr.Link.TheVariants as link
 use Rattle.stxpath_syntax.specs.declared.expr.PathStep.{PathStep}
 use Rattle.stxpath_values.specs.declared.value.Atom.{Atom}

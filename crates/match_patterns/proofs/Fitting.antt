@@ -1,13 +1,13 @@
 -- Steps that lead to the current node are steps that fit it.
-use Rattle.std.proofs.Common.{◌≡◌, ℕ, ◌+◌, ◌<◌, ◌≤◌, Bool, true, false, ◌&&◌, List, [], ◌∷◌, Option, Some, None, refl, ap, sym, subst, ◌∙◌, arith, zero-add}
+use Rattle.std.proofs.Common.{◌≡◌, ℕ, ◌+◌, ◌<◌, ◌≤◌, Bool, true, ◌&&◌, List, [], ◌∷◌, Option, Some, None, ap, sym, subst, arith, zero-add}
 use Rattle.std.proofs.lemmas.Bool.{eqb-true, eq-eqb, ltb-true}
-use Rattle.std.specs.List.{list_any, range_with_len}
+use Rattle.std.specs.List.{range_with_len}
 use Rattle.stxpath_eval.specs.Setting.{Setting}
 use Rattle.stxpath_syntax.specs.declared.expr.Link.{Link}
 use Rattle.stxpath_syntax.specs.declared.expr.Link.TheVariants as link
 use Rattle.stxpath_syntax.specs.declared.expr.PathStep.{PathStep}
 use Rattle.match_patterns.specs.Fits.{may_follow, step_fits, steps_fit}
-use Rattle.match_patterns.specs.Walk.{EndsAt, Leads, Stands}
+use Rattle.match_patterns.specs.Walk.{EndsAt, Leads}
 use Rattle.match_patterns.proofs.Bools.{and_both, any_in_range, any_some, both, same_truth}
 
 abbrev turn : PathStep → List PathStep → Setting → Option ℕ → ℕ → Bool

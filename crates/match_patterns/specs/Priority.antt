@@ -1,12 +1,11 @@
 -- Default priorities, in hundredths.
-use Rattle.std.specs.Prelude.{ℤ, pos, negsuc, Bool, true, false, ◌&&◌, if◌then◌else◌, List, [], ◌∷◌}
+use Rattle.std.specs.Prelude.{ℤ, pos, negsuc, Bool, true, false, ◌&&◌, if◌then◌else◌, [], ◌∷◌}
 use Rattle.stx_base.specs.declared.node.NodeTest.{NodeTest}
 use Rattle.stx_base.specs.declared.node.NodeTest.TheVariants as test
 use Rattle.stxpath_syntax.specs.declared.expr.Alternative.{Alternative}
 use Rattle.stxpath_syntax.specs.declared.expr.Alternative.TheVariants as alternative
 use Rattle.stxpath_syntax.specs.declared.expr.Link.{Link}
 use Rattle.stxpath_syntax.specs.declared.expr.Link.TheVariants as link
-use Rattle.stxpath_syntax.specs.declared.expr.PathStep.{PathStep}
 use Rattle.match_patterns.specs.Fits.{is_bare}
 
 -- 0 for a name or a target, -25 for the names of a namespace, -50 for a kind of nodes

@@ -1,4 +1,4 @@
-use Rattle.std.proofs.Common.{◌≡◌, ℕ, ◌-◌, ◌<◌, ◌≤◌, Bool, true, List, Option, length, ap, sym, subst, ◌∙◌, arith}
+use Rattle.std.proofs.Common.{◌-◌, ap, sym, subst, ◌∙◌, arith}
 use Rattle.node_stack.specs.Stack.{path}
 use Rattle.match_patterns.specs.Fits.{at_current, fits}
 use Rattle.match_patterns.specs.Walk.{IsEnding}
@@ -19,6 +19,6 @@ pub returns-in-Steps : goal.returns-in-Steps
 returns-in-Steps c = λ vars limits.
     let g = at_current vars limits (path c.args.stack.now) in
     let ending = subst (λ n. IsEnding g c.in-Steps.steps (n - 1) c.ends_at.result) c.len-last.ensures.value
-        (subst (λ l. IsEnding g l (c.len-last.result - 1) c.ends_at.result) c.as_slice.ensures (c.ends_at.ensures vars limits)) in
+    (subst (λ l. IsEnding g l (c.len-last.result - 1) c.ends_at.result) c.as_slice.ensures (c.ends_at.ensures vars limits)) in
     let told = told_by g c.in-Steps.steps g.place c.ends_at.result c.is_here.result c.is_here.ensures ending in
     fits_where g c.in-Steps.steps c.is_here.result told.0 told.1 ∙ sym (ap (λ a. fits a g) c.in-Steps.is)

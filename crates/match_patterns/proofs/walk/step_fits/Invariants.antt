@@ -1,4 +1,4 @@
-use Rattle.std.proofs.Common.{◌≡◌, Bool, true, take, map}
+use Rattle.std.proofs.Common.{◌≡◌, true, take}
 use Rattle.std.specs.List.{list_all}
 use Rattle.node_stack.specs.Stack.{path}
 use Rattle.stxpath_eval.specs.Setting.{at_step}
@@ -12,6 +12,6 @@ use Rattle.match_patterns.proofs.walk.step_fits.Given as goal
 abbrev pub invariant-loop-predicate : goal.invariant-loop-predicate
 invariant-loop-predicate g l =
     list_all
-      (λ (predicate : Expr). surely (holds (value predicate) (at_step l.place l.step.test (at_current (g.V.Vars.value_of l.vars) l.limits (path l.stack)))))
-      (take l.predicate-index l.predicate-items)
+    (λ (predicate : Expr). surely (holds (value predicate) (at_step l.place l.step.test (at_current (g.V.Vars.value_of l.vars) l.limits (path l.stack)))))
+    (take l.predicate-index l.predicate-items)
     ≡ true
