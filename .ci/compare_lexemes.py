@@ -286,7 +286,9 @@ def main():
         else:
             counts["failed"] += 1
             print(f"{document!r}: here {ending}, {ours}; by expat {why}, {theirs}", file=sys.stderr)
-    print("lexemes compared with expat: " + ", ".join(f"{counts[word]} {word}" for word in ("taken", "refused", "set aside", "failed")))
+    kinds = ", ".join(f"{counts[word]} {word}" for word in ("taken", "refused", "set aside"))
+    passed = counts["taken"] + counts["refused"]
+    print(f"lexemes compared with expat ({kinds}): {passed} passed, {counts['failed']} failed")
     return counts["failed"] > 0 or min(counts["taken"], counts["refused"]) < 1000
 
 

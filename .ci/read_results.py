@@ -3,72 +3,66 @@
 
 Usage: read_results.py ROWS...
 
-ROWS are the tables of parts and bytes that the tests of the writer compare with
-what it writes. The bytes of each result that leaves no element open have to be
-well-formed between a start and an end tag, and to be read as the parts that
-were taken: the same expanded names, attributes, texts, comments and processing
-instructions.
+ROWS are the files of rows with the parts and the bytes of results that are
+compared with what the writer writes. The bytes of each result that leaves no
+element open have to be well-formed between a start and an end tag, and to be
+read as the parts that were taken: the same expanded names, attributes, texts,
+comments and processing instructions.
 """
 
-import ast
 import re
 import sys
 from xml.parsers import expat
 
+from rows import rows, text_of
+
 # No Char, so no namespace URI holds it.
 SEPARATOR = "\x1f"
 
-TABLE = re.compile(r"^static \w+: \[(?:Row|Limited); (\d+)\] = \[\n(.*?)^\];$", re.M | re.S)
 
-
-def rows(source):
-    """The parts, the bytes and the refusals of each row."""
-    for count, body in TABLE.findall(source):
-        body = re.sub(r"^\s*//.*$", "", body, flags=re.M)
-        body = re.sub(r"\\u\{(\w+)\}", lambda code: f"\\U{int(code[1], 16):08x}", body)
-        table = ast.parse("[" + body.replace("&[", "[") + "]", mode="eval").body.elts
-        if len(table) != int(count):
-            raise ValueError(f"{len(table)} rows of {count} are read")
-        for row in table:
-            *_, parts, written, refusals = map(value, row.elts)
-            yield parts, written, refusals
-
-
-def value(node):
-    """A text, a number, a list or a tuple; a part as its form and its texts."""
-    if isinstance(node, ast.List):
-        return [value(item) for item in node.elts]
-    if isinstance(node, ast.Tuple):
-        return tuple(value(item) for item in node.elts)
-    if isinstance(node, ast.Call):
-        return (node.func.id, *map(value, node.args))
-    return ast.literal_eval(node)
-
-
-def expanded(written):
-    """`prefix:local URI` as expat names it."""
-    qname, _, uri = written.rpartition(" ") if " " in written else (written, "", "")
-    local = qname.partition(":")[2] or qname
+def expanded_name(written):
+    """`prefix{URI}local` as expat names it."""
+    uri, brace, local = written.partition("{")[2].rpartition("}")
+    local, uri = text_of(local if brace else written), text_of(uri)
     return uri + SEPARATOR + local if uri else local
 
 
-def taken(parts, refusals):
+def part(written):
+    """A part as its form and its texts."""
+    form, rest = written[0], written[1:]
+    first, _, second = rest.partition(" ")
+    if form == "<":
+        return "start", expanded_name(first.removeprefix("<"))
+    if form == "@":
+        return "attribute", expanded_name(first), text_of(second)
+    if form == "/":
+        return "end", expanded_name(rest)
+    if form == "?":
+        return "instruction", text_of(first), text_of(second)
+    return {'"': "text", "[": "section", "!": "comment"}[form], text_of(rest)
+
+
+def taken(given, refusals):
     refused = {int(place) for place in re.findall(r" at (\d+)", refusals)}
-    return [part for place, part in enumerate(parts) if place not in refused]
+    parts = given.split(" | ") if given else []
+    return [part(written) for place, written in enumerate(parts) if place not in refused]
 
 
 def events_of_parts(parts):
     events = []
     attributes = {}
+    open_names = []
     for form, *texts in parts:
-        if form in ("Start", "Scoped"):
+        if form == "start":
             attributes = {}
-            events.append(("start", expanded(texts[0]), attributes))
-        elif form == "Attr":
-            attributes[expanded(texts[0])] = texts[1]
-        elif form == "End":
-            events.append(("end", expanded(texts[0])))
-        elif form == "Chars":
+            open_names.append(texts[0])
+            events.append(("start", texts[0], attributes))
+        elif form == "attribute":
+            attributes[texts[0]] = texts[1]
+        elif form == "end":
+            # An end may be written without the name of what it ends.
+            events.append(("end", open_names.pop()))
+        elif form in ("text", "section"):
             add_text(events, texts[0])
         else:
             events.append((form, *texts))
@@ -89,8 +83,8 @@ def events_of_bytes(written):
     parser.StartElementHandler = lambda name, attributes: events.append(("start", name, attributes))
     parser.EndElementHandler = lambda name: events.append(("end", name))
     parser.CharacterDataHandler = lambda text: add_text(events, text)
-    parser.CommentHandler = lambda text: events.append(("Comment", text))
-    parser.ProcessingInstructionHandler = lambda *texts: events.append(("Pi", *texts))
+    parser.CommentHandler = lambda text: events.append(("comment", text))
+    parser.ProcessingInstructionHandler = lambda *texts: events.append(("instruction", *texts))
     parser.Parse(f"<r>{written}</r>".encode(), True)
     return events[1:-1]
 
@@ -100,15 +94,21 @@ def in_order(events):
     return [(*event[:2], list(event[2].items())) if event[0] == "start" else event for event in events]
 
 
+def results(path):
+    """What is given, the bytes and the refusals of each result."""
+    for table, _, given, wanted in rows(path):
+        if table == "results":
+            written, _, refusals = text_of(wanted).rpartition("!! ") if "!! " in wanted else (text_of(wanted), "", "")
+            yield given, written.removesuffix(" ") if refusals else written, refusals
+
+
 def main():
     passed = failed = 0
     for path in sys.argv[1:]:
-        with open(path, encoding="utf-8") as file:
-            source = file.read()
-        for parts, written, refusals in rows(source):
+        for given, written, refusals in results(path):
             if "UnclosedResult" in refusals:
                 continue
-            wanted = in_order(events_of_parts(taken(parts, refusals)))
+            wanted = in_order(events_of_parts(taken(given, refusals)))
             try:
                 found = in_order(events_of_bytes(written))
             except expat.ExpatError as error:

@@ -1,0 +1,5 @@
+use Rattle.std.proofs.Common.{◌≡◌, false}
+use Rattle.xml_rows.proofs.count.counted.Given as goal
+
+abbrev pub invariant-loop : goal.invariant-loop
+invariant-loop g l = l.reader.lexer.ended ≡ false

@@ -1,0 +1,222 @@
+//! Documents read to events. A start is `PLACE<NAME ATTRIBUTES DECLARATIONS>FIRST`, where FIRST tells the first child: `-` for
+//! none, `*` for one that is no text, else the text in quotes. Where `: brief` is set, the events are only counted.
+
+ghost use Rattle.std.specs.Prelude.{◌≡◌, false};
+
+use crate::lexemes::tell_fault;
+use crate::names::tell_declaration;
+use crate::reading::Reads;
+use rows::{Row, Trouble, tell_name};
+use std::alloc::Global;
+use std::fmt::Write;
+use stx_base::{Attr, Binding, First, Limits, List, Name, Spare};
+use xml_events::{Event, EventReader, Pull};
+
+pub struct Events;
+
+/// What was told, and texts of events that were told, which the next ones are made of.
+#[derive(Drop)]
+struct Telling {
+    text: String,
+    spare: Spare,
+    events: u64,
+    brief: bool,
+}
+
+impl Telling {
+    fn new(alloc: Global, row: &Row) -> Telling {
+        Telling {
+            text: String::new(alloc),
+            spare: Spare::new(alloc),
+            events: 0,
+            brief: row.is_set("brief"),
+        }
+    }
+
+    /// Ends a document's first answers.
+    fn over(&mut self) -> Result<(), Trouble> {
+        if self.brief {
+            write!(&mut self.text, ", {} events", self.events)?;
+        }
+        Ok(())
+    }
+}
+
+impl Reads for Events {
+    fn tell(
+        alloc: Global,
+        row: &Row,
+        pieces: &[&[u8]],
+        marked: bool,
+        out: &mut String,
+    ) -> Result<(), Trouble> {
+        let mut reader = begun(alloc, row.limits()?, row.is_set("strip"));
+        let mut telling = Telling::new(alloc, row);
+        tell_pieces(&mut reader, pieces, marked, &mut telling)?;
+        telling.over()?;
+        out.push_str(telling.text.as_str())?;
+        Ok(())
+    }
+
+    fn tell_again(
+        alloc: Global,
+        row: &Row,
+        document: &[u8],
+        out: &mut String,
+    ) -> Result<(), Trouble> {
+        let mut reader = begun(alloc, row.limits()?, row.is_set("strip"));
+        let mut telling = Telling::new(alloc, row);
+        tell_document_again(&mut reader, document, &mut telling)?;
+        out.push_str(telling.text.as_str())?;
+        Ok(())
+    }
+}
+
+fn tell_pieces(
+    reader: &mut EventReader,
+    pieces: &[&[u8]],
+    marked: bool,
+    out: &mut Telling,
+) -> Result<(), Trouble>
+    requires { reader.old.lexer.ended ≡ false }
+{
+    for piece in pieces {
+        if take(reader, piece, out)? {
+            return Ok(());
+        }
+        if marked {
+            out.text.push_str("? ")?;
+        }
+    }
+    end(reader, out)
+}
+
+fn tell_document_again(
+    reader: &mut EventReader,
+    document: &[u8],
+    out: &mut Telling,
+) -> Result<(), Trouble>
+    requires { reader.old.lexer.ended ≡ false }
+{
+    take(reader, document, out)?;
+    out.text.push_str("; ")?;
+    drain(reader, out)?;
+    out.text.push_str("; ")?;
+    take(reader, b"<a/>", out)?;
+    out.text.push_str("; ")?;
+    end(reader, out)
+}
+
+// The reader's contract says all of a document; these say what the rows need, which is quicker to prove from.
+
+pub fn begun(alloc: Global, limits: Limits, strip: bool) -> EventReader
+    ensures { result.lexer.ended ≡ false }
+{
+    EventReader::new(alloc, limits, strip)
+}
+
+pub fn answer(reader: &mut EventReader, spare: &mut Spare) -> Pull
+    ensures { reader.new.lexer.ended ≡ reader.old.lexer.ended }
+{
+    reader.next(spare)
+}
+
+/// Tells the answers behind a document's next bytes. Whether the reader is over.
+fn take(reader: &mut EventReader, piece: &[u8], out: &mut Telling) -> Result<bool, Trouble>
+    requires { reader.old.lexer.ended ≡ false }
+    ensures { reader.new.lexer.ended ≡ false }
+{
+    reader.feed(piece)?;
+    drain(reader, out)
+}
+
+/// Tells the answers at a document's end, and what comes behind them if anything does.
+fn end(reader: &mut EventReader, out: &mut Telling) -> Result<(), Trouble> {
+    reader.finish();
+    drain(reader, out)?;
+    match answer(reader, &mut out.spare) {
+        Pull::End | Pull::Bad(_) => Ok(()),
+        Pull::Event(_) | Pull::Need | Pull::Memory => Ok(out.text.push_str(", and more")?),
+    }
+}
+
+/// Whether the reader is over.
+fn drain(reader: &mut EventReader, out: &mut Telling) -> Result<bool, Trouble>
+    ensures { reader.new.lexer.ended ≡ reader.old.lexer.ended }
+{
+    for _ in 0..u64::MAX {
+        match answer(reader, &mut out.spare) {
+            Pull::Event(event) => tell_event(event, out)?,
+            Pull::Need => return Ok(false),
+            Pull::End => return Ok(true),
+            Pull::Bad(fault) => {
+                tell_fault(fault, &mut out.text)?;
+                return Ok(true);
+            }
+            Pull::Memory => return Err(Trouble::Memory),
+        }
+    }
+    Ok(true)
+}
+
+fn tell_event(event: Event, out: &mut Telling) -> Result<(), Trouble> {
+    if !out.brief {
+        tell(&event, &mut out.text)?;
+    }
+    out.events = out.events.saturating_add(1);
+    event.give_back(&mut out.spare);
+    Ok(())
+}
+
+fn tell(event: &Event, out: &mut String) -> Result<(), Trouble> {
+    match event {
+        Event::Start {
+            offset,
+            name,
+            attrs,
+            decls,
+            first,
+        } => {
+            write!(out, "{offset}<")?;
+            tell_tag(name, attrs, decls, out)?;
+            tell_first(first, out)?;
+        }
+        Event::End { offset } => write!(out, "{offset}</> ")?,
+        Event::Chars { offset, text } => write!(out, "{offset}[{}] ", text.as_str())?,
+        Event::Comment { offset, text } => write!(out, "{offset}comment[{}] ", text.as_str())?,
+        Event::Pi {
+            offset,
+            target,
+            text,
+        } => write!(out, "{offset}pi[{}|{}] ", target.as_str(), text.as_str())?,
+        Event::DocumentEnd { offset } => write!(out, "{offset}end")?,
+    }
+    Ok(())
+}
+
+fn tell_tag(
+    name: &Name,
+    attrs: &List<Attr>,
+    decls: &List<Binding>,
+    out: &mut String,
+) -> Result<(), Trouble> {
+    tell_name(name, out)?;
+    for attr in attrs.as_slice() {
+        out.push(' ')?;
+        tell_name(&attr.name, out)?;
+        write!(out, "='{}'", attr.value.as_str())?;
+    }
+    for binding in decls.as_slice() {
+        tell_declaration(&binding.prefix, &binding.uri, out)?;
+    }
+    Ok(())
+}
+
+fn tell_first(first: &First, out: &mut String) -> Result<(), Trouble> {
+    match first {
+        First::Nothing => out.push_str(">- ")?,
+        First::Other => out.push_str(">* ")?,
+        First::Chars(text) => write!(out, ">'{}' ", text.as_str())?,
+    }
+    Ok(())
+}

@@ -1,0 +1,49 @@
+//! Rows of lexemes, names, events and results: what comes of each is compared with what is wanted. Without words it counts the
+//! events of the document on standard input.
+#![tactic(auto)]
+
+mod count;
+mod ends;
+mod events;
+mod lexemes;
+mod names;
+mod reading;
+mod writer;
+
+use reading::{tell_again, tell_cuts, tell_pieces};
+use rows::{Row, Tables, Trouble, run_rows};
+use std::alloc::Global;
+use std::process::ExitCode;
+use std::{env, io};
+
+struct Xml;
+
+impl Tables for Xml {
+    fn tell(&self, alloc: Global, row: &Row, out: &mut String) -> Result<(), Trouble> {
+        match row.table {
+            "lexemes" => tell_cuts::<lexemes::Lexemes>(alloc, row, out),
+            "lexemes of pieces" => tell_pieces::<lexemes::Lexemes>(alloc, row, out),
+            "last lexemes" => tell_again::<lexemes::Lexemes>(alloc, row, out),
+            "runs of lexemes" => lexemes::tell_run(alloc, row, out),
+            "ends of pieces" => tell_pieces::<ends::Ends>(alloc, row, out),
+            "last ends" => tell_again::<ends::Ends>(alloc, row, out),
+            "names" => names::tell(alloc, row, out),
+            "events" => tell_cuts::<events::Events>(alloc, row, out),
+            "events of pieces" => tell_pieces::<events::Events>(alloc, row, out),
+            "last events" => tell_again::<events::Events>(alloc, row, out),
+            "results" => writer::tell(alloc, row, out),
+            "settled" => writer::tell_settled(alloc, row, out),
+            "at once" => writer::tell_at_once(alloc, row, out),
+            "characters" => writer::tell_character(alloc, row, out),
+            _ => Err(Trouble::Row("a table that isn't there")),
+        }
+    }
+}
+
+fn main(rt: HostRuntime) -> io::Result<ExitCode> {
+    if env::args(&rt)?.count() > 1 {
+        return run_rows(&rt, &Xml);
+    }
+    count::report(rt.alloc(), &mut rt.stdin(), &mut rt.stdout())?;
+    Ok(ExitCode::SUCCESS)
+}
