@@ -3,7 +3,7 @@ use Rattle.std.specs.Prelude.{if◌then◌else◌, List, [], ◌∷◌, Option, 
 use Rattle.stx_base.specs.declared.name.Name.{Name}
 use Rattle.node_stack.specs.Test.{same_name}
 use Rattle.stxpath_values.specs.declared.value.Atom.{Atom}
-use Rattle.stxpath_eval_tests.specs.declared.variables.Variable.{Variable}
+use Rattle.path_rows.specs.declared.variables.Variable.{Variable}
 
 -- the value of the first variable of the name
 abbrev pub value_in : List Variable → Name → Option (List Atom)

@@ -2,7 +2,7 @@
 
 ghost use Rattle.std.specs.Prelude.{◌≡◌};
 ghost use Rattle.node_stack.specs.Test as spec;
-ghost use Rattle.stxpath_eval_tests.specs.Variables.{value_in};
+ghost use Rattle.path_rows.specs.Variables.{value_in};
 
 use stx_base::{List, Name, Text};
 use stxpath_eval::Vars;
