@@ -3,60 +3,46 @@
 
 Usage: run_documents.py ROWS PROGRAM...
 
-ROWS is the file with the tables of documents that the tests of whole runs use:
-those that are read to their end and those with a fault, each with what copying
-and stripping it gives. PROGRAM is the command, without the name of a sheet.
-Three more documents, which only their size makes faulty, are made here.
+ROWS is the file of rows with the documents that whole runs are tested on: those
+that are read to their end and those with a fault, each with what copying and
+stripping it gives. PROGRAM is the command, without the name of a sheet. Two
+more documents, which only their size makes faulty, are made here.
 """
 
-import ast
-import re
 import subprocess
 import sys
 import tempfile
 from pathlib import Path
 
+from rows import bytes_of, rows, text_of
+
 SHEET = '<stx:transform version="1.0" xmlns:stx="http://stx.sourceforge.net/2002/ns"{}></stx:transform>'
 HEAD = '<?xml version="1.0" encoding="UTF-8"?>\n'
-TABLE = re.compile(r"^pub static (\w+): \[\([^\]]*\); (\d+)\] = \[\n(.*?)^\];$", re.M | re.S)
 # The limits of a lexeme's bytes and of a text's characters.
 LIMIT = 64 * 1024 * 1024
 
 
-def tables(source):
-    """Each table by its name."""
-    found = {}
-    for name, count, body in TABLE.findall(source):
-        body = re.sub(r"^\s*//.*$", "", body, flags=re.M)
-        body = re.sub(r"\\u\{(\w+)\}", lambda code: f"\\U{int(code[1], 16):08x}", body)
-        rows = ast.literal_eval("[" + body + "]")
-        if len(rows) != int(count):
-            raise ValueError(f"{len(rows)} rows of {count} are read in {name}")
-        found[name] = rows
-    return found
-
-
-def documents(source):
+def documents(path):
     """The bytes of each document, what copying and stripping it writes behind the head, and its fault, if it has one."""
-    rows = tables(source)
-    for document, copied, stripped in rows["COPIES"]:
-        yield document.encode(), copied, stripped, None
-    for document, copied, stripped, fault in rows["FAULTS"]:
-        yield document.encode(), copied, stripped, fault
-    yield b"<a>\xff</a>", "", "", "BadUtf8 at 3"
+    for table, _, given, wanted in rows(path):
+        if table == "copies":
+            copied, _, rest = text_of(wanted).partition("||")
+            stripped, end, fault = rest.removeprefix(" ").partition("!! 4 stx: -: ")
+            stripped = stripped.removesuffix(" ") if end else stripped
+            yield bytes_of(given), copied.removesuffix(" "), stripped, fault.removesuffix("\n") or None
     yield b"<a>" * 513, "<a>" * 510, "", "TooDeep at 1536"
     yield b"<a>" + b"x" * (LIMIT + 1), "", "", "LexemeTooLong at 3"
     half = b"<![CDATA[" + b"x" * (LIMIT // 2) + b"]]>"
     yield b"<a>" + half + half + b"x</a>", "", "", f"TextTooLong at {3 + 2 * len(half)}"
 
 
-def main(rows, *program):
+def main(path, *program):
     sheets = {"all": ' pass-through="all"', "text": ' pass-through="text"', "none": ' pass-through="none"'}
     ran = failed = 0
     with tempfile.TemporaryDirectory() as folder:
         for name, attribute in sheets.items():
             Path(folder, name).write_text(SHEET.format(attribute), encoding="ascii")
-        for document, copied, stripped, fault in documents(Path(rows).read_text(encoding="utf-8")):
+        for document, copied, stripped, fault in documents(path):
             content = {"all": copied, "text": stripped, "none": ""}
             wanted_note = f"stx: -: {fault}\n" if fault else ""
             for name in sheets:
