@@ -14,7 +14,7 @@ use Rattle.result_writer.specs.Target.{Left, attribute_fault, chars_fault, close
 use Rattle.result_writer.specs.declared.fault.ResultFault.{ResultFault}
 use Rattle.result_writer.specs.declared.fault.ResultFault.TheVariants.{BadName, BadChar, BadComment, BadPi, ResultDepth, UnclosedResult, WrongEnd}
 use Rattle.result_writer.specs.declared.tag.HeldTag.{HeldTag}
-use Rattle.xml_events.specs.Tree.{Why, Mark, Fresh, Told, Begun, Leaf, Chars, Comment, Pi, Element, Forest, End, Cut, Single, Nested}
+use Rattle.xml_events.specs.Tree.{Why, Leaf, Chars, CData, Comment, Pi, Element, Forest, End, Cut, Single, Nested, Stage, Waiting, Ready, Entered}
 use Rattle.stx_engine.specs.Accepted.{TakesGood, is_good, is_good_attr, is_good_element, is_good_leaf}
 use Rattle.stx_engine.specs.Meaning.{Complete, Refused, attribute_part, end_parts, leaf_parts, start_parts}
 use Rattle.stx_engine.specs.Opens.{named, names_by, names_of}
@@ -88,18 +88,20 @@ module _ (limit : ℕ) where
     by_stop None e = put-taken l p.parts q ns ms (record { faultless = h.faultless; behind = h.behind e }) (k (h.behind e))
     by_stop (Some why) e = record { faultless = h.faultless; behind = λ (n : p.stop ≡ None). absurd cc }
 
-  once-taken : (l : Left) (m : Mark) (kids : Forest) (p : Passed) (ms : List Name) → Taken limit l p ms → Taken limit l (once_ready m kids p) ms
-  once-taken l Fresh (Cut why) p ms h = record { faultless = refl; behind = λ e. absurd cc }
-  once-taken l Fresh (End m offset) p ms h = h
-  once-taken l Fresh (Single m leaf next) p ms h = h
-  once-taken l Fresh (Nested m e kids next) p ms h = h
-  once-taken l Told kids p ms h = h
-  once-taken l Begun kids p ms h = h
+  once-taken : (l : Left) (m : Stage) (kids : Forest) (p : Passed) (ms : List Name) → Taken limit l p ms → Taken limit l (once_ready m kids p) ms
+  once-taken l Waiting (Cut why) p ms h = record { faultless = refl; behind = λ e. absurd cc }
+  once-taken l Waiting (End m offset) p ms h = h
+  once-taken l Waiting (Single m leaf next) p ms h = h
+  once-taken l Waiting (Nested m e kids next) p ms h = h
+  once-taken l (Ready first) kids p ms h = h
+  once-taken l (Entered first) kids p ms h = h
 
   -- The parts of a node
 
   leaf-fine : (l : Left) (p : Pass) (leaf : Leaf) → is_good_leaf leaf ≡ true → Fine limit l (leaf_parts p leaf) (names_of l)
   leaf-fine l pass.All (Chars offset text) h =
+      record { faultless = both-none (chars_fault text) None (unless-none (are_chars text) BadChar None h refl) refl; behind = settled-names l.elements l.held }
+  leaf-fine l pass.All (CData offset text) h =
       record { faultless = both-none (chars_fault text) None (unless-none (are_chars text) BadChar None h refl) refl; behind = settled-names l.elements l.held }
   leaf-fine l pass.All (Comment offset text) h =
       let b = and_parts (are_chars text) (is_good_comment text) h in
@@ -114,6 +116,8 @@ module _ (limit : ℕ) where
         behind = settled-names l.elements l.held;
       }
   leaf-fine l pass.Chars (Chars offset text) h =
+      record { faultless = both-none (chars_fault text) None (unless-none (are_chars text) BadChar None h refl) refl; behind = settled-names l.elements l.held }
+  leaf-fine l pass.Chars (CData offset text) h =
       record { faultless = both-none (chars_fault text) None (unless-none (are_chars text) BadChar None h refl) refl; behind = settled-names l.elements l.held }
   leaf-fine l pass.Chars (Comment offset text) h = record { faultless = refl; behind = refl }
   leaf-fine l pass.Chars (Pi offset target text) h = record { faultless = refl; behind = refl }

@@ -12,7 +12,7 @@ use Rattle.result_writer.specs.Target.{nothing, text, text_from}
 use Rattle.result_writer.specs.declared.escape.Context.TheVariants.{Content}
 use Rattle.xml_events.specs.Document.{doc}
 use Rattle.xml_events.specs.Telling.{stop_in}
-use Rattle.xml_events.specs.Tree.{Why, Mark, Fresh, Told, Begun, Chars, Comment, Pi, Element, Forest, End, Cut, Single, Nested}
+use Rattle.xml_events.specs.Tree.{Why, Chars, CData, Comment, Pi, Element, Forest, End, Cut, Single, Nested, Stage, Waiting, Ready, Entered}
 use Rattle.stx_engine.specs.Answer.{run_of}
 use Rattle.stx_engine.specs.Copies.{CopiesAll, CopiesNothing, WritesDocuments, WritesTexts, all_text, nodes_of}
 use Rattle.stx_engine.specs.Meaning.{Complete, attribute_part, end_parts, outcome, start_parts}
@@ -29,19 +29,19 @@ none-both : (a b : Option Why) → option_or a b ≡ None → (a ≡ None) × (b
 none-both None b h = (refl, h)
 none-both (Some why) b h = absurd cc
 
-once-is : (m : Mark) (kids : Forest) (p : Passed) → stop_in kids ≡ None → once_ready m kids p ≡ p
-once-is Fresh (Cut why) p h = absurd cc
-once-is Fresh (End m offset) p h = refl
-once-is Fresh (Single m leaf next) p h = refl
-once-is Fresh (Nested m e kids next) p h = refl
-once-is Told kids p h = refl
-once-is Begun kids p h = refl
+once-is : (m : Stage) (kids : Forest) (p : Passed) → stop_in kids ≡ None → once_ready m kids p ≡ p
+once-is Waiting (Cut why) p h = absurd cc
+once-is Waiting (End m offset) p h = refl
+once-is Waiting (Single m leaf next) p h = refl
+once-is Waiting (Nested m e kids next) p h = refl
+once-is (Ready first) kids p h = refl
+once-is (Entered first) kids p h = refl
 
 then-is : (p q : Passed) → p.stop ≡ None → then_put p q ≡ put p.parts q
 then-is p q h = ap (λ s. unless_stopped s p q) h
 
 -- the parts of an element whose list ends
-nested-is : (p : Pass) (scope : List Binding) (m : Mark) (e : Element) (kids next : Forest) → stop_in kids ≡ None →
+nested-is : (p : Pass) (scope : List Binding) (m : Stage) (e : Element) (kids next : Forest) → stop_in kids ≡ None →
     (passed p scope (Nested m e kids next)).parts
     ≡ start_parts p (scope_within scope e.decls) e.name e.attrs ++ ((passed p (scope_within scope e.decls) kids).parts ++ (end_parts p e.name ++ (passed p scope next).parts))
 nested-is p scope m e kids next h =
@@ -58,6 +58,7 @@ all-parts : (scope : List Binding) (f : Forest) → stop_in f ≡ None → (pass
 all-parts scope (End m offset) h = refl
 all-parts scope (Cut why) h = refl
 all-parts scope (Single m (Chars offset text) next) h = ap (λ l. part.Chars text ∷ l) (all-parts scope next h)
+all-parts scope (Single m (CData offset text) next) h = ap (λ l. part.Chars text ∷ l) (all-parts scope next h)
 all-parts scope (Single m (Comment offset text) next) h = ap (λ l. part.Comment text ∷ l) (all-parts scope next h)
 all-parts scope (Single m (Pi offset target text) next) h = ap (λ l. part.Pi target text ∷ l) (all-parts scope next h)
 all-parts scope (Nested m e kids next) h =
@@ -108,6 +109,10 @@ texts scope (Single m (Chars offset said) next) h ps =
     ap (λ t. shown said ++ t) (texts scope next h ps)
     ∙ sym (append_assoc (shown said) (shown (all_text next)) (text_from nothing ps))
     ∙ ap (λ t. t ++ text_from nothing ps) (sym (shown-append said (all_text next)))
+texts scope (Single m (CData offset said) next) h ps =
+    ap (λ t. shown said ++ t) (texts scope next h ps)
+    ∙ sym (append_assoc (shown said) (shown (all_text next)) (text_from nothing ps))
+    ∙ ap (λ t. t ++ text_from nothing ps) (sym (shown-append said (all_text next)))
 texts scope (Single m (Comment offset said) next) h ps = texts scope next h ps
 texts scope (Single m (Pi offset target said) next) h ps = texts scope next h ps
 texts scope (Nested m e kids next) h ps =
@@ -136,13 +141,13 @@ then-nothing : (s : Option Why) (p q : Passed) → p.parts ≡ [] → q.parts �
 then-nothing None p q h k = ap (λ l. l ++ q.parts) h ∙ k
 then-nothing (Some why) p q h k = h
 
-once-nothing : (m : Mark) (kids : Forest) (p : Passed) → p.parts ≡ [] → (once_ready m kids p).parts ≡ []
-once-nothing Fresh (Cut why) p h = refl
-once-nothing Fresh (End m offset) p h = h
-once-nothing Fresh (Single m leaf next) p h = h
-once-nothing Fresh (Nested m e kids next) p h = h
-once-nothing Told kids p h = h
-once-nothing Begun kids p h = h
+once-nothing : (m : Stage) (kids : Forest) (p : Passed) → p.parts ≡ [] → (once_ready m kids p).parts ≡ []
+once-nothing Waiting (Cut why) p h = refl
+once-nothing Waiting (End m offset) p h = h
+once-nothing Waiting (Single m leaf next) p h = h
+once-nothing Waiting (Nested m e kids next) p h = h
+once-nothing (Ready first) kids p h = h
+once-nothing (Entered first) kids p h = h
 
 no-parts : (scope : List Binding) (f : Forest) → (passed pass.None scope f).parts ≡ []
 no-parts scope (End m offset) = refl

@@ -19,7 +19,7 @@ use Rattle.result_writer.specs.declared.fault.ResultFault.TheVariants.{Unmatched
 use Rattle.result_writer.specs.declared.tag.HeldTag.{HeldTag}
 use Rattle.result_writer.specs.declared.fault.WriteStop.{WriteStop}
 use Rattle.result_writer.specs.declared.fault.WriteStop.TheVariants.{Fault, Memory}
-use Rattle.xml_events.specs.Tree.{Chars, Comment, Element, Future, Pi}
+use Rattle.xml_events.specs.Tree.{Chars, CData, Comment, Element, Future, Pi}
 use Rattle.xml_events.specs.declared.event.Event.TheVariants as event
 use Rattle.stx_base.specs.declared.node.First.{First}
 use Rattle.stx_base.specs.declared.part.Part.TheVariants as part
@@ -290,12 +290,17 @@ end-refused c new before now e (Err stop) k all none some u =
 -- What was to come, by the event
 
 pub told-start : (c : Copying) (e : Element) (first : First) (f : Future) → given_by c (event.Start e.offset e.name e.attrs e.decls first) f ≡ start_ahead c e.name e.attrs e.decls f
-told-start c e first f = ap (given_of c.writer) (rest-start c.pass c.scope (opens c) e f)
+told-start c e first f = ap (given_of c.writer) (rest-start c.pass c.scope (opens c) e first f)
 
 placeless : (p : Pass) (offset : ℕ) (text : List ℕ) → leaf_parts p (Chars offset text) ≡ leaf_parts p (Chars 0 text)
 placeless pass.All offset text = refl
 placeless pass.Chars offset text = refl
 placeless pass.None offset text = refl
+
+placeless-cdata : (p : Pass) (offset : ℕ) (text : List ℕ) → leaf_parts p (CData offset text) ≡ leaf_parts p (Chars 0 text)
+placeless-cdata pass.All offset text = refl
+placeless-cdata pass.Chars offset text = refl
+placeless-cdata pass.None offset text = refl
 
 placeless-comment : (p : Pass) (offset : ℕ) (text : List ℕ) → leaf_parts p (Comment offset text) ≡ leaf_parts p (Comment 0 text)
 placeless-comment pass.All offset text = refl
@@ -309,6 +314,9 @@ placeless-instruction pass.None offset target text = refl
 
 pub told-chars : (c : Copying) (offset : ℕ) (text : List ℕ) (f : Future) → given_by c (event.Chars offset text) f ≡ leaf_ahead c (leaf_parts c.pass (Chars 0 text)) f
 told-chars c offset text f = ap (given_of c.writer) (rest-leaf c.pass c.scope (opens c) (Chars offset text) f ∙ ap (λ ps. put ps (still c f)) (placeless c.pass offset text))
+
+pub told-cdata : (c : Copying) (offset : ℕ) (text : List ℕ) (f : Future) → given_by c (event.CData offset text) f ≡ leaf_ahead c (leaf_parts c.pass (Chars 0 text)) f
+told-cdata c offset text f = ap (given_of c.writer) (rest-leaf c.pass c.scope (opens c) (CData offset text) f ∙ ap (λ ps. put ps (still c f)) (placeless-cdata c.pass offset text))
 
 pub told-comment : (c : Copying) (offset : ℕ) (text : List ℕ) (f : Future) → given_by c (event.Comment offset text) f ≡ leaf_ahead c (leaf_parts c.pass (Comment 0 text)) f
 told-comment c offset text f = ap (given_of c.writer) (rest-leaf c.pass c.scope (opens c) (Comment offset text) f ∙ ap (λ ps. put ps (still c f)) (placeless-comment c.pass offset text))

@@ -12,7 +12,7 @@ use Rattle.result_writer.specs.Laws.{WritesPrefixes}
 use Rattle.result_writer.specs.Table.{has_prefix, in_order, placed, precedes}
 use Rattle.result_writer.specs.Target.{Left, fault, first_fault, next, nothing, or_else}
 use Rattle.result_writer.specs.declared.fault.ResultFault.{ResultFault}
-use Rattle.xml_events.specs.Tree.{Why, Mark, Fresh, Told, Begun, Leaf, Chars, Comment, Pi, Forest, End, Cut, Single, Nested}
+use Rattle.xml_events.specs.Tree.{Why, Leaf, Chars, CData, Comment, Pi, Forest, End, Cut, Single, Nested, Stage, Waiting, Ready, Entered}
 use Rattle.stx_engine.specs.Accepted.{RunsNest, declares_names}
 use Rattle.stx_engine.specs.Meaning.{attribute_part, end_parts, leaf_parts, start_parts}
 use Rattle.stx_engine.specs.Output.{is_sound_part, output}
@@ -78,9 +78,11 @@ all-end pass.None name = refl
 
 all-leaf : (p : Pass) (leaf : Leaf) → all (leaf_parts p leaf)
 all-leaf pass.All (Chars offset text) = refl
+all-leaf pass.All (CData offset text) = refl
 all-leaf pass.All (Comment offset text) = refl
 all-leaf pass.All (Pi offset target text) = refl
 all-leaf pass.Chars (Chars offset text) = refl
+all-leaf pass.Chars (CData offset text) = refl
 all-leaf pass.Chars (Comment offset text) = refl
 all-leaf pass.Chars (Pi offset target text) = refl
 all-leaf pass.None leaf = refl
@@ -91,13 +93,13 @@ all-then p q h k = by_stop p.stop where
   by_stop None = all-append p.parts q.parts h k
   by_stop (Some why) = h
 
-all-once : (m : Mark) (kids : Forest) (p : Passed) → all p.parts → all (once_ready m kids p).parts
-all-once Fresh (Cut why) p h = refl
-all-once Fresh (End m offset) p h = h
-all-once Fresh (Single m leaf next) p h = h
-all-once Fresh (Nested m e kids next) p h = h
-all-once Told kids p h = h
-all-once Begun kids p h = h
+all-once : (m : Stage) (kids : Forest) (p : Passed) → all p.parts → all (once_ready m kids p).parts
+all-once Waiting (Cut why) p h = refl
+all-once Waiting (End m offset) p h = h
+all-once Waiting (Single m leaf next) p h = h
+all-once Waiting (Nested m e kids next) p h = h
+all-once (Ready first) kids p h = h
+all-once (Entered first) kids p h = h
 
 all-passed : (p : Pass) (scope : List Binding) (f : Forest) → list_all named scope ≡ true → declares_names f ≡ true → all (passed p scope f).parts
 all-passed p scope (End m offset) h k = refl

@@ -9,7 +9,7 @@ use Rattle.stx_base.specs.declared.name.Binding.{Binding}
 use Rattle.stx_base.specs.declared.part.Part.{Part}
 use Rattle.result_writer.specs.Target.{Left, fault, left_by, next, nothing, settles, text, text_from}
 use Rattle.result_writer.specs.declared.fault.ResultFault.{ResultFault}
-use Rattle.xml_events.specs.Document.{doc, mark_by}
+use Rattle.xml_events.specs.Document.{doc, stage_by}
 use Rattle.xml_events.specs.Growing.{DocumentsGrow, Grows}
 use Rattle.xml_events.specs.Tree.{Why, Need, Bad, Forest, End, Cut, Single, Nested}
 use Rattle.stx_engine.specs.Answer.{run_answer, run_of, settled, sheet_answer, sheet_named, words_answer}
@@ -53,12 +53,12 @@ longer-nothing : (q : Passed) → Longer (stopped Need) q
 longer-nothing q = inr (refl, (q.parts, refl))
 
 -- an element is ready in both, or in the first one it isn't
-longer-once : (kids list : Forest) (p q : Passed) → Grows kids list → Longer p q → Longer (once_ready (mark_by kids) kids p) (once_ready (mark_by list) list q)
-longer-once (Cut Need) list p q h k = longer-nothing (once_ready (mark_by list) list q)
-longer-once (Cut (Bad fault)) list p q h k = inl (ap (λ l. once_ready (mark_by l) l q) h)
-longer-once (End m offset) list p q h k = subst (λ l. Longer p (once_ready (mark_by l) l q)) (sym h) k
-longer-once (Single m leaf next) list p q h k = subst (λ l. Longer p (once_ready (mark_by l) l q)) (sym h.1) k
-longer-once (Nested m e kids next) list p q h k = subst (λ l. Longer p (once_ready (mark_by l) l q)) (sym h.3) k
+longer-once : (kids list : Forest) (p q : Passed) → Grows kids list → Longer p q → Longer (once_ready (stage_by kids) kids p) (once_ready (stage_by list) list q)
+longer-once (Cut Need) list p q h k = longer-nothing (once_ready (stage_by list) list q)
+longer-once (Cut (Bad fault)) list p q h k = inl (ap (λ l. once_ready (stage_by l) l q) h)
+longer-once (End m offset) list p q h k = subst (λ l. Longer p (once_ready (stage_by l) l q)) (sym h) k
+longer-once (Single m leaf next) list p q h k = subst (λ l. Longer p (once_ready (stage_by l) l q)) (sym h.1) k
+longer-once (Nested m e kids next) list p q h k = subst (λ l. Longer p (once_ready (stage_by l) l q)) (sym h.3) k
 
 longer : (p : Pass) (scope : List Binding) (old new : Forest) → Grows old new → Longer (passed p scope old) (passed p scope new)
 longer p scope (End m offset) new h = inl (ap (passed p scope) h)
@@ -77,7 +77,7 @@ longer p scope (Nested m e kids next) new h =
     (longer-then (passed p inside kids) (passed p inside h.0) (put end (passed p scope next)) (put end (passed p scope h.1)) (longer p inside kids h.0 h.4)
     (longer-put end (passed p scope next) (passed p scope h.1) (longer p scope next h.1 h.5))) in
     subst (λ n. Longer (once_ready n kids was) (passed p scope new)) (sym h.2)
-    (subst (λ f. Longer (once_ready (mark_by kids) kids was) (passed p scope f)) (sym h.3) (longer-once kids h.0 was is h.4 all))
+    (subst (λ f. Longer (once_ready (stage_by kids) kids was) (passed p scope f)) (sym h.3) (longer-once kids h.0 was is h.4 all))
 
 -- Runs
 
@@ -142,11 +142,11 @@ over-stays limit p old new h over =
 module _ (grow : DocumentsGrow) where
   pub bytes-stay : BytesStay
   bytes-stay limits p bytes more ended =
-      settled-stays limits.elements p (doc limits false bytes false) (doc limits false (bytes ++ more) ended) (grow limits false bytes more ended)
+      settled-stays limits.elements p (doc limits false bytes false) (doc limits false (bytes ++ more) ended) (grow limits false false bytes more ended)
 
   pub run-stays : RunStays
   run-stays limits p bytes more ended =
-      over-stays limits.elements p (doc limits false bytes false) (doc limits false (bytes ++ more) ended) (grow limits false bytes more ended)
+      over-stays limits.elements p (doc limits false bytes false) (doc limits false (bytes ++ more) ended) (grow limits false false bytes more ended)
 
   by_pass : (name : List ℕ) (o : Option Pass) (p : Pass) (bytes more : List ℕ) → o ≡ Some p → Begins (settled standard_limits p bytes) (run_answer name o (bytes ++ more)).out
   by_pass name o p bytes more e =

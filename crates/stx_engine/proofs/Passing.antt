@@ -5,7 +5,7 @@ use Rattle.stx_base.proofs.Course.{funext, unfolded, ends_said, stopped as stopp
 use Rattle.stx_base.specs.declared.part.Part.{Part}
 use Rattle.result_writer.specs.Target.{Left, fault, next, nothing}
 use Rattle.result_writer.specs.declared.fault.ResultFault.{ResultFault}
-use Rattle.xml_events.specs.Tree.{Why, Mark, Fresh, Told, Begun, Leaf, Element, Forest, End, Cut, Single, Nested}
+use Rattle.xml_events.specs.Tree.{Why, Begun, Leaf, Element, Forest, End, Cut, Single, Nested, Stage, Waiting, Ready, Entered}
 use Rattle.stx_engine.specs.declared.pass.Pass.{Pass}
 use Rattle.stx_engine.specs.Meaning as meaning
 use Rattle.stx_engine.specs.Meaning.{Put, Unready, Refused, Here, State, Asked, Nodes, Does, when_ready, start_parts, end_parts, leaf_parts, siblings, pass_leaf, pass_element, nodes, code, outcome, puts, ending_of, with_part}
@@ -78,13 +78,13 @@ module _ (limit : ℕ) where
   by_call : (list : Forest) (asked : Asked) (s : State) (k : Here → Does) (r : Run) → Has (and_then (nodes limit list asked s) k) r → Has (Ask (Nodes list asked s) k) r
   by_call list asked s k r h = (unfolded (code limit) (Nodes list asked s) k).from (map Put r.parts) r.ending h
 
-  by_ready : (m : Mark) (kids : Forest) (p : Passed) (s : State) (k : Here → Does) (R : Left → Run) (go : Does) → Does_so p s R (and_then go k) → Does_so (once_ready m kids p) s R (and_then (when_ready m kids go) k)
-  by_ready Told kids p s k R go h = h
-  by_ready Begun kids p s k R go h = h
-  by_ready Fresh (Cut why) p s k R go h = stopped_so (code limit) [] (Unready why)
-  by_ready Fresh (End m offset) p s k R go h = h
-  by_ready Fresh (Single m leaf next) p s k R go h = h
-  by_ready Fresh (Nested m e kids next) p s k R go h = h
+  by_ready : (m : Stage) (kids : Forest) (p : Passed) (s : State) (k : Here → Does) (R : Left → Run) (go : Does) → Does_so p s R (and_then go k) → Does_so (once_ready m kids p) s R (and_then (when_ready m kids go) k)
+  by_ready (Ready first) kids p s k R go h = h
+  by_ready (Entered first) kids p s k R go h = h
+  by_ready Waiting (Cut why) p s k R go h = stopped_so (code limit) [] (Unready why)
+  by_ready Waiting (End m offset) p s k R go h = h
+  by_ready Waiting (Single m leaf next) p s k R go h = h
+  by_ready Waiting (Nested m e kids next) p s k R go h = h
 
   -- a leaf's parts, and then its siblings
   leaf_is : (leaf : Leaf) (asked : Asked) (next : Forest) (s : State) (k : Here → Does) →

@@ -40,6 +40,7 @@ lists-go : (e : Event) (lists elements behind : ℕ) → Opened e elements behin
 lists-go (event.Start offset name attrs decls first) lists elements behind o l d = omega (arith, o, l)
 lists-go (event.End offset) lists elements behind o l d = omega (arith, o, l)
 lists-go (event.Chars offset text) lists elements behind o l d = omega (arith, o, l)
+lists-go (event.CData offset text) lists elements behind o l d = omega (arith, o, l)
 lists-go (event.Comment offset text) lists elements behind o l d = omega (arith, o, l)
 lists-go (event.Pi offset target text) lists elements behind o l d = omega (arith, o, l)
 lists-go (event.DocumentEnd offset) lists elements behind o l d = absurd (omega (arith, o, l, d offset refl))
@@ -48,6 +49,7 @@ over-behind : (e : Event) (over : Option Ending) (lists elements behind : ℕ) �
 over-behind (event.Start offset name attrs decls first) over lists elements behind h o l d = h
 over-behind (event.End offset) over lists elements behind h o l d = h
 over-behind (event.Chars offset text) over lists elements behind h o l d = h
+over-behind (event.CData offset text) over lists elements behind h o l d = h
 over-behind (event.Comment offset text) over lists elements behind h o l d = h
 over-behind (event.Pi offset target text) over lists elements behind h o l d = h
 over-behind (event.DocumentEnd offset) over lists elements behind h o l d = absurd (omega (arith, o, l, d offset refl))

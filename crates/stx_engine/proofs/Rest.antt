@@ -4,7 +4,8 @@ use Rattle.std.specs.Prelude.{unwrap_or}
 use Rattle.stx_base.specs.declared.name.Binding.{Binding}
 use Rattle.stx_base.specs.declared.part.Part.{Part}
 use Rattle.xml_events.specs.Document.{inner, outer}
-use Rattle.xml_events.specs.Tree.{Why, Told, Leaf, Element, End, Single, Nested, Future}
+use Rattle.stx_base.specs.declared.node.First.{First}
+use Rattle.xml_events.specs.Tree.{Why, Told, Leaf, Element, End, Single, Nested, Future, Ready}
 use Rattle.stx_engine.specs.Opens.{Open, opens_by}
 use Rattle.stx_base.specs.declared.name.Name.{Name}
 use Rattle.stx_engine.specs.declared.pass.Pass.{Pass}
@@ -51,18 +52,18 @@ module _ (p : Pass) (scope : List Binding) where
       ∙ ap (put (leaf_parts p leaf)) (sym (rest-onwards os f))
 
   -- the start of an element
-  pub rest-start : (os : List Open) (e : Element) (f : Future) →
-      rest p scope os (Nested Told e (inner f) (inner (outer f)) ∷ outer (outer f))
+  pub rest-start : (os : List Open) (e : Element) (first : First) (f : Future) →
+      rest p scope os (Nested (Ready first) e (inner f) (inner (outer f)) ∷ outer (outer f))
       ≡ put (start_parts p (scope_within scope e.decls) e.name e.attrs) (rest p (scope_within scope e.decls) (record { name = e.name; outer = Some scope } ∷ os) f)
-  rest-start os e f =
+  rest-start os e first f =
       let within = scope_within scope e.decls in
-      let first = start_parts p within e.name e.attrs in
+      let begin = start_parts p within e.name e.attrs in
       let kids = passed p within (inner f) in
       let last = end_parts p e.name in
       let next = passed p scope (inner (outer f)) in
-      rest-onwards os (Nested Told e (inner f) (inner (outer f)) ∷ outer (outer f))
-      ∙ onwards-put os (outer (outer f)) first (then_put kids (put last next))
-      ∙ ap (put first)
+      rest-onwards os (Nested (Ready first) e (inner f) (inner (outer f)) ∷ outer (outer f))
+      ∙ onwards-put os (outer (outer f)) begin (then_put kids (put last next))
+      ∙ ap (put begin)
       (onwards-then_put os (outer (outer f)) kids (put last next)
       ∙ ap (then_put kids) (onwards-put os (outer (outer f)) last next ∙ ap (put last) (sym (rest-onwards os (outer f)))))
 

@@ -20,10 +20,10 @@ use Rattle.xml_tokens.specs.declared.lexeme.RawAttr.{RawAttr}
 use Rattle.xml_tokens.specs.declared.lexeme.Step.{Step}
 use Rattle.xml_tokens.specs.declared.lexeme.Step.TheVariants as step
 use Rattle.xml_names.specs.Tag.{name_fault, resolved}
-use Rattle.xml_events.specs.Before.{Before, at_start, before_next, fault_of, is_complete, is_full, is_innermost, is_inside, is_misplaced, outer_names, unfit}
-use Rattle.xml_events.specs.Document.{Closes, Item, Opens, Says, Stands, at_end, completes, cuts, doc, element_at, inner, items_of, judged, lists_of, outer, reading, readied, stops, text_before, with_item, with_items}
+use Rattle.xml_events.specs.Before.{Before, behind_text, without_text, at_start, before_next, fault_of, is_complete, is_full, is_innermost, is_inside, is_misplaced, outer_names, unfit}
+use Rattle.xml_events.specs.Document.{Closes, Item, Opens, Says, Stands, at_end, completes, cuts, doc, element_at, inner, items_of, judged, lists_of, outer, reading, readied, stops, text_before, text_items, with_item, with_items}
 use Rattle.xml_events.specs.Lexed.{answered, lexed_from, lexed_within, unread}
-use Rattle.xml_events.specs.Tree.{Why, Need, Bad, Mark, Fresh, Leaf, Chars, Comment, Pi, Element, Forest, End, Cut, Single, Nested, Future}
+use Rattle.xml_events.specs.Tree.{Why, Need, Bad, Mark, Fresh, Leaf, Chars, CData, Comment, Pi, Element, Forest, End, Cut, Single, Nested, Future}
 use Rattle.stx_engine.specs.Accepted.{DocumentsAreTaken, DocumentsNest, declares_names, is_good, is_good_element, is_good_leaf}
 use Rattle.xml_tokens.specs.Sayable.{LexemesAreSayable, is_comment, is_data, is_literal, is_sayable, is_target}
 use Rattle.stx_engine.proofs.Accepted.{takes-good}
@@ -66,11 +66,13 @@ single-sound room m leaf next h k = (and_from _ _ h k.0, k.1)
 text-sound : (room offset : ℕ) (text : List ℕ) (list : Forest) → are_chars text ≡ true → Sound room list → Sound room (text_before offset text list)
 text-sound room offset text (Single m (Chars later more) next) h k =
     let both = and_parts (are_chars more) (is_good room next) k.0 in (and_from _ _ (chars-append text more h both.0) both.1, k.1)
+text-sound room offset [] (Single m (CData later other) next) h k = k
 text-sound room offset [] (Single m (Comment later other) next) h k = k
 text-sound room offset [] (Single m (Pi later target other) next) h k = k
 text-sound room offset [] (End m at) h k = k
 text-sound room offset [] (Cut why) h k = k
 text-sound room offset [] (Nested m e kids next) h k = k
+text-sound room offset (c ∷ cs) (Single m (CData later other) next) h k = single-sound room Fresh (Chars offset (c ∷ cs)) (Single m (CData later other) next) h k
 text-sound room offset (c ∷ cs) (Single m (Comment later other) next) h k = single-sound room Fresh (Chars offset (c ∷ cs)) (Single m (Comment later other) next) h k
 text-sound room offset (c ∷ cs) (Single m (Pi later target other) next) h k = single-sound room Fresh (Chars offset (c ∷ cs)) (Single m (Pi later target other) next) h k
 text-sound room offset (c ∷ cs) (End m at) h k = single-sound room Fresh (Chars offset (c ∷ cs)) (End m at) h k
@@ -127,6 +129,11 @@ module _ (limits : Limits) where
   text-step b offset text f true h k = says-sound (Room b) offset text f h k
   text-step b offset text f false h k = k
 
+  cdata-step : (b : Before) (offset : ℕ) (text : List ℕ) (f : Future) (c : Bool) → are_chars text ≡ true → AreSound (Room (if c then without_text b else behind_text b text)) f →
+      AreSound (Room b) (with_items (if c then Stands (CData offset text) ∷ [] else text_items b offset text) f)
+  cdata-step b offset text f true h k = stands-sound (Room b) (CData offset text) f h k
+  cdata-step b offset text f false h k = text-step b offset text f (is_inside b.names) h k
+
   values : (attrs : List RawAttr) → list_all (λ (a : RawAttr). is_name a.name && list_all is_char a.value) attrs ≡ true → list_all (λ (a : RawAttr). list_all is_char a.value) attrs ≡ true
   values [] h = refl
   values (a ∷ attrs) h =
@@ -137,7 +144,7 @@ module _ (limits : Limits) where
   items-sound : (b : Before) (offset : ℕ) (x : Body) (f : Future) → is_sayable x ≡ true → unfit limits b x ≡ None → is_good_path b.path ≡ true → length b.names ≤ limits.depth →
       AreSound (Room (before_next b x)) f → AreSound (Room b) (with_items (items_of b offset x) f)
   items-sound b offset (body.Chars text blank) f s u p n h = text-step b offset text f (is_inside b.names) s h
-  items-sound b offset (body.CData text) f s u p n h = text-step b offset text f (is_inside b.names) (literal-chars text s) h
+  items-sound b offset (body.CData text) f s u p n h = cdata-step b offset text f b.cdata (literal-chars text s) h
   items-sound b offset (body.Start name attrs true) f s u p n h =
       let said = and_parts (is_name name) (list_all (λ (a : RawAttr). is_name a.name && list_all is_char a.value) attrs) s in
       let none = or-none (name_fault b.path name attrs) (if is_full limits b then Some TooDeep else None) u in
@@ -186,10 +193,11 @@ module _ (limits : Limits) where
     by_inside : (t : Bool) → is_good_path (if t then record b { chars = b.chars + length text } else b).path ≡ true
     by_inside true = p
     by_inside false = p
-  path-next b (body.CData text) s u p = by_inside (is_inside b.names) where
-    by_inside : (t : Bool) → is_good_path (if t then record b { chars = b.chars + length text } else b).path ≡ true
-    by_inside true = p
-    by_inside false = p
+  path-next b (body.CData text) s u p = by_kind b.cdata (is_inside b.names) where
+    by_kind : (c t : Bool) → is_good_path (if c then without_text b else (if t then record b { chars = b.chars + length text } else b)).path ≡ true
+    by_kind true t = p
+    by_kind false true = p
+    by_kind false false = p
   path-next b (body.Start name attrs true) s u p = p
   path-next b (body.Start name attrs false) s u p =
       let said = and_parts (is_name name) (list_all (λ (a : RawAttr). is_name a.name && list_all is_char a.value) attrs) s in
@@ -206,10 +214,11 @@ module _ (limits : Limits) where
     by_inside : (t : Bool) → length (if t then record b { chars = b.chars + length text } else b).names ≤ limits.depth
     by_inside true = n
     by_inside false = n
-  names-next b (body.CData text) u n = by_inside (is_inside b.names) where
-    by_inside : (t : Bool) → length (if t then record b { chars = b.chars + length text } else b).names ≤ limits.depth
-    by_inside true = n
-    by_inside false = n
+  names-next b (body.CData text) u n = by_kind b.cdata (is_inside b.names) where
+    by_kind : (c t : Bool) → length (if c then without_text b else (if t then record b { chars = b.chars + length text } else b)).names ≤ limits.depth
+    by_kind true t = n
+    by_kind false true = n
+    by_kind false false = n
   names-next b (body.Start name attrs true) u n = n
   names-next b (body.Start name attrs false) u n =
       let none = or-none (name_fault b.path name attrs) (if is_full limits b then Some TooDeep else None) u in

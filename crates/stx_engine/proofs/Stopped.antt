@@ -10,7 +10,7 @@ use Rattle.result_writer.specs.declared.fault.ResultFault.TheVariants.{UnclosedR
 use Rattle.xml_events.specs.Document.{doc}
 use Rattle.xml_events.specs.Growing.{BeginningGoesOn, WholeNeedsNoMore}
 use Rattle.xml_events.specs.Telling.{stop_in}
-use Rattle.xml_events.specs.Tree.{Why, Need, Mark, Fresh, Told, Begun, Forest, End, Cut, Single, Nested}
+use Rattle.xml_events.specs.Tree.{Why, Need, Forest, End, Cut, Single, Nested, Stage, Waiting, Ready, Entered}
 use Rattle.stx_engine.specs.Ending.{BeginningIsOpen, WholeIsOver}
 use Rattle.stx_engine.specs.Meaning.{Complete, Refused, Unready, end_parts, start_parts}
 use Rattle.stx_engine.specs.Passed.{Passed, once_ready, passed, put, run_from, then_put, unless_refused, unless_stopped, with_first}
@@ -24,13 +24,13 @@ then-stop p q = by_stop p.stop refl where
   by_stop None e = refl
   by_stop (Some why) e = e
 
-once-stop : (m : Mark) (kids : Forest) (p : Passed) (s : Option Why) → p.stop ≡ option_or (stop_in kids) s → (once_ready m kids p).stop ≡ option_or (stop_in kids) s
-once-stop Fresh (Cut why) p s h = refl
-once-stop Fresh (End m offset) p s h = h
-once-stop Fresh (Single m leaf next) p s h = h
-once-stop Fresh (Nested m e kids next) p s h = h
-once-stop Told kids p s h = h
-once-stop Begun kids p s h = h
+once-stop : (m : Stage) (kids : Forest) (p : Passed) (s : Option Why) → p.stop ≡ option_or (stop_in kids) s → (once_ready m kids p).stop ≡ option_or (stop_in kids) s
+once-stop Waiting (Cut why) p s h = refl
+once-stop Waiting (End m offset) p s h = h
+once-stop Waiting (Single m leaf next) p s h = h
+once-stop Waiting (Nested m e kids next) p s h = h
+once-stop (Ready first) kids p s h = h
+once-stop (Entered first) kids p s h = h
 
 -- a list is put as far as it goes
 pub passed-stop : (p : Pass) (scope : List Binding) (f : Forest) → (passed p scope f).stop ≡ stop_in f
@@ -71,12 +71,12 @@ pub whole-is-over : WholeNeedsNoMore → WholeIsOver
 whole-is-over whole limits p bytes h =
     let tree = doc limits false bytes true in
     let q = passed p [] tree in
-    whole limits false bytes
+    whole limits false false bytes
     (sym (passed-stop p [] tree) ∙ unready-so limits.elements nothing q.parts q.stop Need (sym (ap (λ r. r.ending) (run-passed limits.elements p tree)) ∙ h))
 
 pub beginning-is-open : BeginningGoesOn → BeginningIsOpen
 beginning-is-open beginning limits p bytes h =
     let tree = doc limits false bytes false in
     let q = passed p [] tree in
-    beginning limits false bytes
+    beginning limits false false bytes
     (sym (passed-stop p [] tree) ∙ (complete-so limits.elements nothing q.parts q.stop (sym (ap (λ r. r.ending) (run-passed limits.elements p tree)) ∙ h)).0)

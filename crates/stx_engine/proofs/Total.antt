@@ -6,7 +6,7 @@ use Rattle.stx_base.proofs.Termination.{safe_then, has_end, end_at}
 use Rattle.stx_base.specs.declared.part.Part.{Part}
 use Rattle.result_writer.specs.Target.{fault}
 use Rattle.result_writer.specs.declared.fault.ResultFault.{ResultFault}
-use Rattle.xml_events.specs.Tree.{Mark, Fresh, Told, Begun, Forest, End, Cut, Single, Nested}
+use Rattle.xml_events.specs.Tree.{Forest, End, Cut, Single, Nested, Stage, Waiting, Ready, Entered}
 use Rattle.stx_engine.specs.declared.pass.Pass.{Pass}
 use Rattle.stx_engine.specs.Meaning.{Said, Ending, Here, State, Asked, Job, Nodes, Does, when_ready, start_parts, end_parts, leaf_parts, siblings, pass_leaf, pass_element, nodes, code, meaning, size, outcome, puts, unless_refused, with_part}
 use Rattle.stx_engine.specs.Scope.{scope_within}
@@ -23,13 +23,13 @@ Post q a = Unit {0}
 abbrev Fits : ℕ → (Here → Type 0) → Does → Type 0
 Fits w P x = Safe weight Pre Post w P x
 
-ready_fits : (w : ℕ) (P : Here → Type 0) (m : Mark) (kids : Forest) (go : Does) → Fits w P go → Fits w P (when_ready m kids go)
-ready_fits w P Told kids go h = h
-ready_fits w P Begun kids go h = h
-ready_fits w P Fresh (Cut why) go h = tt
-ready_fits w P Fresh (End m offset) go h = h
-ready_fits w P Fresh (Single m leaf next) go h = h
-ready_fits w P Fresh (Nested m e kids next) go h = h
+ready_fits : (w : ℕ) (P : Here → Type 0) (m : Stage) (kids : Forest) (go : Does) → Fits w P go → Fits w P (when_ready m kids go)
+ready_fits w P (Ready first) kids go h = h
+ready_fits w P (Entered first) kids go h = h
+ready_fits w P Waiting (Cut why) go h = tt
+ready_fits w P Waiting (End m offset) go h = h
+ready_fits w P Waiting (Single m leaf next) go h = h
+ready_fits w P Waiting (Nested m e kids next) go h = h
 
 module _ (limit : ℕ) where
   refused_fits : (w : ℕ) (P : Here → Type 0) (o : Option ResultFault) (p : Part) (x : Does) → Fits w P x → Fits w P (unless_refused o p x)

@@ -2,10 +2,10 @@
 use Rattle.std.proofs.Common.{◌≡◌, ◌≢◌, ℕ, ◌≤◌, arith, Bool, true, List, [], ◌∷◌, Option, Some, None, map, length, refl, sym, ap, ◌∙◌}
 use Rattle.std.specs.Prelude.{if◌then◌else◌, unwrap_or}
 use Rattle.stx_base.specs.declared.name.Binding.{Binding}
-use Rattle.xml_events.specs.Document.{finished, lists_of, mark_by, readied, stripped, with_items}
+use Rattle.xml_events.specs.Document.{finished, lists_of, stage_by, readied, stripped, with_items}
 use Rattle.xml_events.specs.Source.{Source, future, left}
 use Rattle.xml_events.specs.Telling.{end_at, event_of, no_event, pulled, start_pulled, told}
-use Rattle.xml_events.specs.Tree.{Why, Need, Bad, Chars, Comment, Pi, Element, Forest, End, Cut, Single, Nested, Future}
+use Rattle.xml_events.specs.Tree.{Why, Need, Bad, Chars, CData, Comment, Pi, Element, Forest, End, Cut, Single, Nested, Future}
 use Rattle.xml_events.specs.declared.event.Event.{Event}
 use Rattle.xml_events.specs.declared.event.Event.TheVariants as event
 use Rattle.xml_events.specs.declared.event.Pull.TheVariants as pull
@@ -20,7 +20,7 @@ use Rattle.stx_engine.specs.Meaning.{Complete, Unready, end_parts, leaf_parts, s
 use Rattle.stx_engine.specs.More as more
 use Rattle.stx_engine.specs.More.{Given, ahead, ended, given, given_by, given_of, given_on, opens, rest, still}
 use Rattle.stx_engine.specs.Scope.{scope_within}
-use Rattle.stx_engine.proofs.Copying.{told-chars, told-comment, told-document-end, told-end, told-instruction, told-start}
+use Rattle.stx_engine.proofs.Copying.{told-cdata, told-chars, told-comment, told-document-end, told-end, told-instruction, told-start}
 use Rattle.stx_engine.specs.Passed.{Passed, passed, put, stopped, then_put}
 
 no-event : (why : Why) (e : Event) → pull.Event e ≡ no_event why → ⊥
@@ -39,7 +39,7 @@ same-reason (Bad f) (Bad g) h = cc
 
 module _ (p : Pass) (scope : List Binding) (why : Why) where
   -- an element that isn't ready puts nothing
-  start-stopped : (e : Element) (kids next : Forest) → start_pulled e kids ≡ no_event why → passed p scope (Nested (mark_by kids) e kids next) ≡ stopped why
+  start-stopped : (e : Element) (kids next : Forest) → start_pulled e kids ≡ no_event why → passed p scope (Nested (stage_by kids) e kids next) ≡ stopped why
   start-stopped e (Cut w) next h = ap stopped (same-reason w why h)
   start-stopped e (End mark offset) next h = absurd (no-event why _ h)
   start-stopped e (Single mark leaf more) next h = absurd (no-event why _ h)
@@ -77,6 +77,7 @@ end-alone (End mark at ∷ list ∷ lists) offset h = absurd cc
 end-alone (Cut Need ∷ lists) offset h = absurd cc
 end-alone (Cut (Bad fault) ∷ lists) offset h = absurd cc
 end-alone (Single mark (Chars at text) next ∷ lists) offset h = absurd cc
+end-alone (Single mark (CData at text) next ∷ lists) offset h = absurd cc
 end-alone (Single mark (Comment at text) next ∷ lists) offset h = absurd cc
 end-alone (Single mark (Pi at target text) next ∷ lists) offset h = absurd cc
 end-alone (Nested mark e (Cut Need) next ∷ lists) offset h = absurd cc
@@ -93,6 +94,7 @@ end-within (End mark at ∷ list ∷ lists) offset h = omega arith
 end-within (Cut Need ∷ lists) offset h = absurd cc
 end-within (Cut (Bad fault) ∷ lists) offset h = absurd cc
 end-within (Single mark (Chars at text) next ∷ lists) offset h = absurd cc
+end-within (Single mark (CData at text) next ∷ lists) offset h = absurd cc
 end-within (Single mark (Comment at text) next ∷ lists) offset h = absurd cc
 end-within (Single mark (Pi at target text) next ∷ lists) offset h = absurd cc
 end-within (Nested mark e (Cut Need) next ∷ lists) offset h = absurd cc
@@ -135,6 +137,8 @@ over-ends c (event.Start offset name attrs decls first) h =
     absurd (given-open c.writer p refl (sym (ap (λ (g : Given). g.ending) (told-start c x first [])) ∙ h))
 over-ends c (event.Chars offset text) h =
     absurd (given-open c.writer (put (leaf_parts c.pass (Chars 0 text)) (still c [])) (rest-nothing c.pass c.scope (opens c)) (sym (ap (λ (g : Given). g.ending) (told-chars c offset text [])) ∙ h))
+over-ends c (event.CData offset text) h =
+    absurd (given-open c.writer (put (leaf_parts c.pass (Chars 0 text)) (still c [])) (rest-nothing c.pass c.scope (opens c)) (sym (ap (λ (g : Given). g.ending) (told-cdata c offset text [])) ∙ h))
 over-ends c (event.Comment offset text) h =
     absurd (given-open c.writer (put (leaf_parts c.pass (Comment 0 text)) (still c [])) (rest-nothing c.pass c.scope (opens c)) (sym (ap (λ (g : Given). g.ending) (told-comment c offset text [])) ∙ h))
 over-ends c (event.Pi offset target text) h =
@@ -148,5 +152,6 @@ over-whole s (event.DocumentEnd offset) f one h ends whole = whole
 over-whole s (event.End offset) f one h ends whole = absurd (omega (arith, one, end-within f offset h))
 over-whole s (event.Start offset name attrs decls first) f one h ends whole = absurd ends
 over-whole s (event.Chars offset text) f one h ends whole = absurd ends
+over-whole s (event.CData offset text) f one h ends whole = absurd ends
 over-whole s (event.Comment offset text) f one h ends whole = absurd ends
 over-whole s (event.Pi offset target text) f one h ends whole = absurd ends

@@ -6,7 +6,7 @@ use Rattle.stx_base.specs.declared.limits.Limits.{Limits}
 use Rattle.stx_base.specs.declared.name.Attr.{Attr}
 use Rattle.result_writer.specs.Allowed.{are_chars, is_good_attribute, is_good_comment, is_good_data, is_good_name, is_good_target, is_prefix}
 use Rattle.result_writer.specs.declared.fault.ResultFault.{ResultFault}
-use Rattle.xml_events.specs.Tree.{Leaf, Chars, Comment, Pi, Element, Forest, End, Cut, Single, Nested}
+use Rattle.xml_events.specs.Tree.{Leaf, Chars, CData, Comment, Pi, Element, Forest, End, Cut, Single, Nested}
 use Rattle.stx_host.specs.declared.act.Doc.{Doc}
 use Rattle.stx_engine.specs.Answer.{answer, result_of, run_of, run_on}
 use Rattle.stx_engine.specs.Meaning.{Refused, outcome}
@@ -16,6 +16,7 @@ use Rattle.stx_engine.specs.declared.pass.Pass.{Pass}
 
 abbrev pub is_good_leaf : Leaf → Bool
 is_good_leaf (Chars offset text) = are_chars text
+is_good_leaf (CData offset text) = are_chars text
 is_good_leaf (Comment offset text) = are_chars text && is_good_comment text
 is_good_leaf (Pi offset target text) = are_chars text && (is_good_target target && is_good_data text)
 

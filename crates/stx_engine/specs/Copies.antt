@@ -7,7 +7,7 @@ use Rattle.result_writer.specs.Nodes as nodes
 use Rattle.result_writer.specs.Nodes.{Nodes, parts_of, written}
 use Rattle.result_writer.specs.declared.escape.Context.TheVariants.{Content}
 use Rattle.xml_events.specs.Document.{doc}
-use Rattle.xml_events.specs.Tree.{Chars, Comment, Pi, Forest, End, Cut, Single, Nested}
+use Rattle.xml_events.specs.Tree.{Chars, CData, Comment, Pi, Forest, End, Cut, Single, Nested}
 use Rattle.stx_engine.specs.Answer.{result_of, run_of, run_on}
 use Rattle.stx_engine.specs.Meaning.{Complete, outcome}
 use Rattle.stx_engine.specs.Output.{head}
@@ -19,6 +19,7 @@ abbrev pub nodes_of : (scope : List Binding) → Forest → Nodes
 nodes_of scope (End m offset) = nodes.End
 nodes_of scope (Cut why) = nodes.End
 nodes_of scope (Single m (Chars offset text) next) = nodes.Chars text (nodes_of scope next)
+nodes_of scope (Single m (CData offset text) next) = nodes.Chars text (nodes_of scope next)
 nodes_of scope (Single m (Comment offset text) next) = nodes.Comment text (nodes_of scope next)
 nodes_of scope (Single m (Pi offset target text) next) = nodes.Instruction target text (nodes_of scope next)
 nodes_of scope (Nested m e kids next) =
@@ -30,6 +31,7 @@ abbrev pub all_text : Forest → List ℕ
 all_text (End m offset) = []
 all_text (Cut why) = []
 all_text (Single m (Chars offset text) next) = text ++ all_text next
+all_text (Single m (CData offset text) next) = text ++ all_text next
 all_text (Single m (Comment offset text) next) = all_text next
 all_text (Single m (Pi offset target text) next) = all_text next
 all_text (Nested m e kids next) = all_text kids ++ all_text next

@@ -9,7 +9,7 @@ use Rattle.stx_base.specs.declared.part.Part.TheVariants as part
 use Rattle.result_writer.specs.Target.{Left, fault, is_closed, next, nothing}
 use Rattle.result_writer.specs.declared.fault.ResultFault.{ResultFault}
 use Rattle.result_writer.specs.declared.fault.ResultFault.TheVariants.{UnclosedResult}
-use Rattle.xml_events.specs.Tree.{Why, Mark, Fresh, Told, Begun, Leaf, Chars, Comment, Pi, Element, Forest, End, Cut, Single, Nested}
+use Rattle.xml_events.specs.Tree.{Why, Begun, Stage, Waiting, Ready, Entered, Leaf, Chars, CData, Comment, Pi, Element, Forest, End, Cut, Single, Nested}
 use Rattle.stx_engine.specs.Scope.{scope_within}
 use Rattle.stx_engine.specs.declared.pass.Pass.{Pass}
 use Rattle.stx_engine.specs.declared.pass.Pass.TheVariants as pass
@@ -48,13 +48,13 @@ abbrev pub Does : Type 0
 Does = Course Job Here Said Ending
 
 -- goes on with an element, unless it isn't ready: its list is a cut alone
-abbrev pub when_ready : Mark → (kids : Forest) → Does → Does
-when_ready Told kids go = go
-when_ready Begun kids go = go
-when_ready Fresh (Cut why) go = Halt (Unready why)
-when_ready Fresh (End m offset) go = go
-when_ready Fresh (Single m leaf next) go = go
-when_ready Fresh (Nested m element kids next) go = go
+abbrev pub when_ready : Stage → (kids : Forest) → Does → Does
+when_ready (Ready first) kids go = go
+when_ready (Entered first) kids go = go
+when_ready Waiting (Cut why) go = Halt (Unready why)
+when_ready Waiting (End m offset) go = go
+when_ready Waiting (Single m leaf next) go = go
+when_ready Waiting (Nested m element kids next) go = go
 
 abbrev pub attribute_part : Attr → Part
 attribute_part a = part.Attribute a.name a.value
@@ -70,12 +70,14 @@ end_parts pass.All name = part.End name ∷ []
 end_parts pass.Chars name = []
 end_parts pass.None name = []
 
--- the part of another node, where such nodes are copied
+-- The part of another node, where such nodes are copied. CDATA sections aren't recognised, so that none is a node; it would be text.
 abbrev pub leaf_parts : Pass → Leaf → List Part
 leaf_parts pass.All (Chars offset text) = part.Chars text ∷ []
+leaf_parts pass.All (CData offset text) = part.Chars text ∷ []
 leaf_parts pass.All (Comment offset text) = part.Comment text ∷ []
 leaf_parts pass.All (Pi offset target text) = part.Pi target text ∷ []
 leaf_parts pass.Chars (Chars offset text) = part.Chars text ∷ []
+leaf_parts pass.Chars (CData offset text) = part.Chars text ∷ []
 leaf_parts pass.Chars (Comment offset text) = []
 leaf_parts pass.Chars (Pi offset target text) = []
 leaf_parts pass.None leaf = []

@@ -4,7 +4,7 @@ use Rattle.stx_base.specs.declared.name.Binding.{Binding}
 use Rattle.stx_base.specs.declared.part.Part.{Part}
 use Rattle.result_writer.specs.Target.{Left, fault, next}
 use Rattle.result_writer.specs.declared.fault.ResultFault.{ResultFault}
-use Rattle.xml_events.specs.Tree.{Why, Mark, Fresh, Told, Begun, Forest, End, Cut, Single, Nested}
+use Rattle.xml_events.specs.Tree.{Why, Stage, Waiting, Ready, Entered, Forest, End, Cut, Single, Nested}
 use Rattle.stx_engine.specs.Meaning.{Ending, Unready, Refused, ending_of, end_parts, leaf_parts, start_parts}
 use Rattle.stx_engine.specs.Scope.{scope_within}
 use Rattle.stx_engine.specs.declared.pass.Pass.{Pass}
@@ -30,13 +30,13 @@ abbrev pub then_put : (p q : Passed) → Passed
 then_put p q = unless_stopped p.stop p q
 
 -- an element whose list is a cut alone isn't begun
-abbrev pub once_ready : Mark → (kids : Forest) → Passed → Passed
-once_ready Fresh (Cut why) p = stopped why
-once_ready Fresh (End m offset) p = p
-once_ready Fresh (Single m leaf next) p = p
-once_ready Fresh (Nested m e kids next) p = p
-once_ready Told kids p = p
-once_ready Begun kids p = p
+abbrev pub once_ready : Stage → (kids : Forest) → Passed → Passed
+once_ready Waiting (Cut why) p = stopped why
+once_ready Waiting (End m offset) p = p
+once_ready Waiting (Single m leaf next) p = p
+once_ready Waiting (Nested m e kids next) p = p
+once_ready (Ready first) kids p = p
+once_ready (Entered first) kids p = p
 
 -- what a list of nodes puts, where these bindings are in force around it
 abbrev pub passed : Pass → (scope : List Binding) → Forest → Passed

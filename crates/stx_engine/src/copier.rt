@@ -102,6 +102,11 @@ impl Copier {
                 spare.keep(text);
                 turn
             }
+            // None comes, since CDATA sections aren't recognised; it would be text.
+            Event::CData {
+                offset: _offset,
+                text,
+            } => self.chars(&text, out),
             Event::Comment {
                 offset: _offset,
                 text,

@@ -10,11 +10,11 @@ use Rattle.xml_tokens.specs.declared.lexeme.Body.TheVariants as body
 use Rattle.xml_tokens.specs.declared.lexeme.Lexeme.{Lexeme}
 use Rattle.xml_tokens.specs.declared.lexeme.Step.{Step}
 use Rattle.xml_tokens.specs.declared.lexeme.Step.TheVariants as step
-use Rattle.xml_events.specs.Before.{Before, at_start, outer_names, fault_of, before_next, is_complete, is_inside, is_innermost}
-use Rattle.xml_events.specs.Document.{Reading, Says, stops, completes, cuts, at_end, judged, reading, reading_from, lists_of, with_items, inner, outer, finished, items_of, doc}
+use Rattle.xml_events.specs.Before.{Before, starting, outer_names, fault_of, before_next, is_complete, is_inside, is_innermost, without_text, behind_text}
+use Rattle.xml_events.specs.Document.{Reading, Says, stops, completes, cuts, at_end, judged, reading, reading_from, lists_of, with_items, inner, outer, finished, items_of, doc_for, Stands, text_items}
 use Rattle.xml_events.specs.Lexed.{lexed_from, unread}
-use Rattle.xml_events.specs.Source.{Source, source, future}
-use Rattle.xml_events.specs.Tree.{Why, Bad, Cut, Future}
+use Rattle.xml_events.specs.Source.{Source, source, future, source_for}
+use Rattle.xml_events.specs.Tree.{Why, Bad, Cut, Future, CData}
 use Rattle.xml_events.proofs.Reading.{judged-lists}
 
 -- as many lists are open
@@ -37,13 +37,18 @@ module _ (limits : Limits) (b : Before) (offset : ℕ) (f : Future) where
   text_open text true i h = let o = outer-shorter f (omega arith) in omega (arith, o)
   text_open text false i h = h
 
+  cdata_open : (text : List ℕ) (c : Bool) → Open (if c then without_text b else behind_text b text).names f →
+      Open b.names (with_items (if c then Stands (CData offset text) ∷ [] else text_items b offset text) f)
+  cdata_open text true h = let o = outer-shorter f (omega arith) in omega (arith, o)
+  cdata_open text false h = text_open text (is_inside b.names) refl h
+
   end_open : (name : List ℕ) (names : List (List ℕ)) → (if is_innermost name names then None else Some Mismatch) ≡ None → Open (outer_names names) f → length f + 1 ≡ length names + 1
   end_open name [] s h = absurd cc
   end_open name (n ∷ ns) s h = omega arith
 
   item-open : (x : Body) → fault_of limits b x ≡ None → Open (before_next b x).names f → Open b.names (with_items (items_of b offset x) f)
   item-open (body.Chars text blank) s h = text_open text (is_inside b.names) refl h
-  item-open (body.CData text) s h = text_open text (is_inside b.names) refl h
+  item-open (body.CData text) s h = cdata_open text b.cdata h
   item-open (body.Start name attrs true) s h = let o = outer-shorter f (omega arith) in omega (arith, o)
   item-open (body.Start name attrs false) s h =
       let o = outer-shorter f (omega arith) in
@@ -85,20 +90,20 @@ lone [] h = absurd (omega arith)
 lone (list ∷ []) h = refl
 lone (list ∷ other ∷ lists) h = absurd (omega arith)
 
-pub has-document : (limits : Limits) (strip : Bool) (bytes : List ℕ) (ended : Bool) → future (source limits strip) bytes ended ≡ doc limits strip bytes ended ∷ []
-has-document limits strip bytes ended =
+pub has-document : (limits : Limits) (strip cdata : Bool) (bytes : List ℕ) (ended : Bool) → future (source_for limits strip cdata) bytes ended ≡ doc_for limits strip cdata bytes ended ∷ []
+has-document limits strip cdata bytes ended =
     let r = unread limits bytes ended in
-    ap (map (finished strip)) (lone (lists_of (reading_from limits at_start r)) (reading-open limits (fed r) (lexed_from r).last at_start (lexed_from r).lexemes))
+    ap (map (finished strip)) (lone (lists_of (reading_from limits (starting cdata) r)) (reading-open limits (fed r) (lexed_from r).last (starting cdata) (lexed_from r).lexemes))
 
 -- a reader of which nothing was read has the document's tree before it
-pub document-of : (s : Source) (limits : Limits) (strip : Bool) → s.limits ≡ limits → s.strip ≡ strip → s.known ≡ [] → s.front ≡ [] → s.before ≡ at_start → s.lexer ≡ begun limits → s.over ≡ None →
-    (bytes : List ℕ) (ended : Bool) → future s bytes ended ≡ doc limits strip bytes ended ∷ []
-document-of s limits strip l t k f b x o bytes ended =
+pub document-of : (s : Source) (limits : Limits) (strip cdata : Bool) → s.limits ≡ limits → s.strip ≡ strip → s.known ≡ [] → s.front ≡ [] → s.before ≡ (starting cdata) → s.lexer ≡ begun limits → s.over ≡ None →
+    (bytes : List ℕ) (ended : Bool) → future s bytes ended ≡ doc_for limits strip cdata bytes ended ∷ []
+document-of s limits strip cdata l t k f b x o bytes ended =
     ap (λ n. future (record s { limits = n }) bytes ended) l
     ∙ ap (λ n. future (record s { limits = limits; strip = n }) bytes ended) t
     ∙ ap (λ n. future (record s { limits = limits; strip = strip; known = n }) bytes ended) k
     ∙ ap (λ n. future (record s { limits = limits; strip = strip; known = []; front = n }) bytes ended) f
     ∙ ap (λ n. future (record s { limits = limits; strip = strip; known = []; front = []; before = n }) bytes ended) b
-    ∙ ap (λ n. future (record s { limits = limits; strip = strip; known = []; front = []; before = at_start; lexer = n }) bytes ended) x
-    ∙ ap (λ n. future (record { limits = limits; strip = strip; known = []; front = []; before = at_start; lexer = begun limits; over = n }) bytes ended) o
-    ∙ has-document limits strip bytes ended
+    ∙ ap (λ n. future (record s { limits = limits; strip = strip; known = []; front = []; before = (starting cdata); lexer = n }) bytes ended) x
+    ∙ ap (λ n. future (record { limits = limits; strip = strip; known = []; front = []; before = (starting cdata); lexer = begun limits; over = n }) bytes ended) o
+    ∙ has-document limits strip cdata bytes ended

@@ -38,7 +38,7 @@ deep_if t = if t then Some TooDeep else None
 -- a start tag is taken where it has no fault and room is left
 module _ (old new : Place) (name : List ℕ) (attrs : List RawAttr) (tag : Resolved) (faultless : name_fault old.scopes name attrs ≡ None) (room : is_full old.limits (before_of old) ≡ false)
     (tag_is : tag ≡ resolved old.scopes name attrs) (names : new.names ≡ old.names ++ name ∷ []) (scopes : new.scopes ≡ into old.scopes attrs) (limits : new.limits ≡ old.limits)
-    (rooted : new.rooted ≡ true) (typed : new.typed ≡ old.typed) (chars : new.chars ≡ 0) (fit : IsFit old) where
+    (rooted : new.rooted ≡ true) (typed : new.typed ≡ old.typed) (chars : new.chars ≡ 0) (cdata : new.cdata ≡ old.cdata) (fit : IsFit old) where
   opened_fit : IsFit new
   opened_fit =
       let n : length new.names ≡ length old.names + 1 = ap length names ∙ length-append old.names (name ∷ []) in
@@ -58,7 +58,8 @@ module _ (old new : Place) (name : List ℕ) (attrs : List RawAttr) (tag : Resol
         ∙ (ap (λ p. record (before_of new) { names = name ∷ names_of old; path = p }) scopes
         ∙ (ap (λ r. record (before_of new) { names = name ∷ names_of old; path = into old.scopes attrs; rooted = r }) rooted
         ∙ (ap (λ t. record (before_of new) { names = name ∷ names_of old; path = into old.scopes attrs; rooted = true; typed = t }) typed
-        ∙ ap (λ c. record (before_of old) { names = name ∷ names_of old; path = into old.scopes attrs; rooted = true; chars = c }) chars)));
+        ∙ (ap (λ c. record (before_of new) { names = name ∷ names_of old; path = into old.scopes attrs; rooted = true; typed = old.typed; chars = c }) chars
+        ∙ ap (λ k. record (before_of old) { names = name ∷ names_of old; path = into old.scopes attrs; rooted = true; chars = 0; cdata = k }) cdata))));
     items_are = λ offset. ap (λ t. Opens (element_at offset t) ∷ []) tag_is;
     fit = opened_fit;
   }

@@ -10,14 +10,14 @@ use Rattle.xml_tokens.specs.declared.lexeme.Ending.{Ending}
 use Rattle.xml_tokens.specs.declared.lexeme.Ending.TheVariants as ending
 use Rattle.xml_events.specs.declared.event.Event.{Event}
 use Rattle.xml_events.specs.declared.event.Event.TheVariants as event
-use Rattle.xml_events.specs.Before.{at_start}
+use Rattle.xml_events.specs.Before.{starting}
 use Rattle.xml_events.specs.Cores.{answer_of}
-use Rattle.xml_events.specs.Document.{reading_from, lists_of, inner, finished, readied, stripped, doc}
+use Rattle.xml_events.specs.Document.{reading_from, lists_of, inner, finished, readied, stripped, doc_for}
 use Rattle.xml_events.specs.Flatten.{is_closed, IsCut, IsProper, cut_by}
 use Rattle.xml_events.specs.Lexed.{lexed_from, unread}
 use Rattle.xml_events.specs.Run.{Tells, AreCalled, stop_of}
 use Rattle.xml_events.specs.Telling.{told, followed, pulled, events_in, events_of, stop_in}
-use Rattle.xml_events.specs.Tree.{Why, Need, Bad, Mark, Chars, Comment, Pi, Forest, End, Cut, Single, Nested, Future}
+use Rattle.xml_events.specs.Tree.{Why, Need, Bad, Mark, Chars, CData, Comment, Pi, Forest, End, Cut, Single, Nested, Future}
 use Rattle.xml_events.proofs.Over.{NoneNeeds, all_events, called_events, told_events, doc-none}
 use Rattle.xml_events.proofs.Treeing.{is-cut-tree, and_false}
 
@@ -32,6 +32,7 @@ proper_tidy : (why : Option Why) (x : Forest) → IsProper why x → IsTidy x
 proper_tidy why (End m o) p = tt
 proper_tidy why (Cut w) p = tt
 proper_tidy why (Single m (Chars o t) next) p = proper_tidy why next p.3
+proper_tidy why (Single m (CData o t) next) p = proper_tidy why next p.1
 proper_tidy why (Single m (Comment o t) next) p = proper_tidy why next p.1
 proper_tidy why (Single m (Pi o g t) next) p = proper_tidy why next p.1
 proper_tidy why (Nested m e kids next) p = (proper_tidy why kids p.1, proper_tidy why next p.2, p.3)
@@ -53,6 +54,7 @@ stripped_closed : (x : Forest) → is_closed (stripped x) ≡ is_closed x
 stripped_closed (End m o) = refl
 stripped_closed (Cut why) = refl
 stripped_closed (Single m (Chars o t) next) = blank_closed (list_all is_space t) o t m (stripped next) next (stripped_closed next)
+stripped_closed (Single m (CData o t) next) = stripped_closed next
 stripped_closed (Single m (Comment o t) next) = stripped_closed next
 stripped_closed (Single m (Pi o g t) next) = stripped_closed next
 stripped_closed (Nested m e kids next) = and_same (is_closed (stripped kids)) (is_closed (stripped next)) (is_closed kids) (is_closed next) (stripped_closed kids) (stripped_closed next)
@@ -65,6 +67,7 @@ stripped_tidy : (x : Forest) → IsTidy x → IsTidy (stripped x)
 stripped_tidy (End m o) h = tt
 stripped_tidy (Cut why) h = tt
 stripped_tidy (Single m (Chars o t) next) h = blank_tidy (list_all is_space t) o t m (stripped next) (stripped_tidy next h)
+stripped_tidy (Single m (CData o t) next) h = stripped_tidy next h
 stripped_tidy (Single m (Comment o t) next) h = stripped_tidy next h
 stripped_tidy (Single m (Pi o g t) next) h = stripped_tidy next h
 stripped_tidy (Nested m e kids next) h = (stripped_tidy kids h.0, stripped_tidy next h.1, λ c. stripped_cut next (h.2 (sym (stripped_closed kids) ∙ c)))
@@ -91,11 +94,11 @@ finished_tidy : (s : Bool) (x : Forest) → IsTidy x → IsTidy (finished s x)
 finished_tidy true x h = readied_tidy (stripped x) (stripped_tidy x h)
 finished_tidy false x h = readied_tidy x h
 
-doc_tidy : (limits : Limits) (strip : Bool) (bytes : List ℕ) (ended : Bool) → IsTidy (doc limits strip bytes ended)
-doc_tidy limits strip bytes ended =
+doc_tidy : (limits : Limits) (strip cdata : Bool) (bytes : List ℕ) (ended : Bool) → IsTidy (doc_for limits strip cdata bytes ended)
+doc_tidy limits strip cdata bytes ended =
     let r = unread limits bytes ended in
-    let t = is-cut-tree limits (fed r) (lexed_from r).last (lexed_from r).lexemes in
-    finished_tidy strip (inner (lists_of (reading_from limits at_start r))) (proper_tidy (cut_by (reading_from limits at_start r).rest) (inner (lists_of (reading_from limits at_start r))) t.0)
+    let t = is-cut-tree limits cdata (fed r) (lexed_from r).last (lexed_from r).lexemes in
+    finished_tidy strip (inner (lists_of (reading_from limits (starting cdata) r))) (proper_tidy (cut_by (reading_from limits (starting cdata) r).rest) (inner (lists_of (reading_from limits (starting cdata) r))) t.0)
 
 -- behind an open list all are cut
 abbrev AreCut : Future → Type 0
@@ -123,7 +126,9 @@ behind_tidy (event.End o) f n h = h.2
 behind_tidy (event.DocumentEnd o) f n h = h.2
 behind_tidy (event.Chars o text) [] n h = tt
 behind_tidy (event.Chars o text) (k ∷ f) n h = h
+behind_tidy (event.CData o text) [] n h = tt
 behind_tidy (event.Comment o text) [] n h = tt
+behind_tidy (event.CData o text) (k ∷ f) n h = h
 behind_tidy (event.Comment o text) (k ∷ f) n h = h
 behind_tidy (event.Pi o target text) [] n h = tt
 behind_tidy (event.Pi o target text) (k ∷ f) n h = h
@@ -166,14 +171,14 @@ over_events (Nested m e (Nested k d kids more) next ∷ f) ending.End p h = absu
 over_events (Nested m e (Nested k d kids more) next ∷ f) (ending.Bad fault) p h = absurd cc
 over_events (Nested m e (Nested k d kids more) next ∷ f) ending.Memory p h = absurd cc
 
-module _ (limits : Limits) (strip : Bool) (bytes : List ℕ) (events : List Event) (over : Ending) (t : Tells (doc limits strip bytes true ∷ []) events over) where
+module _ (limits : Limits) (strip cdata : Bool) (bytes : List ℕ) (events : List Event) (over : Ending) (t : Tells (doc_for limits strip cdata bytes true ∷ []) events over) where
   none : NoneNeeds (told events t.rest)
-  none = subst NoneNeeds t.tell (doc-none limits strip bytes)
+  none = subst NoneNeeds t.tell (doc-none limits strip cdata bytes)
 
   tidy : AreTidy (told events t.rest)
-  tidy = subst AreTidy t.tell (doc_tidy limits strip bytes true, λ c. tt, tt)
+  tidy = subst AreTidy t.tell (doc_tidy limits strip cdata bytes true, λ c. tt, tt)
 
-  pub events-are : events ≡ events_of (doc limits strip bytes true)
+  pub events-are : events ≡ events_of (doc_for limits strip cdata bytes true)
   events-are =
       sym (ap all_events t.tell ∙ told_events events t.rest t.called none
       ∙ ap (λ l. events ++ l) (over_events t.rest over t.ends (rest_tidy events t.rest t.called none tidy)) ∙ append-nil events)
@@ -199,7 +204,9 @@ behind_stop (event.End o) f n = refl
 behind_stop (event.DocumentEnd o) f n = refl
 behind_stop (event.Chars o text) [] n = absurd n.0
 behind_stop (event.Chars o text) (k ∷ f) n = refl
+behind_stop (event.CData o text) [] n = absurd n.0
 behind_stop (event.Comment o text) [] n = absurd n.0
+behind_stop (event.CData o text) (k ∷ f) n = refl
 behind_stop (event.Comment o text) (k ∷ f) n = refl
 behind_stop (event.Pi o target text) [] n = absurd n.0
 behind_stop (event.Pi o target text) (k ∷ f) n = refl
@@ -240,9 +247,9 @@ over_stop (Nested m e (Nested k d kids more) next ∷ f) ending.End p = absurd c
 over_stop (Nested m e (Nested k d kids more) next ∷ f) (ending.Bad fault) p = absurd cc
 over_stop (Nested m e (Nested k d kids more) next ∷ f) ending.Memory p = absurd cc
 
-pub ending-is : (limits : Limits) (strip : Bool) (bytes : List ℕ) (events : List Event) (over : Ending) → Tells (doc limits strip bytes true ∷ []) events over → stop_in (doc limits strip bytes true) ≡ stop_of over
-ending-is limits strip bytes events over t =
-    sym (or_none (stop_in (doc limits strip bytes true)))
+pub ending-is : (limits : Limits) (strip cdata : Bool) (bytes : List ℕ) (events : List Event) (over : Ending) → Tells (doc_for limits strip cdata bytes true ∷ []) events over → stop_in (doc_for limits strip cdata bytes true) ≡ stop_of over
+ending-is limits strip cdata bytes events over t =
+    sym (or_none (stop_in (doc_for limits strip cdata bytes true)))
     ∙ ap stop_all t.tell
-    ∙ rest_stop events t.rest t.called (subst NoneNeeds t.tell (doc-none limits strip bytes))
+    ∙ rest_stop events t.rest t.called (subst NoneNeeds t.tell (doc-none limits strip cdata bytes))
     ∙ over_stop t.rest over t.ends

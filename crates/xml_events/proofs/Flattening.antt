@@ -9,10 +9,10 @@ use Rattle.xml_tokens.specs.declared.lexeme.Body.TheVariants as body
 use Rattle.xml_tokens.specs.declared.lexeme.Lexeme.{Lexeme}
 use Rattle.xml_tokens.specs.declared.lexeme.Step.{Step}
 use Rattle.xml_tokens.specs.declared.lexeme.Step.TheVariants as step
-use Rattle.xml_events.specs.Before.{Before, at_start, fault_of, before_next, is_complete, is_inside}
-use Rattle.xml_events.specs.Document.{Item, Opens, Closes, Says, Stands, Reading, at_end, completes, stops, judged, reading, lists_of, with_item, with_items, inner, text_before, items_of}
+use Rattle.xml_events.specs.Before.{Before, starting, fault_of, before_next, is_complete, is_inside}
+use Rattle.xml_events.specs.Document.{Item, Opens, Closes, Says, Stands, Reading, at_end, completes, stops, judged, reading, lists_of, with_item, with_items, inner, text_before, items_of, text_items}
 use Rattle.xml_events.specs.Flatten.{flatten, joined, said_before}
-use Rattle.xml_events.specs.Tree.{Why, Need, Bad, Leaf, Chars, Comment, Pi, Forest, End, Cut, Single, Nested, Future}
+use Rattle.xml_events.specs.Tree.{Why, Need, Bad, Leaf, Chars, CData, Comment, Pi, Forest, End, Cut, Single, Nested, Future}
 use Rattle.xml_events.proofs.Counting.{lone, reading-open}
 
 -- lists as items
@@ -38,6 +38,7 @@ one (Stands leaf) is = Stands leaf ∷ is
 -- leaves that are no texts
 abbrev IsOther : Leaf → Type 0
 IsOther (Chars o text) = ⊥
+IsOther (CData o text) = Unit {0}
 IsOther (Comment o text) = Unit {0}
 IsOther (Pi o target text) = Unit {0}
 
@@ -54,7 +55,9 @@ text_flat o [] (End m k) lists h = (refl, tt)
 text_flat o (c ∷ cs) (End m k) lists h = (refl, tt)
 text_flat o [] (Cut why) lists h = (h ∙ sym (ap (said_before o []) h), h)
 text_flat o (c ∷ cs) (Cut why) lists h = (h ∙ sym (ap (said_before o (c ∷ cs)) h), h)
+text_flat o [] (Single m (CData k l) next) lists h = (refl, tt)
 text_flat o [] (Single m (Comment k l) next) lists h = (refl, tt)
+text_flat o (c ∷ cs) (Single m (CData k l) next) lists h = (refl, tt)
 text_flat o (c ∷ cs) (Single m (Comment k l) next) lists h = (refl, tt)
 text_flat o [] (Single m (Pi k g l) next) lists h = (refl, tt)
 text_flat o (c ∷ cs) (Single m (Pi k g l) next) lists h = (refl, tt)
@@ -63,7 +66,9 @@ text_flat o (c ∷ cs) (Nested m e kids next) lists h = (refl, tt)
 
 other_flat : (leaf : Leaf) → IsOther leaf → (f : Future) → flat (with_item (Stands leaf) f) ≡ Stands leaf ∷ flat f
 other_flat (Chars o text) h f = absurd h
+other_flat (CData o text) h [] = refl
 other_flat (Comment o text) h [] = refl
+other_flat (CData o text) h (list ∷ lists) = refl
 other_flat (Comment o text) h (list ∷ lists) = refl
 other_flat (Pi o target text) h [] = refl
 other_flat (Pi o target text) h (list ∷ lists) = refl
@@ -109,9 +114,13 @@ text_other : (o : ℕ) (t : List ℕ) (inside : Bool) → AreOther (if inside th
 text_other o t true = tt
 text_other o t false = tt
 
+cdata_other : (b : Before) (o : ℕ) (t : List ℕ) (c : Bool) → AreOther (if c then Stands (CData o t) ∷ [] else text_items b o t)
+cdata_other b o t true = (tt, tt)
+cdata_other b o t false = text_other o t (is_inside b.names)
+
 lexeme_other : (b : Before) (o : ℕ) (x : Body) → AreOther (items_of b o x)
 lexeme_other b o (body.Chars text blank) = text_other o text (is_inside b.names)
-lexeme_other b o (body.CData text) = text_other o text (is_inside b.names)
+lexeme_other b o (body.CData text) = cdata_other b o text b.cdata
 lexeme_other b o (body.Start name attrs true) = tt
 lexeme_other b o (body.Start name attrs false) = tt
 lexeme_other b o (body.End name) = tt
@@ -150,9 +159,9 @@ reading_plain limits n last b [] = end_plain b n last
 reading_plain limits n last b (l ∷ ls) =
     judged_plain (fault_of limits b l.body) b l (reading limits n last (before_next b l.body) ls) (reading_plain limits n last (before_next b l.body) ls)
 
-pub flattened : (limits : Limits) (n : ℕ) (last : Step) (ls : List Lexeme) → let r = reading limits n last at_start ls in flatten (inner (lists_of r)) ≡ joined r.items
-flattened limits n last ls =
-    let r = reading limits n last at_start ls in
-    let p = reading_plain limits n last at_start ls in
-    sym (ap flat (lone (lists_of r) (reading-open limits n last at_start ls)) ∙ append-nil (flatten (inner (lists_of r))))
+pub flattened : (limits : Limits) (cdata : Bool) (n : ℕ) (last : Step) (ls : List Lexeme) → let r = reading limits n last (starting cdata) ls in flatten (inner (lists_of r)) ≡ joined r.items
+flattened limits cdata n last ls =
+    let r = reading limits n last (starting cdata) ls in
+    let p = reading_plain limits n last (starting cdata) ls in
+    sym (ap flat (lone (lists_of r) (reading-open limits n last (starting cdata) ls)) ∙ append-nil (flatten (inner (lists_of r))))
     ∙ (items_flat r.items r.rest p.0 p.1.0 p.1.1).0

@@ -12,11 +12,11 @@ use Rattle.xml_events.specs.declared.front.After.TheVariants as after
 use Rattle.xml_events.specs.declared.front.Front.{Front}
 use Rattle.xml_events.specs.declared.front.Run.{Run}
 use Rattle.xml_events.specs.declared.front.Tag.{Tag}
-use Rattle.xml_events.specs.Document.{Opens, Closes, Says, element_at, finished, mark_by, inner, outer, with_item, with_items}
+use Rattle.xml_events.specs.Document.{Opens, Closes, Says, element_at, finished, stage_by, inner, outer, with_item, with_items}
 use Rattle.xml_events.specs.Fronts.{run_events, after_events, held_after, IsSettled, Follows, after_items, known_of, held_of, run_of, tag_items, run_items, items_of, shown, first_in, first_by, TellsFirst, TellFirst, first_held, Pushes, is_no_node, node_in, begun, settled, Settles, IsPlain, plain_items, Waits, TakesItems, width, AreWide, lists_before, held_lists, IsNested, waiting, waiting_behind}
 use Rattle.xml_events.specs.Telling.{told, followed, start_of}
-use Rattle.xml_events.specs.Tree.{Fresh, Told, Chars, Comment, Pi, Element, End, Single, Future}
-use Rattle.xml_events.proofs.Telling.{told-append, text-joined, finished-end, finished-comment, finished-pi, inner-finished, text-node, text-none, ready-by, opens-told}
+use Rattle.xml_events.specs.Tree.{Fresh, Told, Ready, Chars, CData, Comment, Pi, Element, End, Single, Future}
+use Rattle.xml_events.proofs.Telling.{told-append, text-joined, finished-end, finished-cdata, finished-comment, finished-pi, inner-finished, text-node, text-none, ready-by, opens-told}
 
 -- what a front shows, by its parts
 abbrev pub shown_by : (strip : Bool) → List Event → Option Tag → Option Run → Future → Future
@@ -36,26 +36,35 @@ sub-zero n = omega arith
 pub no-items : (x : Front) → (held_of x) ≡ None → (run_of x) ≡ None → items_of x ≡ []
 no-items x h r = ap (λ t. tag_items t ++ run_items (run_of x)) h ∙ ap run_items r
 
+-- what is known first behind an element: the text that is a node, or else what follows it
+abbrev first_behind : Option Run → (next : First) → First
+first_behind None next = next
+first_behind (Some run) next = child.Chars run.text
+
 module _ (s : Bool) (next : First) where
   -- the lists behind a text that is read
   text_told : (run : Option Run) (f : Future) → first_in (inner f) ≡ Some next → (o : Option Run) → node_in s run ≡ o →
-      (map (finished s) (with_items (run_items run) f) ≡ told (settled None o next) (map (finished s) f)) × (mark_by (inner (map (finished s) (with_items (run_items run) f))) ≡ Told)
-  text_told None f h None e = (refl, ap mark_by (inner-finished s f) ∙ ready-by s next (inner f) h)
+      (map (finished s) (with_items (run_items run) f) ≡ told (settled None o next) (map (finished s) f))
+      × (stage_by (inner (map (finished s) (with_items (run_items run) f))) ≡ Ready (first_behind o next))
+  text_told None f h None e = (refl, ap stage_by (inner-finished s f) ∙ ready-by s next (inner f) h)
   text_told None f h (Some r) e = absurd cc
   text_told (Some run) [] h o e = absurd cc
   text_told (Some run) (list ∷ lists) h o e = by_node (is_no_node s run.text) refl o e where
     by_node : (t : Bool) → is_no_node s run.text ≡ t → (o : Option Run) → (if t then None else Some run) ≡ o →
         (map (finished s) (with_items (run_items (Some run)) (list ∷ lists)) ≡ told (settled None o next) (map (finished s) (list ∷ lists)))
-        × (mark_by (inner (map (finished s) (with_items (run_items (Some run)) (list ∷ lists)))) ≡ Told)
+        × (stage_by (inner (map (finished s) (with_items (run_items (Some run)) (list ∷ lists)))) ≡ Ready (first_behind o next))
     by_node true n None e =
         let same = text-none s next run.offset run.text list h n in
-        (ap (λ x. x ∷ map (finished s) lists) same, ap mark_by same ∙ ready-by s next list h)
+        (ap (λ x. x ∷ map (finished s) lists) same, ap stage_by same ∙ ready-by s next list h)
     by_node true n (Some r) e = absurd cc
     by_node false n None e = absurd cc
     by_node false n (Some r) e =
         let same = text-node s next run.offset run.text list h n in
         let is : run ≡ r = cc in
-        (ap (λ x. x ∷ map (finished s) lists) same ∙ ap (λ (x : Run). Single Told (Chars x.offset x.text) (finished s list) ∷ map (finished s) lists) is, ap mark_by same)
+        (
+          ap (λ x. x ∷ map (finished s) lists) same ∙ ap (λ (x : Run). Single Told (Chars x.offset x.text) (finished s list) ∷ map (finished s) lists) is,
+          ap stage_by same ∙ ap (λ (x : Run). Ready (child.Chars x.text)) is,
+        )
 
   -- the events of what is read tell the lists
   pub settled-told : (held : Option Tag) (run : Option Run) (f : Future) → first_in (inner f) ≡ Some next →
@@ -88,6 +97,7 @@ tells-append (d ∷ c ∷ es) e behind h k = (h.0, tells-append (c ∷ es) e beh
 -- a plain event
 plain_by : (e : Event) (next : First) → IsPlain e next → (behind : Option First) → (first_by e ≡ next) × TellsFirst e behind
 plain_by (event.End o) next h behind = (sym h, tt)
+plain_by (event.CData o text) next h behind = (sym h, tt)
 plain_by (event.Comment o text) next h behind = (sym h, tt)
 plain_by (event.Pi o target text) next h behind = (sym h, tt)
 plain_by (event.Start o name attrs decls first) next h behind = absurd h
@@ -97,6 +107,14 @@ plain_by (event.DocumentEnd o) next h behind = absurd h
 plain_told : (s : Bool) (e : Event) (next : First) → IsPlain e next → (f : Future) →
     (first_in (inner (with_items (plain_items e) f)) ≡ Some next) × (map (finished s) (with_items (plain_items e) f) ≡ followed e (map (finished s) f))
 plain_told s (event.End o) next h f = (ap Some (sym h), ap (λ x. x ∷ map (finished s) f) (finished-end s Fresh o))
+plain_told s (event.CData o text) next h f = (
+  ap Some (sym h),
+  ap (λ x. x ∷ map (finished s) (outer f)) (finished-cdata s Fresh o text (inner f))
+      ∙ by_future f,
+) where
+  by_future : (f : Future) → (Single Told (CData o text) (finished s (inner f)) ∷ map (finished s) (outer f)) ≡ followed (event.CData o text) (map (finished s) f)
+  by_future [] = ap (λ x. Single Told (CData o text) x ∷ []) (sym (inner-finished s []))
+  by_future (list ∷ lists) = refl
 plain_told s (event.Comment o text) next h f = (
   ap Some (sym h),
   ap (λ x. x ∷ map (finished s) (outer f)) (finished-comment s Fresh o text (inner f))
@@ -119,6 +137,7 @@ plain_told s (event.DocumentEnd o) next h f = absurd h
 
 plain_waits : (e : Event) (next : First) → IsPlain e next → (old new : Front) → items_of new ≡ [] → Waits (plain_items e) old new
 plain_waits (event.End o) next h old new none = none
+plain_waits (event.CData o text) next h old new none = none
 plain_waits (event.Comment o text) next h old new none = none
 plain_waits (event.Pi o target text) next h old new none = none
 plain_waits (event.Start o name attrs decls first) next h old new none = absurd h
@@ -156,6 +175,7 @@ settled-wide (Some tag) (Some run) next es n h w = (h, w)
 -- a plain event before lists
 plain-wide : (e : Event) (next : First) → IsPlain e next → (n : ℕ) → (width (e ∷ []) n ≡ lists_before (plain_items e) n) × AreWide (e ∷ []) n
 plain-wide (event.End o) next h n = (refl, tt)
+plain-wide (event.CData o text) next h n = (refl, tt)
 plain-wide (event.Comment o text) next h n = (refl, tt)
 plain-wide (event.Pi o target text) next h n = (refl, tt)
 plain-wide (event.Start o name attrs decls first) next h n = absurd h
@@ -165,6 +185,7 @@ plain-wide (event.DocumentEnd o) next h n = absurd h
 -- nothing waits behind a plain event
 plain-text : (e : Event) (next : First) → IsPlain e next → (n : ℕ) → waiting_behind (plain_items e) n ≡ 0
 plain-text (event.End o) next h n = refl
+plain-text (event.CData o text) next h n = refl
 plain-text (event.Comment o text) next h n = refl
 plain-text (event.Pi o target text) next h n = refl
 plain-text (event.Start o name attrs decls first) next h n = absurd h
@@ -231,7 +252,7 @@ takes-empty old mid new tag none settles pushes = record {
   text = ap waiting (pushes.run ∙ settles.run);
   law = λ f.
       settled-shown old mid child.Other none settles (with_items (Opens e ∷ Closes tag.offset ∷ []) f) refl
-      ∙ ap (told (known_of mid)) (opens-told old.strip e child.Nothing (End Fresh tag.offset ∷ f) (ap mark_by (finished-end old.strip Fresh tag.offset)))
+      ∙ ap (told (known_of mid)) (opens-told old.strip e child.Nothing (End Fresh tag.offset ∷ f) (ap stage_by (finished-end old.strip Fresh tag.offset)))
       ∙ ap (λ x. told (known_of mid) (followed (start_of e child.Nothing) (x ∷ map (finished old.strip) f))) (finished-end old.strip Fresh tag.offset)
       ∙ sym (told-append (known_of mid) (start_of e child.Nothing ∷ event.End tag.offset ∷ []) (map (finished old.strip) f))
       ∙ sym (shown-is new old.strip ((known_of mid) ++ (start_of e child.Nothing ∷ event.End tag.offset ∷ [])) None None (pushes.strip ∙ settles.strip) known (pushes.held ∙ settles.held) (pushes.run ∙ settles.run) f);
@@ -350,6 +371,7 @@ module _ (old set : Front) (next : First) (free : old.settled ≡ false) (s : Is
 
   pub takes-after : (a : After) → Follows a next → TakesItems (after_items a) old (with set a set.next)
   takes-after (after.End o) f = takes-plain old (alone set) (with set (after.End o) set.next) next (event.End o) (unsettled-known old free) settled-alone (pushed (after.End o) set.next refl) f
+  takes-after (after.CData o text) f = takes-plain old (alone set) (with set (after.CData o text) set.next) next (event.CData o text) (unsettled-known old free) settled-alone (pushed (after.CData o text) set.next refl) f
   takes-after (after.Comment o text) f = takes-plain old (alone set) (with set (after.Comment o text) set.next) next (event.Comment o text) (unsettled-known old free) settled-alone (pushed (after.Comment o text) set.next refl) f
   takes-after (after.Pi o target text) f = takes-plain old (alone set) (with set (after.Pi o target text) set.next) next (event.Pi o target text) (unsettled-known old free) settled-alone (pushed (after.Pi o target text) set.next refl) f
   takes-after after.Open f = absurd f

@@ -11,12 +11,12 @@ use Rattle.xml_tokens.proofs.RunLemmas.{after-shorter, after-fresh, after-ended}
 use Rattle.xml_tokens.specs.declared.lexeme.Lexeme.{Lexeme}
 use Rattle.xml_tokens.specs.declared.lexeme.Step.{Step}
 use Rattle.xml_tokens.specs.declared.lexeme.Step.TheVariants as step
-use Rattle.xml_events.specs.Before.{Before, at_start, before_next, fault_of}
+use Rattle.xml_events.specs.Before.{Before, starting, before_next, fault_of}
 use Rattle.xml_events.specs.Document.{Closes, Item, Opens, Says, Stands, at_end, cuts, finished, inner, items_of, judged, lists_of, outer, reading, readied, stops, stripped, text_before, with_item, with_items}
 use Rattle.xml_events.specs.Growing.{DocumentsGrow, Grows}
 use Rattle.xml_events.specs.Lexed.{Lexed, answered, lexed_within, lexed_from, lexed, unread}
 use Rattle.xml_events.specs.Source.{later}
-use Rattle.xml_events.specs.Tree.{Need, Bad, Fresh, Chars, Comment, Pi, Forest, End, Cut, Single, Nested, Future}
+use Rattle.xml_events.specs.Tree.{Need, Bad, Fresh, Chars, CData, Comment, Pi, Forest, End, Cut, Single, Nested, Future}
 use Rattle.xml_events.proofs.Counting.{Open, reading-open}
 use Rattle.xml_events.proofs.Lexing.{before, from-lexeme, from-last, later-fresh, later-due, later-after, end-ended}
 use Rattle.xml_events.proofs.Reading.{judged-lists}
@@ -63,6 +63,7 @@ raw-stripped (Single m (Chars offset text) next) new h = subst (λ f. Raw (strip
       → Raw (if t then stripped next else Single m (Chars offset text) (stripped next)) (if t then stripped h.0 else Single m (Chars offset text) (stripped h.0))
   by_blank true k = k
   by_blank false k = (stripped h.0, refl, k)
+raw-stripped (Single m (CData offset text) next) new h = (stripped h.0, ap stripped h.1, raw-stripped next h.0 h.2)
 raw-stripped (Single m (Comment offset text) next) new h = (stripped h.0, ap stripped h.1, raw-stripped next h.0 h.2)
 raw-stripped (Single m (Pi offset target text) next) new h = (stripped h.0, ap stripped h.1, raw-stripped next h.0 h.2)
 raw-stripped (Nested m e kids next) new h = (stripped h.0, stripped h.1, ap stripped h.2, raw-stripped kids h.0 h.3, raw-stripped next h.1 h.4)
@@ -80,12 +81,15 @@ raw-before offset c cs old next new is same h = (next, ap (text_before offset (c
 
 raw-text : (offset : ℕ) (text : List ℕ) (old new : Forest) → Raw old new → Raw (text_before offset text old) (text_before offset text new)
 raw-text offset text (Single m (Chars later more) next) new h = (h.0, ap (text_before offset text) h.1, h.2)
+raw-text offset [] (Single m (CData at other) next) new h = (h.0, ap (text_before offset []) h.1, h.2)
 raw-text offset [] (Single m (Comment at other) next) new h = (h.0, ap (text_before offset []) h.1, h.2)
 raw-text offset [] (Single m (Pi at target other) next) new h = (h.0, ap (text_before offset []) h.1, h.2)
 raw-text offset [] (End m at) new h = ap (text_before offset []) h
 raw-text offset [] (Cut Need) new h = tt
 raw-text offset [] (Cut (Bad fault)) new h = ap (text_before offset []) h
 raw-text offset [] (Nested m e kids next) new h = (h.0, h.1, ap (text_before offset []) h.2, h.3, h.4)
+raw-text offset (c ∷ cs) (Single m (CData at other) next) new h =
+    raw-before offset c cs (Single m (CData at other) next) (Single m (CData at other) h.0) new refl h.1 (h.0, refl, h.2)
 raw-text offset (c ∷ cs) (Single m (Comment at other) next) new h =
     raw-before offset c cs (Single m (Comment at other) next) (Single m (Comment at other) h.0) new refl h.1 (h.0, refl, h.2)
 raw-text offset (c ∷ cs) (Single m (Pi at target other) next) new h =
@@ -200,7 +204,7 @@ module _ (more : List ℕ) (ended : Bool) where
   lexed-grown zero r fresh going short = absurd (omega arith)
   lexed-grown (suc n) r fresh going short = by_answer n r fresh going (due r) refl (λ q f g h. lexed-grown n q f g (omega arith))
 
-module _ (limits : Limits) (bytes more : List ℕ) (ended : Bool) where
+module _ (limits : Limits) (cdata : Bool) (bytes more : List ℕ) (ended : Bool) where
   abbrev x : Lexed
   x = lexed limits bytes false
 
@@ -214,24 +218,24 @@ module _ (limits : Limits) (bytes more : List ℕ) (ended : Bool) where
   m = fed (unread limits (bytes ++ more) ended)
 
   abbrev now : Future
-  now = lists_of (reading limits n x.last at_start x.lexemes)
+  now = lists_of (reading limits n x.last (starting cdata) x.lexemes)
 
   abbrev all : Future
-  all = lists_of (reading limits m y.last at_start y.lexemes)
+  all = lists_of (reading limits m y.last (starting cdata) y.lexemes)
 
   by_lexed : x.last ≢ step.End → LexedWithin x y → AllRaw now all
   by_lexed other (inl e) =
-      subst (AllRaw now) (ap lists_of (reading-same limits n m x.last at_start x.lexemes other) ∙ ap (λ (z : Lexed). lists_of (reading limits m z.last at_start z.lexemes)) e) (all-same now)
+      subst (AllRaw now) (ap lists_of (reading-same limits n m x.last (starting cdata) x.lexemes other) ∙ ap (λ (z : Lexed). lists_of (reading limits m z.last (starting cdata) z.lexemes)) e) (all-same now)
   by_lexed other (inr h) =
-      subst (λ s. AllRaw (lists_of (reading limits n s at_start x.lexemes)) all) (sym h.0)
-      (subst (λ ls. AllRaw (lists_of (reading limits n step.Need at_start x.lexemes)) (lists_of (reading limits m y.last at_start ls))) h.1.1
-      (reading-more limits n m y.last at_start x.lexemes h.1.0))
+      subst (λ s. AllRaw (lists_of (reading limits n s (starting cdata) x.lexemes)) all) (sym h.0)
+      (subst (λ ls. AllRaw (lists_of (reading limits n step.Need (starting cdata) x.lexemes)) (lists_of (reading limits m y.last (starting cdata) ls))) h.1.1
+      (reading-more limits n m y.last (starting cdata) x.lexemes h.1.0))
 
   grown : AllRaw now all
   grown = let h = lexed-grown more ended (suc (length bytes)) (unread limits bytes false) refl refl (omega arith) in by_lexed h.0 h.1
 
 pub documents-grow : DocumentsGrow
-documents-grow limits strip bytes more ended =
-    let f = now limits bytes more ended in
-    let g = all limits bytes more ended in
-    raw-finished strip (inner f) (inner g) (raw-inner f g (grown limits bytes more ended))
+documents-grow limits strip cdata bytes more ended =
+    let f = now limits cdata bytes more ended in
+    let g = all limits cdata bytes more ended in
+    raw-finished strip (inner f) (inner g) (raw-inner f g (grown limits cdata bytes more ended))

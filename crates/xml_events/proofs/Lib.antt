@@ -9,6 +9,8 @@ pub mod Feeding
 pub mod Running
 pub mod Over
 pub mod Faults
+pub mod Joining
+pub mod Agreeing
 pub mod Flattening
 pub mod Treeing
 pub mod Unflattening

@@ -21,12 +21,12 @@ use Rattle.xml_tokens.proofs.RunLemmas.{due-fresh, taken-fresh, taken-ended, nee
 use Rattle.xml_events.specs.declared.event.Event.{Event}
 use Rattle.xml_events.specs.declared.event.Event.TheVariants as event
 use Rattle.xml_events.specs.declared.event.Pull.TheVariants as pull
-use Rattle.xml_events.specs.Before.{Before, at_start, fault_of, before_next, is_complete, is_inside}
-use Rattle.xml_events.specs.Document.{Says, Reading, items_of, stops, completes, cuts, at_end, judged, reading, reading_from, lists_of, with_items, text_before, finished, readied, stripped, doc}
+use Rattle.xml_events.specs.Before.{Before, starting, fault_of, before_next, is_complete, is_inside, without_text, behind_text}
+use Rattle.xml_events.specs.Document.{Says, Reading, items_of, stops, completes, cuts, at_end, judged, reading, reading_from, lists_of, with_items, text_before, finished, readied, stripped, doc_for, Stands, text_items}
 use Rattle.xml_events.specs.Lexed.{Lexed, answered, lexed_within, lexed_from, lexed, unread}
 use Rattle.xml_events.specs.Run.{AreCalled}
 use Rattle.xml_events.specs.Telling.{told, followed, pulled, start_pulled, start_of, first_of, events_in}
-use Rattle.xml_events.specs.Tree.{Need, Bad, Told, Mark, Chars, Comment, Pi, Element, Forest, End, Cut, Single, Nested, Future}
+use Rattle.xml_events.specs.Tree.{Need, Bad, Told, Mark, Chars, CData, Comment, Pi, Element, Forest, End, Cut, Single, Nested, Future, Stage, Ready}
 use Rattle.xml_events.proofs.Counting.{Open, reading-open, has-document}
 use Rattle.xml_events.proofs.Reading.{judged-lists}
 
@@ -120,7 +120,9 @@ text_no_need o [] (End m k) h = h
 text_no_need o (c ∷ cs) (End m k) h = tt
 text_no_need o [] (Cut why) h = h
 text_no_need o (c ∷ cs) (Cut why) h = h
+text_no_need o [] (Single m (CData k l) next) h = h
 text_no_need o [] (Single m (Comment k l) next) h = h
+text_no_need o (c ∷ cs) (Single m (CData k l) next) h = h
 text_no_need o (c ∷ cs) (Single m (Comment k l) next) h = h
 text_no_need o [] (Single m (Pi k g l) next) h = h
 text_no_need o (c ∷ cs) (Single m (Pi k g l) next) h = h
@@ -135,6 +137,7 @@ stripped_no_need (Single m (Chars o t) next) h = by_blank (list_all is_space t) 
   by_blank : (b : Bool) → NoNeed (stripped next) → NoNeed (if b then stripped next else Single m (Chars o t) (stripped next))
   by_blank true k = k
   by_blank false k = k
+stripped_no_need (Single m (CData o t) next) h = stripped_no_need next h
 stripped_no_need (Single m (Comment o t) next) h = stripped_no_need next h
 stripped_no_need (Single m (Pi o g t) next) h = stripped_no_need next h
 stripped_no_need (Nested m e kids next) h = (stripped_no_need kids h.0, stripped_no_need next h.1)
@@ -162,9 +165,15 @@ module _ (limits : Limits) (b : Before) (offset : ℕ) where
   text_item text true i (list ∷ lists) o h = (text_no_need offset text list h.0, h.1)
   text_item text false i f o h = h
 
+  cdata_item : (text : List ℕ) (c : Bool) → (f : Future) → Open (if c then without_text b else behind_text b text).names f → NoneNeeds f →
+      NoneNeeds (with_items (if c then Stands (CData offset text) ∷ [] else text_items b offset text) f)
+  cdata_item text true [] o h = absurd (omega arith)
+  cdata_item text true (list ∷ lists) o h = h
+  cdata_item text false f o h = text_item text (is_inside b.names) refl f o h
+
   some_item : (x : Body) (f : Future) → fault_of limits b x ≡ None → Open (before_next b x).names f → NoneNeeds f → NoneNeeds (with_items (items_of b offset x) f)
   some_item (body.Chars text blank) f s o h = text_item text (is_inside b.names) refl f o h
-  some_item (body.CData text) f s o h = text_item text (is_inside b.names) refl f o h
+  some_item (body.CData text) f s o h = cdata_item text b.cdata f o h
   some_item (body.Start name attrs true) [] s o h = absurd (omega arith)
   some_item (body.Start name attrs true) (list ∷ lists) s o h = ((tt, h.0), h.1)
   some_item (body.Start name attrs false) [] s o h = absurd (omega arith)
@@ -205,12 +214,12 @@ reading_none limits n last o b (l ∷ ls) =
     (reading-open limits n last (before_next b l.body) ls) (reading_none limits n last o (before_next b l.body) ls)
 
 -- the tree of a whole document
-pub doc-none : (limits : Limits) (strip : Bool) (bytes : List ℕ) → NoneNeeds (doc limits strip bytes true ∷ [])
-doc-none limits strip bytes =
+pub doc-none : (limits : Limits) (strip cdata : Bool) (bytes : List ℕ) → NoneNeeds (doc_for limits strip cdata bytes true ∷ [])
+doc-none limits strip cdata bytes =
     let r = unread limits bytes true in
-    let f = lists_of (reading_from limits at_start r) in
-    subst NoneNeeds (has-document limits strip bytes true)
-    (finished_none strip f (reading_none limits (fed r) (lexed_from r).last (lexed-over limits bytes) at_start (lexed_from r).lexemes))
+    let f = lists_of (reading_from limits (starting cdata) r) in
+    subst NoneNeeds (has-document limits strip cdata bytes true)
+    (finished_none strip f (reading_none limits (fed r) (lexed_from r).last (lexed-over limits bytes) (starting cdata) (lexed_from r).lexemes))
 
 -- the events of lists, from the innermost outwards
 abbrev pub all_events : Future → List Event
@@ -218,7 +227,7 @@ all_events [] = []
 all_events (list ∷ []) = events_in event.DocumentEnd list
 all_events (list ∷ other ∷ lists) = events_in event.End list ++ all_events (other ∷ lists)
 
-start_in : (end : ℕ → Event) (m : Mark) (el : Element) (kids next : Forest) (e : Event) → start_pulled el kids ≡ pull.Event e →
+start_in : (end : ℕ → Event) (m : Stage) (el : Element) (kids next : Forest) (e : Event) → start_pulled el kids ≡ pull.Event e →
     events_in end (Nested m el kids next) ≡ e ∷ (events_in event.End kids ++ events_in end next)
 start_in end m el (End k o) next e h = let is : start_of el (first_of (End k o)) ≡ e = cc in ap (λ x. x ∷ (events_in event.End (End k o) ++ events_in end next)) is
 start_in end m el (Cut Need) next e h = absurd cc
@@ -233,9 +242,9 @@ pub called_events : (e : Event) (f : Future) → pulled (followed e f) ≡ pull.
 called_events (event.Start o name attrs decls first) [] p h = absurd h.0.0
 called_events (event.Start o name attrs decls first) (k ∷ []) p h = absurd h.0.1
 called_events (event.Start o name attrs decls first) (k ∷ n ∷ []) p h =
-    (start_in event.DocumentEnd Told (record { offset = o; name = name; attrs = attrs; decls = decls }) k n (event.Start o name attrs decls first) p, (h.0.0, (h.0.1, tt)))
+    (start_in event.DocumentEnd (Ready first) (record { offset = o; name = name; attrs = attrs; decls = decls }) k n (event.Start o name attrs decls first) p, (h.0.0, (h.0.1, tt)))
 called_events (event.Start o name attrs decls first) (k ∷ n ∷ g ∷ lists) p h = (
-  ap (λ l. l ++ all_events (g ∷ lists)) (start_in event.End Told (record { offset = o; name = name; attrs = attrs; decls = decls }) k n (event.Start o name attrs decls first) p)
+  ap (λ l. l ++ all_events (g ∷ lists)) (start_in event.End (Ready first) (record { offset = o; name = name; attrs = attrs; decls = decls }) k n (event.Start o name attrs decls first) p)
       ∙ ap (λ l. event.Start o name attrs decls first ∷ l) (append_assoc (events_in event.End k) (events_in event.End n) (all_events (g ∷ lists))),
   (h.0.0, (h.0.1, h.1)),
 )
@@ -244,8 +253,11 @@ called_events (event.End o) (list ∷ lists) p h = (refl, h.1)
 called_events (event.Chars o text) [] p h = absurd h.0
 called_events (event.Chars o text) (list ∷ []) p h = (refl, h)
 called_events (event.Chars o text) (list ∷ other ∷ lists) p h = (refl, h)
+called_events (event.CData o text) [] p h = absurd h.0
 called_events (event.Comment o text) [] p h = absurd h.0
+called_events (event.CData o text) (list ∷ []) p h = (refl, h)
 called_events (event.Comment o text) (list ∷ []) p h = (refl, h)
+called_events (event.CData o text) (list ∷ other ∷ lists) p h = (refl, h)
 called_events (event.Comment o text) (list ∷ other ∷ lists) p h = (refl, h)
 called_events (event.Pi o target text) [] p h = absurd h.0
 called_events (event.Pi o target text) (list ∷ []) p h = (refl, h)

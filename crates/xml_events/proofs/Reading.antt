@@ -16,12 +16,12 @@ use Rattle.xml_events.specs.declared.event.Pull.TheVariants as pull
 use Rattle.xml_events.specs.declared.front.Run.{Run}
 use Rattle.xml_events.specs.declared.front.Tag.{Tag}
 use Rattle.xml_events.specs.Before.{Before, fault_of, before_next, is_complete}
-use Rattle.xml_events.specs.Document.{Item, Opens, Closes, Says, Stands, Reading, element_at, items_of, stops, completes, cuts, at_end, judged, reading, reading_from, lists_of, with_item, with_items, text_before, inner, outer, finished, mark_by}
+use Rattle.xml_events.specs.Document.{Item, Opens, Closes, Says, Stands, Reading, element_at, items_of, stops, completes, cuts, at_end, judged, reading, reading_from, lists_of, with_item, with_items, text_before, inner, outer, finished, stage_by}
 use Rattle.xml_events.specs.Fronts.{tag_items, run_items, TellFirst, first_by_all, first_held}
 use Rattle.xml_events.specs.Lexed.{lexed_from}
 use Rattle.xml_events.specs.Source.{later}
 use Rattle.xml_events.specs.Telling.{told, followed, pulled, no_event, start_of, start_pulled}
-use Rattle.xml_events.specs.Tree.{Why, Need, Bad, Fresh, Told, Element, End, Cut, Nested, Future}
+use Rattle.xml_events.specs.Tree.{Why, Need, Bad, Waiting, Told, Element, End, Cut, Nested, Future}
 use Rattle.xml_events.proofs.Lexing.{before, from-lexeme, from-last, later-fresh, later-due, later-after}
 use Rattle.xml_events.proofs.Telling.{with_items-append, finished-cut, finished-nested}
 
@@ -91,8 +91,8 @@ cut-pulled s held run why names = by_held held where
       ∙ ap (λ x. pulled (x ∷ map (finished s) lists)) (finished-cut s why)
   by_held (Some tag) =
       ap (λ f. pulled (map (finished s) (with_item (Opens (element_at tag.offset tag.resolved)) f))) text
-      ∙ ap (λ x. pulled (x ∷ map (finished s) (outer lists))) (finished-nested s Fresh (element_at tag.offset tag.resolved) (Cut why) (inner lists))
-      ∙ ap (λ k. pulled (Nested (mark_by k) (element_at tag.offset tag.resolved) k (finished s (inner lists)) ∷ map (finished s) (outer lists))) (finished-cut s why)
+      ∙ ap (λ x. pulled (x ∷ map (finished s) (outer lists))) (finished-nested s Waiting (element_at tag.offset tag.resolved) (Cut why) (inner lists))
+      ∙ ap (λ k. pulled (Nested (stage_by k) (element_at tag.offset tag.resolved) k (finished s (inner lists)) ∷ map (finished s) (outer lists))) (finished-cut s why)
 
 -- some list is open
 abbrev pub IsSome : Future → Type 0
@@ -115,6 +115,7 @@ told-some [] f h = h
 told-some (event.Start o name attrs decls first ∷ es) f h = tt
 told-some (event.End o ∷ es) f h = tt
 told-some (event.Chars o text ∷ es) f h = tt
+told-some (event.CData o text ∷ es) f h = tt
 told-some (event.Comment o text ∷ es) f h = tt
 told-some (event.Pi o target text ∷ es) f h = tt
 told-some (event.DocumentEnd o ∷ es) f h = tt
@@ -130,6 +131,7 @@ behind_all [] next f h = h
 behind_all (event.Start o name attrs decls first ∷ es) next f h = λ e. refl
 behind_all (event.End o ∷ es) next f h = λ e. refl
 behind_all (event.Chars o text ∷ es) next f h = λ e. refl
+behind_all (event.CData o text ∷ es) next f h = λ e. refl
 behind_all (event.Comment o text ∷ es) next f h = λ e. refl
 behind_all (event.Pi o target text ∷ es) next f h = λ e. refl
 behind_all (event.DocumentEnd o ∷ es) next f h = λ e. refl
@@ -144,6 +146,7 @@ known-pulled (event.Start o name attrs decls first) es next f h b some =
     subst (λ n. Behind n (told es f)) h.0 (behind_all es next f b) (record { offset = o; name = name; attrs = attrs; decls = decls })
 known-pulled (event.End o) es next f h b some = end_pulled o (told es f) (told-some es f some)
 known-pulled (event.Chars o text) es next f h b some = refl
+known-pulled (event.CData o text) es next f h b some = refl
 known-pulled (event.Comment o text) es next f h b some = refl
 known-pulled (event.Pi o target text) es next f h b some = refl
 known-pulled (event.DocumentEnd o) es next f h b some = absurd h.0
@@ -153,7 +156,7 @@ pub held-behind : (s : Bool) (held : Option Tag) (run : Option Run) (f : Future)
 held-behind s None run f = tt
 held-behind s (Some tag) run f =
     let g = with_items (run_items run) f in
-    λ e. ap (start_pulled e) (finished-nested s Fresh (element_at tag.offset tag.resolved) (inner g) (inner (outer g)))
+    λ e. ap (start_pulled e) (finished-nested s Waiting (element_at tag.offset tag.resolved) (inner g) (inner (outer g)))
 
 -- a reading of an open document leaves some list open
 cuts-some : (b : Before) (why : Why) → IsSome (lists_of (stops b why))

@@ -5,9 +5,9 @@ use Rattle.xml_tokens.specs.declared.lexeme.Ending.{Ending}
 use Rattle.xml_events.specs.declared.event.Event.{Event}
 use Rattle.xml_events.specs.declared.event.Pull.TheVariants as pull
 use Rattle.xml_events.specs.Cores.{answer_of}
-use Rattle.xml_events.specs.Document.{doc}
+use Rattle.xml_events.specs.Document.{doc_for}
 use Rattle.xml_events.specs.Run.{Tells, IsGiven, IsDrained, AreCalled}
-use Rattle.xml_events.specs.Source.{Source, source, fed_with, ended_there, future, IsAnswer, Leaves}
+use Rattle.xml_events.specs.Source.{Source, source_for, fed_with, ended_there, future, IsAnswer, Leaves}
 use Rattle.xml_events.specs.Telling.{told, followed, pulled}
 use Rattle.xml_events.specs.Tree.{Future}
 use Rattle.xml_events.proofs.Counting.{has-document}
@@ -41,28 +41,28 @@ pub given-need : (old s new : Source) (given : List Event) → IsGiven old given
 given-need old s new given g leaves ended = record { ended = ended ∙ g.ended; law = λ more ended. g.law more ended ∙ ap (told given) (sym (leaves more ended)); called = λ more ended. subst (AreCalled given) (sym (leaves more ended)) (g.called more ended) }
 
 -- what a reader has before it after the pieces so far
-pub record IsRead (limits : Limits) (strip : Bool) (bytes : List ℕ) (events : List Event) (s : Source) : Type 0 where
+pub record IsRead (limits : Limits) (strip cdata : Bool) (bytes : List ℕ) (events : List Event) (s : Source) : Type 0 where
   pub going : s.lexer.ended ≡ false
-  pub law : (more : List ℕ) (ended : Bool) → future (source limits strip) (bytes ++ more) ended ≡ told events (future s more ended)
+  pub law : (more : List ℕ) (ended : Bool) → future (source_for limits strip cdata) (bytes ++ more) ended ≡ told events (future s more ended)
   pub called : (more : List ℕ) (ended : Bool) → AreCalled events (future s more ended)
 
-module _ (limits : Limits) (strip : Bool) where
-  pub read-nothing : IsRead limits strip [] [] (source limits strip)
+module _ (limits : Limits) (strip cdata : Bool) where
+  pub read-nothing : IsRead limits strip cdata [] [] (source_for limits strip cdata)
   read-nothing = record { going = refl; law = λ more ended. refl; called = λ more ended. tt }
 
   -- a piece was fed
-  pub read-fed : (bytes piece : List ℕ) (events : List Event) (s : Source) → IsRead limits strip bytes events s → IsRead limits strip (bytes ++ piece) events (fed_with s piece)
+  pub read-fed : (bytes piece : List ℕ) (events : List Event) (s : Source) → IsRead limits strip cdata bytes events s → IsRead limits strip cdata (bytes ++ piece) events (fed_with s piece)
   read-fed bytes piece events s r = record {
     going = r.going;
     law = λ more ended.
-        ap (λ l. future (source limits strip) l ended) (append_assoc bytes piece more)
+        ap (λ l. future (source_for limits strip cdata) l ended) (append_assoc bytes piece more)
         ∙ r.law (piece ++ more) ended
         ∙ ap (told events) (sym (goes-on-fed s piece more ended r.going));
     called = λ more ended. subst (AreCalled events) (sym (goes-on-fed s piece more ended r.going)) (r.called (piece ++ more) ended);
   }
 
   -- its events were given
-  pub read-drained : (bytes : List ℕ) (events all : List Event) (s new : Source) → IsRead limits strip bytes events s → IsDrained s events new all None → IsRead limits strip bytes all new
+  pub read-drained : (bytes : List ℕ) (events all : List Event) (s new : Source) → IsRead limits strip cdata bytes events s → IsDrained s events new all None → IsRead limits strip cdata bytes all new
   read-drained bytes events all s new r d = record {
     going = d.2.ended ∙ r.going;
     law = λ more ended.
@@ -82,17 +82,17 @@ module _ (limits : Limits) (strip : Bool) where
   }
 
   -- an ending came before the last piece
-  pub read-over : (bytes left : List ℕ) (events all : List Event) (s new : Source) (over : Ending) → IsRead limits strip bytes events s → IsDrained s events new all (Some over) → Tells (doc limits strip (bytes ++ left) true ∷ []) all over
+  pub read-over : (bytes left : List ℕ) (events all : List Event) (s new : Source) (over : Ending) → IsRead limits strip cdata bytes events s → IsDrained s events new all (Some over) → Tells (doc_for limits strip cdata (bytes ++ left) true ∷ []) all over
   read-over bytes left events all s new over r d =
-      tells-all events all d.0 over (doc limits strip (bytes ++ left) true ∷ []) (future s left true)
-      (sym (has-document limits strip (bytes ++ left) true) ∙ r.law left true) (r.called left true) d.1 (d.2 left true)
+      tells-all events all d.0 over (doc_for limits strip cdata (bytes ++ left) true ∷ []) (future s left true)
+      (sym (has-document limits strip cdata (bytes ++ left) true) ∙ r.law left true) (r.called left true) d.1 (d.2 left true)
 
   -- or behind it
-  pub read-ended : (bytes : List ℕ) (events all : List Event) (s new : Source) (over : Ending) → IsRead limits strip bytes events s → IsDrained (ended_there s) events new all (Some over) → Tells (doc limits strip bytes true ∷ []) all over
+  pub read-ended : (bytes : List ℕ) (events all : List Event) (s new : Source) (over : Ending) → IsRead limits strip cdata bytes events s → IsDrained (ended_there s) events new all (Some over) → Tells (doc_for limits strip cdata bytes true ∷ []) all over
   read-ended bytes events all s new over r d =
-      tells-all events all d.0 over (doc limits strip bytes true ∷ []) (future (ended_there s) [] true)
-      (sym (has-document limits strip bytes true)
-      ∙ ap (λ l. future (source limits strip) l true) (sym (append-nil bytes))
+      tells-all events all d.0 over (doc_for limits strip cdata bytes true ∷ []) (future (ended_there s) [] true)
+      (sym (has-document limits strip cdata bytes true)
+      ∙ ap (λ l. future (source_for limits strip cdata) l true) (sym (append-nil bytes))
       ∙ r.law [] true
       ∙ ap (told events) (sym (ends-there s [] true r.going)))
       (subst (AreCalled events) (sym (ends-there s [] true r.going)) (r.called [] true)) d.1 (d.2 [] true)

@@ -25,7 +25,7 @@ use Rattle.xml_events.specs.declared.front.Tag.{Tag}
 use Rattle.xml_events.specs.declared.reader.Core.{Core}
 use Rattle.xml_events.specs.declared.reader.Turn.{Turn}
 use Rattle.xml_events.specs.declared.reader.Turn.TheVariants as turn
-use Rattle.xml_events.specs.Before.{Before, fault_of, before_next, is_complete, is_inside}
+use Rattle.xml_events.specs.Before.{Before, fault_of, before_next, is_complete, is_inside, without_text, behind_text}
 use Rattle.xml_events.specs.Cores.{source_of, lists_open, holds, answer_of, IsReading, IsSound, IsSame, Reaches, Reads, Answers, Turns, Takes, Fails, Refuses, Receives, Ends}
 use Rattle.xml_events.specs.Document.{Item, Reading, stops, completes, cuts, at_end, judged, reading_from, lists_of, with_items, finished}
 use Rattle.xml_events.specs.Document as document
@@ -34,7 +34,7 @@ use Rattle.xml_events.specs.Fronts.{known_of, held_of, run_of, items_of, tag_ite
 use Rattle.xml_events.specs.Source.{later, unless_over, left, future, ends_left, IsShort, text_in}
 use Rattle.xml_events.specs.Taking.{before_of, names_of, items_at}
 use Rattle.xml_events.specs.Telling.{told, followed, pulled, no_event}
-use Rattle.xml_events.specs.Tree.{Why, Need, Bad, Fresh, Told, End, Future}
+use Rattle.xml_events.specs.Tree.{Why, Need, Bad, Fresh, Told, End, Future, CData}
 use Rattle.xml_events.specs.Lexed.{lexed_from}
 use Rattle.stx_base.specs.declared.node.First.{First}
 use Rattle.xml_events.proofs.Counting.{reading-open}
@@ -61,9 +61,14 @@ module _ (old new : Front) (limits : Limits) (b : Before) (offset : ℕ) (was : 
   text_outside text true i out w = let c = sym i ∙ out in absurd cc
   text_outside text false i out w = w ∙ was i
 
+  cdata_outside : (text : List ℕ) (c : Bool) → is_inside (if c then without_text b else behind_text b text).names ≡ false →
+      Waits (if c then document.Stands (CData offset text) ∷ [] else document.text_items b offset text) old new → items_of new ≡ []
+  cdata_outside text true out w = w
+  cdata_outside text false out w = text_outside text (is_inside b.names) refl out w
+
   pub outside-next : (x : Body) → is_inside (before_next b x).names ≡ false → Waits (document.items_of b offset x) old new → items_of new ≡ []
   outside-next (body.Chars text blank) out w = text_outside text (is_inside b.names) refl out w
-  outside-next (body.CData text) out w = text_outside text (is_inside b.names) refl out w
+  outside-next (body.CData text) out w = cdata_outside text b.cdata out w
   outside-next (body.Start name attrs true) out w = w
   outside-next (body.Start name attrs false) out w = absurd cc
   outside-next (body.End name) out w = w
@@ -78,9 +83,14 @@ module _ (b : Before) (offset n : ℕ) (within : n ≤ b.chars) where
   counted_text text true = omega (arith, within)
   counted_text text false = within
 
+  counted_cdata : (text : List ℕ) (c : Bool) →
+      waiting_behind (if c then document.Stands (CData offset text) ∷ [] else document.text_items b offset text) n ≤ (if c then without_text b else behind_text b text).chars
+  counted_cdata text true = omega arith
+  counted_cdata text false = counted_text text (is_inside b.names)
+
   counted-next : (x : Body) → waiting_behind (document.items_of b offset x) n ≤ (before_next b x).chars
   counted-next (body.Chars text blank) = counted_text text (is_inside b.names)
-  counted-next (body.CData text) = counted_text text (is_inside b.names)
+  counted-next (body.CData text) = counted_cdata text b.cdata
   counted-next (body.Start name attrs true) = omega arith
   counted-next (body.Start name attrs false) = omega arith
   counted-next (body.End name) = omega arith
@@ -363,6 +373,7 @@ module _ (old : Core) (reads : IsReading old) (going : old.over ≡ None) where
     over_behind (event.Start o name attrs decls first) next t = refl
     over_behind (event.End o) next t = refl
     over_behind (event.Chars o text) next t = refl
+    over_behind (event.CData o text) next t = refl
     over_behind (event.Comment o text) next t = refl
     over_behind (event.Pi o target text) next t = refl
     over_behind (event.DocumentEnd o) next t = absurd t
@@ -371,6 +382,7 @@ module _ (old : Core) (reads : IsReading old) (going : old.over ≡ None) where
     no_end (event.Start o name attrs decls first) next t = tt
     no_end (event.End o) next t = tt
     no_end (event.Chars o text) next t = tt
+    no_end (event.CData o text) next t = tt
     no_end (event.Comment o text) next t = tt
     no_end (event.Pi o target text) next t = tt
     no_end (event.DocumentEnd o) next t = absurd t
@@ -457,6 +469,7 @@ told-after old mid new e r a = record {
   whole (event.Start o name attrs decls first) w = tt
   whole (event.End o) w = tt
   whole (event.Chars o text) w = tt
+  whole (event.CData o text) w = tt
   whole (event.Comment o text) w = tt
   whole (event.Pi o target text) w = tt
   whole (event.DocumentEnd o) w = sym r.same.ended ∙ w

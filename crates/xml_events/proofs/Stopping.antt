@@ -12,12 +12,12 @@ use Rattle.xml_tokens.specs.declared.lexeme.Body.TheVariants as body
 use Rattle.xml_tokens.specs.declared.lexeme.Lexeme.{Lexeme}
 use Rattle.xml_tokens.specs.declared.lexeme.Step.{Step}
 use Rattle.xml_tokens.specs.declared.lexeme.Step.TheVariants as step
-use Rattle.xml_events.specs.Before.{Before, at_start, before_next, fault_of, is_inside}
-use Rattle.xml_events.specs.Document.{Says, at_end, doc, finished, inner, items_of, judged, lists_of, reading, readied, stripped, text_before, with_items}
+use Rattle.xml_events.specs.Before.{Before, starting, before_next, fault_of, is_inside, without_text, behind_text}
+use Rattle.xml_events.specs.Document.{Says, at_end, doc_for, finished, inner, items_of, judged, lists_of, reading, readied, stripped, text_before, with_items, Stands, text_items}
 use Rattle.xml_events.specs.Growing.{BeginningGoesOn, WholeNeedsNoMore}
 use Rattle.xml_events.specs.Lexed.{Lexed, lexed, unread}
 use Rattle.xml_events.specs.Telling.{stop_in}
-use Rattle.xml_events.specs.Tree.{Why, Need, Bad, Chars, Comment, Pi, Forest, End, Cut, Single, Nested, Future}
+use Rattle.xml_events.specs.Tree.{Why, Need, Bad, Chars, CData, Comment, Pi, Forest, End, Cut, Single, Nested, Future}
 use Rattle.xml_events.proofs.Counting.{Open, lone, reading-open}
 use Rattle.xml_events.proofs.Growing.{lexed-grown}
 use Rattle.xml_events.proofs.Over.{NoNeed, doc-none}
@@ -36,7 +36,7 @@ no-need (Nested m el kids next) h e = by_kids (stop_in kids) (no-need kids h.0) 
   by_kids (Some why) k n e = k e
 
 pub whole-needs-no-more : WholeNeedsNoMore
-whole-needs-no-more limits strip bytes = no-need (doc limits strip bytes true) (doc-none limits strip bytes).0
+whole-needs-no-more limits strip cdata bytes = no-need (doc_for limits strip cdata bytes true) (doc-none limits strip cdata bytes).0
 
 -- First bytes
 
@@ -47,7 +47,9 @@ stop_all (list ∷ lists) = option_or (stop_in list) (stop_all lists)
 
 text_stop : (o : ℕ) (t : List ℕ) (x : Forest) → stop_in (text_before o t x) ≡ stop_in x
 text_stop o t (Single m (Chars k l) next) = refl
+text_stop o [] (Single m (CData k l) next) = refl
 text_stop o [] (Single m (Comment k l) next) = refl
+text_stop o (c ∷ cs) (Single m (CData k l) next) = refl
 text_stop o (c ∷ cs) (Single m (Comment k l) next) = refl
 text_stop o [] (Single m (Pi k g l) next) = refl
 text_stop o (c ∷ cs) (Single m (Pi k g l) next) = refl
@@ -74,9 +76,15 @@ module _ (limits : Limits) (b : Before) (offset : ℕ) where
   text_item text true i (list ∷ lists) o = ap (λ s. option_or s (stop_all lists)) (text_stop offset text list)
   text_item text false i f o = refl
 
+  cdata_item : (text : List ℕ) (c : Bool) (f : Future) → Open (if c then without_text b else behind_text b text).names f →
+      stop_all (with_items (if c then Stands (CData offset text) ∷ [] else text_items b offset text) f) ≡ stop_all f
+  cdata_item text true [] o = absurd (omega arith)
+  cdata_item text true (list ∷ lists) o = refl
+  cdata_item text false f o = text_item text (is_inside b.names) refl f o
+
   item-stop : (x : Body) (f : Future) → Open (before_next b x).names f → stop_all (with_items (items_of b offset x) f) ≡ stop_all f
   item-stop (body.Chars text blank) f o = text_item text (is_inside b.names) refl f o
-  item-stop (body.CData text) f o = text_item text (is_inside b.names) refl f o
+  item-stop (body.CData text) f o = cdata_item text b.cdata f o
   item-stop (body.Start name attrs true) [] o = absurd (omega arith)
   item-stop (body.Start name attrs true) (list ∷ lists) o = refl
   item-stop (body.Start name attrs false) [] o = absurd (omega arith)
@@ -117,6 +125,7 @@ stripped-stop (Single m (Chars o t) next) = by_blank (list_all is_space t) (stri
   by_blank : (b : Bool) → stop_in (stripped next) ≡ stop_in next → stop_in (if b then stripped next else Single m (Chars o t) (stripped next)) ≡ stop_in next
   by_blank true h = h
   by_blank false h = h
+stripped-stop (Single m (CData o t) next) = stripped-stop next
 stripped-stop (Single m (Comment o t) next) = stripped-stop next
 stripped-stop (Single m (Pi o g t) next) = stripped-stop next
 stripped-stop (Nested m e kids next) = ap (λ s. option_or s (stop_in (stripped next))) (stripped-stop kids) ∙ ap (option_or (stop_in kids)) (stripped-stop next)
@@ -132,11 +141,11 @@ finished-stop true x = readied-stop (stripped x) ∙ stripped-stop x
 finished-stop false x = readied-stop x
 
 pub beginning-goes-on : BeginningGoesOn
-beginning-goes-on limits strip bytes e =
+beginning-goes-on limits strip cdata bytes e =
     let r = unread limits bytes false in
     let l : Lexed = lexed limits bytes false in
-    let f = lists_of (reading limits (fed r) l.last at_start l.lexemes) in
+    let f = lists_of (reading limits (fed r) l.last (starting cdata) l.lexemes) in
     let no_end = (lexed-grown [] false (suc (length bytes)) r refl refl (omega arith)).0 in
-    let alone : f ≡ inner f ∷ [] = lone f (reading-open limits (fed r) l.last at_start l.lexemes) in
-    reading-stop limits (fed r) l.last no_end at_start l.lexemes
+    let alone : f ≡ inner f ∷ [] = lone f (reading-open limits (fed r) l.last (starting cdata) l.lexemes) in
+    reading-stop limits (fed r) l.last no_end (starting cdata) l.lexemes
     (ap stop_all alone ∙ or_none (stop_in (inner f)) ∙ sym (finished-stop strip (inner f)) ∙ e)

@@ -10,10 +10,10 @@ use Rattle.xml_tokens.specs.declared.lexeme.Lexeme.{Lexeme}
 use Rattle.xml_tokens.specs.declared.lexeme.Step.{Step}
 use Rattle.xml_tokens.specs.declared.lexeme.Step.TheVariants as step
 use Rattle.xml_names.specs.Tag.{resolved}
-use Rattle.xml_events.specs.Before.{Before, at_start, fault_of, before_next, is_complete, is_inside}
-use Rattle.xml_events.specs.Document.{Says, Reading, at_end, completes, cuts, stops, judged, reading, lists_of, with_items, inner, text_before, element_at, items_of}
+use Rattle.xml_events.specs.Before.{Before, starting, fault_of, before_next, is_complete, is_inside, without_text, behind_text}
+use Rattle.xml_events.specs.Document.{Says, Reading, at_end, completes, cuts, stops, judged, reading, lists_of, with_items, inner, text_before, element_at, items_of, Stands, text_items}
 use Rattle.xml_events.specs.Flatten.{is_closed, IsCut, IsProper, is_whole, IsCutTree, cut_by}
-use Rattle.xml_events.specs.Tree.{Why, Need, Bad, Fresh, Chars, Comment, Pi, Forest, End, Cut, Single, Nested, Future}
+use Rattle.xml_events.specs.Tree.{Why, Need, Bad, Fresh, Chars, CData, Comment, Pi, Forest, End, Cut, Single, Nested, Future, Waiting}
 use Rattle.xml_events.proofs.Counting.{Open, lone, reading-open}
 use Rattle.xml_events.proofs.Reading.{judged-lists}
 
@@ -37,7 +37,9 @@ text_proper why o [] (End m k) p = p
 text_proper why o (c ∷ cs) (End m k) p = (refl, λ e. cc, tt, p)
 text_proper why o [] (Cut w) p = p
 text_proper why o (c ∷ cs) (Cut w) p = p
+text_proper why o [] (Single m (CData k l) next) p = p
 text_proper why o [] (Single m (Comment k l) next) p = p
+text_proper why o (c ∷ cs) (Single m (CData k l) next) p = (refl, λ e. cc, tt, p)
 text_proper why o (c ∷ cs) (Single m (Comment k l) next) p = (refl, λ e. cc, tt, p)
 text_proper why o [] (Single m (Pi k g l) next) p = p
 text_proper why o (c ∷ cs) (Single m (Pi k g l) next) p = (refl, λ e. cc, tt, p)
@@ -50,7 +52,9 @@ text_closed o [] (End m k) = refl
 text_closed o (c ∷ cs) (End m k) = refl
 text_closed o [] (Cut w) = refl
 text_closed o (c ∷ cs) (Cut w) = refl
+text_closed o [] (Single m (CData k l) next) = refl
 text_closed o [] (Single m (Comment k l) next) = refl
+text_closed o (c ∷ cs) (Single m (CData k l) next) = refl
 text_closed o (c ∷ cs) (Single m (Comment k l) next) = refl
 text_closed o [] (Single m (Pi k g l) next) = refl
 text_closed o (c ∷ cs) (Single m (Pi k g l) next) = refl
@@ -79,9 +83,15 @@ module _ (why : Option Why) (limits : Limits) (b : Before) (offset : ℕ) where
   text_tidy text true i (x ∷ f) o h = (text_proper why offset text x h.0, λ c. h.1 (sym (text_closed offset text x) ∙ c), h.2)
   text_tidy text false i f o h = h
 
+  cdata_tidy : (text : List ℕ) (c : Bool) (f : Future) → Open (if c then without_text b else behind_text b text).names f → Tidy why f →
+      Tidy why (with_items (if c then Stands (CData offset text) ∷ [] else text_items b offset text) f)
+  cdata_tidy text true [] o h = absurd (omega arith)
+  cdata_tidy text true (x ∷ f) o h = ((refl, h.0), h.1, h.2)
+  cdata_tidy text false f o h = text_tidy text (is_inside b.names) refl f o h
+
   item_tidy : (x : Body) (f : Future) → Open (before_next b x).names f → Tidy why f → Tidy why (with_items (items_of b offset x) f)
   item_tidy (body.Chars text blank) f o h = text_tidy text (is_inside b.names) refl f o h
-  item_tidy (body.CData text) f o h = text_tidy text (is_inside b.names) refl f o h
+  item_tidy (body.CData text) f o h = cdata_tidy text b.cdata f o h
   item_tidy (body.Start name attrs true) [] o h = absurd (omega arith)
   item_tidy (body.Start name attrs true) (x ∷ f) o h = ((refl, refl, h.0, λ c. absurd cc), h.1, h.2)
   item_tidy (body.Start name attrs false) [] o h = absurd (omega arith)
@@ -123,7 +133,9 @@ text_last o text (Single m (Chars k l) next) h = h
 text_last o text (End m k) h = absurd h
 text_last o [] (Cut w) h = h
 text_last o (c ∷ cs) (Cut w) h = h
+text_last o [] (Single m (CData k l) next) h = h
 text_last o [] (Single m (Comment k l) next) h = h
+text_last o (c ∷ cs) (Single m (CData k l) next) h = h
 text_last o (c ∷ cs) (Single m (Comment k l) next) h = h
 text_last o [] (Single m (Pi k g l) next) h = h
 text_last o (c ∷ cs) (Single m (Pi k g l) next) h = h
@@ -145,14 +157,19 @@ module _ (limits : Limits) (b : Before) (offset : ℕ) where
   text_cut text true (x ∷ f) h = in_place x (text_before offset text x) f (text_last offset text x) h
   text_cut text false f h = h
 
+  cdata_cut : (text : List ℕ) (c : Bool) (f : Future) → LastCut f → LastCut (with_items (if c then Stands (CData offset text) ∷ [] else text_items b offset text) f)
+  cdata_cut text true [] h = absurd h
+  cdata_cut text true (x ∷ f) h = in_place x (Single Fresh (CData offset text) x) f (λ k. k) h
+  cdata_cut text false f h = text_cut text (is_inside b.names) f h
+
   item_cut : (x : Body) (f : Future) → Open (before_next b x).names f → LastCut f → LastCut (with_items (items_of b offset x) f)
   item_cut (body.Chars text blank) f o h = text_cut text (is_inside b.names) f h
-  item_cut (body.CData text) f o h = text_cut text (is_inside b.names) f h
+  item_cut (body.CData text) f o h = cdata_cut text b.cdata f h
   item_cut (body.Start name attrs true) [] o h = absurd h
-  item_cut (body.Start name attrs true) (x ∷ f) o h = in_place x (Nested Fresh (element_at offset (resolved b.path name attrs)) (End Fresh offset) x) f (λ k. k) h
+  item_cut (body.Start name attrs true) (x ∷ f) o h = in_place x (Nested Waiting (element_at offset (resolved b.path name attrs)) (End Fresh offset) x) f (λ k. k) h
   item_cut (body.Start name attrs false) [] o h = absurd h
   item_cut (body.Start name attrs false) (x ∷ []) o h = absurd (omega arith)
-  item_cut (body.Start name attrs false) (x ∷ y ∷ f) o h = in_place y (Nested Fresh (element_at offset (resolved b.path name attrs)) x y) f (λ k. k) h
+  item_cut (body.Start name attrs false) (x ∷ y ∷ f) o h = in_place y (Nested Waiting (element_at offset (resolved b.path name attrs)) x y) f (λ k. k) h
   item_cut (body.End name) f o h = before_last (End Fresh offset) f h
   item_cut (body.Comment text) [] o h = absurd h
   item_cut (body.Comment text) (x ∷ f) o h = in_place x (Single Fresh (Comment offset text) x) f (λ k. k) h
@@ -209,6 +226,7 @@ whole_closed : (x : Forest) → IsProper None x → is_closed x ≡ true
 whole_closed (End m o) p = refl
 whole_closed (Cut w) p = absurd cc
 whole_closed (Single m (Chars o text) next) p = whole_closed next p.3
+whole_closed (Single m (CData o text) next) p = whole_closed next p.1
 whole_closed (Single m (Comment o text) next) p = whole_closed next p.1
 whole_closed (Single m (Pi o target text) next) p = whole_closed next p.1
 whole_closed (Nested m e kids next) p = and_both (is_closed kids) (is_closed next) (whole_closed kids p.1) (whole_closed next p.2)
@@ -223,10 +241,10 @@ closed_so : (why : Option Why) (x : Forest) → IsProper why x → (why ≢ None
 closed_so None x p c = whole_closed x p
 closed_so (Some w) x p c = cut_open x (c (λ k. cc))
 
-pub is-cut-tree : (limits : Limits) (n : ℕ) (last : Step) (ls : List Lexeme) → let r = reading limits n last at_start ls in IsCutTree (cut_by r.rest) (inner (lists_of r))
-is-cut-tree limits n last ls =
-    let r = reading limits n last at_start ls in
-    let one = lone (lists_of r) (reading-open limits n last at_start ls) in
-    let h = reading_read limits n last at_start ls in
+pub is-cut-tree : (limits : Limits) (cdata : Bool) (n : ℕ) (last : Step) (ls : List Lexeme) → let r = reading limits n last (starting cdata) ls in IsCutTree (cut_by r.rest) (inner (lists_of r))
+is-cut-tree limits cdata n last ls =
+    let r = reading limits n last (starting cdata) ls in
+    let one = lone (lists_of r) (reading-open limits n last (starting cdata) ls) in
+    let h = reading_read limits n last (starting cdata) ls in
     let t : Tidy (cut_by r.rest) (inner (lists_of r) ∷ []) = subst (Tidy (cut_by r.rest)) one h.0 in
     (t.0, closed_so (cut_by r.rest) (inner (lists_of r)) t.0 (λ n. subst LastCut one (h.1 n)))

@@ -3,7 +3,7 @@ use Rattle.std.proofs.Common.{◌≡◌, ◌≢◌, ℕ, Bool, true, false, List
 use Rattle.std.specs.Prelude.{◌&&◌}
 use Rattle.xml_events.specs.Document.{Item, Opens, Closes, Says, Stands, text_before, outer}
 use Rattle.xml_events.specs.Flatten.{is_closed, flatten, IsAfterText, IsCut, IsProper, IsCutTree}
-use Rattle.xml_events.specs.Tree.{Why, Need, Mark, Fresh, Leaf, Chars, Comment, Pi, Element, Forest, End, Cut, Single, Nested, Future}
+use Rattle.xml_events.specs.Tree.{Why, Need, Mark, Fresh, Leaf, Chars, CData, Comment, Pi, Element, Forest, End, Cut, Single, Nested, Future, Stage, Waiting}
 
 module _ (why : Why) where
   -- the innermost list; one that isn't there is cut
@@ -15,7 +15,7 @@ module _ (why : Why) where
   abbrev rebuilt : List Item → Future
   rebuilt [] = []
   rebuilt (Says o text ∷ is) = text_before o text (first_list (rebuilt is)) ∷ outer (rebuilt is)
-  rebuilt (Opens e ∷ is) = Nested Fresh e (first_list (rebuilt is)) (first_list (outer (rebuilt is))) ∷ outer (outer (rebuilt is))
+  rebuilt (Opens e ∷ is) = Nested Waiting e (first_list (rebuilt is)) (first_list (outer (rebuilt is))) ∷ outer (outer (rebuilt is))
   rebuilt (Closes o ∷ is) = End Fresh o ∷ rebuilt is
   rebuilt (Stands leaf ∷ is) = Single Fresh leaf (first_list (rebuilt is)) ∷ outer (rebuilt is)
 
@@ -24,6 +24,7 @@ text_single o [] next some after = absurd (some refl)
 text_single o (c ∷ cs) (End m k) some after = refl
 text_single o (c ∷ cs) (Cut why) some after = absurd after
 text_single o (c ∷ cs) (Single m (Chars k l) next) some after = absurd after
+text_single o (c ∷ cs) (Single m (CData k l) next) some after = refl
 text_single o (c ∷ cs) (Single m (Comment k l) next) some after = refl
 text_single o (c ∷ cs) (Single m (Pi k g l) next) some after = refl
 text_single o (c ∷ cs) (Nested m e kids next) some after = refl
@@ -50,11 +51,11 @@ leaf_rebuilt why is m leaf next f fresh h = record {
 }
 
 -- an element whose list is rebuilt, and then what follows it
-nested_rebuilt : (why : Why) (is : List Item) (m : Mark) (e : Element) (kids next : Forest) (f g : Future) → m ≡ Fresh → Rebuilt why is kids f → first_list why f ≡ next → outer f ≡ g → Rebuilt why (Opens e ∷ is) (Nested m e kids next) g
+nested_rebuilt : (why : Why) (is : List Item) (m : Stage) (e : Element) (kids next : Forest) (f g : Future) → m ≡ Waiting → Rebuilt why is kids f → first_list why f ≡ next → outer f ≡ g → Rebuilt why (Opens e ∷ is) (Nested m e kids next) g
 nested_rebuilt why is m e kids next f g fresh h a b = record {
-  list = ap (λ k. Nested Fresh e k (first_list why (outer (rebuilt why is)))) h.list
-      ∙ (ap (λ l. Nested Fresh e kids (first_list why l)) h.lists
-      ∙ (ap (λ n. Nested Fresh e kids n) a ∙ ap (λ k. Nested k e kids next) (sym fresh)));
+  list = ap (λ k. Nested Waiting e k (first_list why (outer (rebuilt why is)))) h.list
+      ∙ (ap (λ l. Nested Waiting e kids (first_list why l)) h.lists
+      ∙ (ap (λ n. Nested Waiting e kids n) a ∙ ap (λ k. Nested k e kids next) (sym fresh)));
   lists = ap outer h.lists ∙ b;
 }
 
@@ -63,6 +64,8 @@ closed_rebuilt why o (End m k) p c js = record { list = ap (λ n. End n k) (sym 
 closed_rebuilt why o (Cut w) p c js = absurd cc
 closed_rebuilt why o (Single m (Chars k text) next) p c js =
     single_rebuilt why (flatten next ++ js) m k text next (rebuilt why js) p.0 p.1 p.2 (closed_rebuilt why o next p.3 c js)
+closed_rebuilt why o (Single m (CData k text) next) p c js =
+    leaf_rebuilt why (flatten next ++ js) m (CData k text) next (rebuilt why js) p.0 (closed_rebuilt why o next p.1 c js)
 closed_rebuilt why o (Single m (Comment k text) next) p c js =
     leaf_rebuilt why (flatten next ++ js) m (Comment k text) next (rebuilt why js) p.0 (closed_rebuilt why o next p.1 c js)
 closed_rebuilt why o (Single m (Pi k target text) next) p c js =
@@ -86,7 +89,7 @@ cut_flat (Cut w) c = refl
 cut_flat (Single m leaf next) c = absurd c
 cut_flat (Nested m e kids next) c = absurd c
 
-open_nested : (w : Why) (m : Mark) (e : Element) (kids next : Forest) → IsProper (Some w) (Nested m e kids next) → (t : Bool) → is_closed kids ≡ t → (t && is_closed next) ≡ false →
+open_nested : (w : Why) (m : Stage) (e : Element) (kids next : Forest) → IsProper (Some w) (Nested m e kids next) → (t : Bool) → is_closed kids ≡ t → (t && is_closed next) ≡ false →
     (is_closed kids ≡ false → Rebuilt w (flatten kids) kids []) → (is_closed next ≡ false → Rebuilt w (flatten next) next []) →
     Rebuilt w (Opens e ∷ (flatten kids ++ flatten next)) (Nested m e kids next) []
 open_nested w m e kids next p true is c a b =
@@ -101,6 +104,7 @@ open_rebuilt : (w : Why) (x : Forest) → IsProper (Some w) x → is_closed x �
 open_rebuilt w (End m o) p c = absurd cc
 open_rebuilt w (Cut v) p c = record { list = cut_is w (Cut v) tt p; lists = refl }
 open_rebuilt w (Single m (Chars o text) next) p c = single_rebuilt w (flatten next) m o text next [] p.0 p.1 p.2 (open_rebuilt w next p.3 c)
+open_rebuilt w (Single m (CData o text) next) p c = leaf_rebuilt w (flatten next) m (CData o text) next [] p.0 (open_rebuilt w next p.1 c)
 open_rebuilt w (Single m (Comment o text) next) p c = leaf_rebuilt w (flatten next) m (Comment o text) next [] p.0 (open_rebuilt w next p.1 c)
 open_rebuilt w (Single m (Pi o target text) next) p c = leaf_rebuilt w (flatten next) m (Pi o target text) next [] p.0 (open_rebuilt w next p.1 c)
 open_rebuilt w (Nested m e kids next) p c = open_nested w m e kids next p (is_closed kids) refl c (open_rebuilt w kids p.1) (open_rebuilt w next p.2)

@@ -13,12 +13,12 @@ use Rattle.xml_events.specs.declared.front.Front.{Front}
 use Rattle.xml_events.specs.declared.front.Run.{Run}
 use Rattle.xml_events.specs.declared.front.Tag.{Tag}
 use Rattle.xml_events.specs.Answering.{lists_behind}
-use Rattle.xml_events.specs.Before.{Before, outer_names, is_inside, is_innermost, fault_of, before_next}
-use Rattle.xml_events.specs.Document.{Says, outer, finished, with_items, items_of}
+use Rattle.xml_events.specs.Before.{Before, outer_names, is_inside, is_innermost, fault_of, before_next, without_text, behind_text}
+use Rattle.xml_events.specs.Document.{Says, outer, finished, with_items, items_of, Stands, text_items}
 use Rattle.xml_events.specs.Fronts as fronts
 use Rattle.xml_events.specs.Fronts.{held_of, run_of, tag_items, run_items, width, AreWide, lists_before, held_lists, IsNested, TellsFirst}
 use Rattle.xml_events.specs.Telling.{told, followed}
-use Rattle.xml_events.specs.Tree.{Future}
+use Rattle.xml_events.specs.Tree.{Future, CData}
 
 outer-shorter : (f : Future) → 1 ≤ length f → length (outer f) + 1 ≡ length f
 outer-shorter [] h = absurd (omega arith)
@@ -35,6 +35,7 @@ told-length (event.Start o name attrs decls first ∷ es) f w s =
     (omega (arith, r.0, a, b), omega arith)
 told-length (event.End o ∷ es) f w s = let r = told-length es f w s in (omega (arith, r.0), omega arith)
 told-length (event.Chars o text ∷ es) f w s = let r = told-length es f w s in let a = outer-shorter (told es f) (omega (arith, r.0)) in (omega (arith, r.0, a), r.1)
+told-length (event.CData o text ∷ es) f w s = let r = told-length es f w s in let a = outer-shorter (told es f) (omega (arith, r.0)) in (omega (arith, r.0, a), r.1)
 told-length (event.Comment o text ∷ es) f w s = let r = told-length es f w s in let a = outer-shorter (told es f) (omega (arith, r.0)) in (omega (arith, r.0, a), r.1)
 told-length (event.Pi o target text ∷ es) f w s = let r = told-length es f w s in let a = outer-shorter (told es f) (omega (arith, r.0)) in (omega (arith, r.0, a), r.1)
 told-length (event.DocumentEnd o ∷ es) f w s = let r = told-length es f w s in (omega (arith, r.0), omega arith)
@@ -43,6 +44,7 @@ pub wide-tail : (e : Event) (es : List Event) (n : ℕ) → AreWide (e ∷ es) n
 wide-tail (event.Start o name attrs decls first) es n w = w.1
 wide-tail (event.End o) es n w = w
 wide-tail (event.Chars o text) es n w = w
+wide-tail (event.CData o text) es n w = w
 wide-tail (event.Comment o text) es n w = w
 wide-tail (event.Pi o target text) es n w = w
 wide-tail (event.DocumentEnd o) es n w = w
@@ -58,6 +60,7 @@ known-counts (event.Start o name attrs decls first) es f next t w s =
     omega (arith, a, b)
 known-counts (event.End o) es f next t w s = omega arith
 known-counts (event.Chars o text) es f next t w s = let r = told-length es f w s in let a = outer-shorter (told es f) (omega (arith, r.0)) in omega (arith, a)
+known-counts (event.CData o text) es f next t w s = let r = told-length es f w s in let a = outer-shorter (told es f) (omega (arith, r.0)) in omega (arith, a)
 known-counts (event.Comment o text) es f next t w s = let r = told-length es f w s in let a = outer-shorter (told es f) (omega (arith, r.0)) in omega (arith, a)
 known-counts (event.Pi o target text) es f next t w s = let r = told-length es f w s in let a = outer-shorter (told es f) (omega (arith, r.0)) in omega (arith, a)
 known-counts (event.DocumentEnd o) es f next t w s = absurd t
@@ -98,6 +101,11 @@ module _ (limits : Limits) (b : Before) (offset : ℕ) where
   text_before-next text true = refl
   text_before-next text false = refl
 
+  cdata_before-next : (text : List ℕ) (c : Bool) →
+      lists_before (if c then Stands (CData offset text) ∷ [] else text_items b offset text) (length (if c then without_text b else behind_text b text).names + 1) ≡ length b.names + 1
+  cdata_before-next text true = refl
+  cdata_before-next text false = text_before-next text (is_inside b.names)
+
   end_before-next : (name : List ℕ) (names : List (List ℕ)) → (if is_innermost name names then None else Some Mismatch) ≡ None → length (outer_names names) + 1 + 1 ≡ length names + 1
   end_before-next name [] s = absurd cc
   end_before-next name (n ∷ ns) s = omega arith
@@ -105,7 +113,7 @@ module _ (limits : Limits) (b : Before) (offset : ℕ) where
   -- the lists before a lexeme, by those behind it
   pub items-before : (x : Body) → fault_of limits b x ≡ None → lists_before (items_of b offset x) (length (before_next b x).names + 1) ≡ length b.names + 1
   items-before (body.Chars text blank) s = text_before-next text (is_inside b.names)
-  items-before (body.CData text) s = text_before-next text (is_inside b.names)
+  items-before (body.CData text) s = cdata_before-next text b.cdata
   items-before (body.Start name attrs true) s = omega arith
   items-before (body.Start name attrs false) s = omega arith
   items-before (body.End name) s = end_before-next name b.names s

@@ -10,17 +10,23 @@ use Rattle.xml_tokens.specs.declared.lexeme.Body.TheVariants as body
 use Rattle.xml_names.specs.Tag.{into, name_fault}
 
 -- the names of the open elements as written, the innermost first; what the open elements declare, the outermost first; whether
--- the root's start tag was read, and a document type declaration; and how many characters the text has that stands directly before
+-- the root's start tag was read, and a document type declaration; how many characters the text has that stands directly before; and
+-- whether CDATA sections are recognised: each is a node of its own then, and else text
 pub record Before : Type 0 where
   pub names : List (List ℕ)
   pub path : List (List Binding)
   pub rooted : Bool
   pub typed : Bool
   pub chars : ℕ
+  pub cdata : Bool
 
 -- before the first lexeme
+abbrev pub starting : (cdata : Bool) → Before
+starting cdata = record { names = []; path = []; rooted = false; typed = false; chars = 0; cdata = cdata }
+
+-- the same where CDATA sections aren't recognised
 abbrev pub at_start : Before
-at_start = record { names = []; path = []; rooted = false; typed = false; chars = 0 }
+at_start = starting false
 
 -- an element is open
 abbrev pub is_inside : List (List ℕ) → Bool
@@ -53,10 +59,18 @@ is_full limits b = nat_le limits.depth (length b.names)
 abbrev pub is_too_long : Limits → Before → List ℕ → Bool
 is_too_long limits b text = is_inside b.names && nat_lt limits.text (b.chars + length text)
 
+-- behind what is no text, and before a CDATA section that is a node of its own
+abbrev pub without_text : Before → Before
+without_text b = record b { chars = 0 }
+
+-- what stands before a CDATA section
+abbrev pub before_cdata : Before → Before
+before_cdata b = if b.cdata then without_text b else b
+
 -- the fault that a lexeme has at a place where it may stand
 abbrev pub unfit : Limits → Before → Body → Option XmlKind
 unfit limits b (body.Chars text blank) = if is_too_long limits b text then Some TextTooLong else None
-unfit limits b (body.CData text) = if is_too_long limits b text then Some TextTooLong else None
+unfit limits b (body.CData text) = if is_too_long limits (before_cdata b) text then Some TextTooLong else None
 unfit limits b (body.Start name attrs empty) = option_or (name_fault b.path name attrs) (if is_full limits b then Some TooDeep else None)
 unfit limits b (body.End name) = if is_innermost name b.names then None else Some Mismatch
 unfit limits b other = None
@@ -81,12 +95,12 @@ behind_text b text = if is_inside b.names then record b { chars = b.chars + leng
 -- what stands before the next lexeme
 abbrev pub before_next : Before → Body → Before
 before_next b (body.Chars text blank) = behind_text b text
-before_next b (body.CData text) = behind_text b text
+before_next b (body.CData text) = if b.cdata then without_text b else behind_text b text
 before_next b (body.Start name attrs true) = record b { rooted = true; chars = 0 }
 before_next b (body.Start name attrs false) =
     record b { names = name ∷ b.names; path = into b.path attrs; rooted = true; chars = 0 }
 before_next b (body.End name) = record b { names = outer_names b.names; path = outer_path b.path; chars = 0 }
-before_next b (body.Comment text) = record b { chars = 0 }
-before_next b (body.Pi target text) = record b { chars = 0 }
+before_next b (body.Comment text) = without_text b
+before_next b (body.Pi target text) = without_text b
 before_next b body.Doctype = record b { typed = true }
 before_next b body.Declaration = b

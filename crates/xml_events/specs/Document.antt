@@ -13,9 +13,9 @@ use Rattle.xml_tokens.specs.declared.lexeme.Step.{Step}
 use Rattle.xml_tokens.specs.declared.lexeme.Step.TheVariants as step
 use Rattle.xml_names.specs.Tag.{resolved}
 use Rattle.xml_names.specs.declared.resolved.Resolved.{Resolved}
-use Rattle.xml_events.specs.Before.{Before, at_start, is_inside, is_complete, fault_of, before_next}
+use Rattle.xml_events.specs.Before.{Before, starting, is_inside, is_complete, fault_of, before_next}
 use Rattle.xml_events.specs.Lexed.{lexed_from, unread}
-use Rattle.xml_events.specs.Tree.{Why, Need, Bad, Fresh, Told, Mark, Leaf, Chars, Comment, Pi, Element, Forest, End, Cut, Single, Nested, Future}
+use Rattle.xml_events.specs.Tree.{Why, Need, Bad, Fresh, Told, Stage, Waiting, Ready, Leaf, Chars, CData, Comment, Pi, Element, Forest, End, Cut, Single, Nested, Future, first_of}
 
 -- what a lexeme is in the tree: the start of an element, the end of a list, a text that others may go on, or another leaf
 pub data Item : Type 0 where
@@ -32,11 +32,15 @@ element_at offset tag = record { offset = offset; name = tag.name; attrs = tag.a
 abbrev pub text_items : Before → (offset : ℕ) → List ℕ → List Item
 text_items b offset text = if is_inside b.names then Says offset text ∷ [] else []
 
+-- a CDATA section: a leaf where it is recognised, and else text
+abbrev pub cdata_items : Before → (offset : ℕ) → List ℕ → List Item
+cdata_items b offset text = if b.cdata then Stands (CData offset text) ∷ [] else text_items b offset text
+
 -- What a lexeme is in the tree: an empty-element tag is a start and an end at one place, and the XML declaration and a document
 -- type declaration are nothing.
 abbrev pub items_of : Before → (offset : ℕ) → Body → List Item
 items_of b offset (body.Chars text blank) = text_items b offset text
-items_of b offset (body.CData text) = text_items b offset text
+items_of b offset (body.CData text) = cdata_items b offset text
 items_of b offset (body.Start name attrs true) = Opens (element_at offset (resolved b.path name attrs)) ∷ Closes offset ∷ []
 items_of b offset (body.Start name attrs false) = Opens (element_at offset (resolved b.path name attrs)) ∷ []
 items_of b offset (body.End name) = Closes offset ∷ []
@@ -103,7 +107,7 @@ text_before offset (c ∷ cs) list = Single Fresh (Chars offset (c ∷ cs)) list
 
 -- an item, and then a future
 abbrev pub with_item : Item → Future → Future
-with_item (Opens element) f = Nested Fresh element (inner f) (inner (outer f)) ∷ outer (outer f)
+with_item (Opens element) f = Nested Waiting element (inner f) (inner (outer f)) ∷ outer (outer f)
 with_item (Closes offset) f = End Fresh offset ∷ f
 with_item (Says offset text) f = text_before offset text (inner f) ∷ outer f
 with_item (Stands leaf) f = Single Fresh leaf (inner f) ∷ outer f
@@ -122,29 +126,34 @@ abbrev pub stripped : Forest → Forest
 stripped (End mark offset) = End mark offset
 stripped (Cut why) = Cut why
 stripped (Single mark (Chars offset text) next) = if list_all is_space text then stripped next else Single mark (Chars offset text) (stripped next)
+stripped (Single mark (CData offset text) next) = Single mark (CData offset text) (stripped next)
 stripped (Single mark (Comment offset text) next) = Single mark (Comment offset text) (stripped next)
 stripped (Single mark (Pi offset target text) next) = Single mark (Pi offset target text) (stripped next)
-stripped (Nested mark element kids next) = Nested mark element (stripped kids) (stripped next)
+stripped (Nested stage element kids next) = Nested stage element (stripped kids) (stripped next)
 
--- an element is ready unless its list is cut before anything in it is known
-abbrev pub mark_by : (kids : Forest) → Mark
-mark_by (Cut why) = Fresh
-mark_by (End mark offset) = Told
-mark_by (Single mark leaf next) = Told
-mark_by (Nested mark element kids next) = Told
+-- an element is ready, and its first child known, unless its list is cut before anything in it is known
+abbrev pub stage_by : (kids : Forest) → Stage
+stage_by (Cut why) = Waiting
+stage_by (End mark offset) = Ready (first_of (End mark offset))
+stage_by (Single mark leaf next) = Ready (first_of (Single mark leaf next))
+stage_by (Nested stage element kids next) = Ready (first_of (Nested stage element kids next))
 
 -- a list whose nodes and ends are marked as told, where they are ready
 abbrev pub readied : Forest → Forest
 readied (End mark offset) = End Told offset
 readied (Cut why) = Cut why
 readied (Single mark leaf next) = Single Told leaf (readied next)
-readied (Nested mark element kids next) = Nested (mark_by (readied kids)) element (readied kids) (readied next)
+readied (Nested stage element kids next) = Nested (stage_by (readied kids)) element (readied kids) (readied next)
 
 -- both, the first only if asked for
 abbrev pub finished : (strip : Bool) → Forest → Forest
 finished strip list = readied (if strip then stripped list else list)
 
 -- The tree of a document, of which these bytes are all, or where it isn't ended the first ones: what its document node's list holds.
--- With `strip` a text of white space alone is no node.
+-- With `strip` a text of white space alone is no node, and with `cdata` each CDATA section is a node of its own.
+abbrev pub doc_for : Limits → (strip cdata : Bool) → (bytes : List ℕ) → (ended : Bool) → Forest
+doc_for limits strip cdata bytes ended = finished strip (inner (lists_of (reading_from limits (starting cdata) (unread limits bytes ended))))
+
+-- the same where CDATA sections aren't recognised
 abbrev pub doc : Limits → (strip : Bool) → (bytes : List ℕ) → (ended : Bool) → Forest
-doc limits strip bytes ended = finished strip (inner (lists_of (reading_from limits at_start (unread limits bytes ended))))
+doc limits strip bytes ended = doc_for limits strip false bytes ended

@@ -1,7 +1,7 @@
 -- A tree as the tags, texts and other leaves that it is made of (XML 1.0, 2.1 and 3.1).
 use Rattle.std.specs.Prelude.{◌≡◌, ◌≢◌, ℕ, Bool, true, false, ◌&&◌, List, [], ◌∷◌, ◌++◌, Option, Some, None}
 use Rattle.xml_events.specs.Document.{Item, Opens, Closes, Says, Stands}
-use Rattle.xml_events.specs.Tree.{Why, Fresh, Leaf, Chars, Comment, Pi, Forest, End, Cut, Single, Nested, Future}
+use Rattle.xml_events.specs.Tree.{Why, Fresh, Waiting, Leaf, Chars, CData, Comment, Pi, Forest, End, Cut, Single, Nested, Future}
 
 -- the list ends, and each list in it
 abbrev pub is_closed : Forest → Bool
@@ -13,6 +13,7 @@ is_closed (Nested m e kids next) = is_closed kids && is_closed next
 -- a leaf as an item
 abbrev pub item_of : Leaf → Item
 item_of (Chars offset text) = Says offset text
+item_of (CData offset text) = Stands (CData offset text)
 item_of (Comment offset text) = Stands (Comment offset text)
 item_of (Pi offset target text) = Stands (Pi offset target text)
 
@@ -43,6 +44,7 @@ abbrev pub IsAfterText : Forest → Type 0
 IsAfterText (End m offset) = Unit {0}
 IsAfterText (Cut why) = ⊥
 IsAfterText (Single m (Chars offset text) next) = ⊥
+IsAfterText (Single m (CData offset text) next) = Unit {0}
 IsAfterText (Single m (Comment offset text) next) = Unit {0}
 IsAfterText (Single m (Pi offset target text) next) = Unit {0}
 IsAfterText (Nested m e kids next) = Unit {0}
@@ -59,9 +61,10 @@ abbrev pub IsProper : Option Why → Forest → Type 0
 IsProper why (End m offset) = m ≡ Fresh
 IsProper why (Cut w) = Some w ≡ why
 IsProper why (Single m (Chars offset text) next) = (m ≡ Fresh) × (text ≢ []) × IsAfterText next × IsProper why next
+IsProper why (Single m (CData offset text) next) = (m ≡ Fresh) × IsProper why next
 IsProper why (Single m (Comment offset text) next) = (m ≡ Fresh) × IsProper why next
 IsProper why (Single m (Pi offset target text) next) = (m ≡ Fresh) × IsProper why next
-IsProper why (Nested m e kids next) = (m ≡ Fresh) × IsProper why kids × IsProper why next × (is_closed kids ≡ false → IsCut next)
+IsProper why (Nested m e kids next) = (m ≡ Waiting) × IsProper why kids × IsProper why next × (is_closed kids ≡ false → IsCut next)
 
 abbrev pub is_whole : Option Why → Bool
 is_whole None = true

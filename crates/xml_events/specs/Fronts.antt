@@ -13,7 +13,7 @@ use Rattle.xml_events.specs.declared.front.Run.{Run}
 use Rattle.xml_events.specs.declared.front.Tag.{Tag}
 use Rattle.xml_events.specs.Document.{Item, Opens, Closes, Says, Stands, element_at, finished, with_items}
 use Rattle.xml_events.specs.Telling.{told}
-use Rattle.xml_events.specs.Tree.{Chars, Comment, Pi, Forest, End, Cut, Single, Nested, Future}
+use Rattle.xml_events.specs.Tree.{Chars, CData, Comment, Pi, Forest, End, Cut, Single, Nested, Future}
 
 -- What a front's fields mean.
 
@@ -36,6 +36,7 @@ abbrev pub after_events : After → Option Tag → List Event
 after_events after.Open next = []
 after_events (after.Empty offset) next = begun next child.Nothing ++ event.End offset ∷ []
 after_events (after.End offset) next = event.End offset ∷ []
+after_events (after.CData offset text) next = event.CData offset text ∷ []
 after_events (after.Comment offset text) next = event.Comment offset text ∷ []
 after_events (after.Pi offset target text) next = event.Pi offset target text ∷ []
 
@@ -77,6 +78,7 @@ abbrev pub first_in : Forest → Option First
 first_in (End mark offset) = Some child.Nothing
 first_in (Cut why) = None
 first_in (Single mark (Chars offset text) next) = None
+first_in (Single mark (CData offset text) next) = Some (child.Chars text)
 first_in (Single mark (Comment offset text) next) = Some child.Other
 first_in (Single mark (Pi offset target text) next) = Some child.Other
 first_in (Nested mark element kids next) = Some child.Other
@@ -86,6 +88,7 @@ abbrev pub first_by : Event → First
 first_by (event.Start offset name attrs decls first) = child.Other
 first_by (event.End offset) = child.Nothing
 first_by (event.Chars offset text) = child.Chars text
+first_by (event.CData offset text) = child.Chars text
 first_by (event.Comment offset text) = child.Other
 first_by (event.Pi offset target text) = child.Other
 first_by (event.DocumentEnd offset) = child.Nothing
@@ -100,6 +103,7 @@ abbrev pub TellsFirst : Event → Option First → Type 0
 TellsFirst (event.Start offset name attrs decls first) next = next ≡ Some first
 TellsFirst (event.End offset) next = Unit {0}
 TellsFirst (event.Chars offset text) next = Unit {0}
+TellsFirst (event.CData offset text) next = Unit {0}
 TellsFirst (event.Comment offset text) next = Unit {0}
 TellsFirst (event.Pi offset target text) next = Unit {0}
 TellsFirst (event.DocumentEnd offset) next = ⊥
@@ -182,9 +186,10 @@ pub record Settles (next : First) (old new : Front) : Type 0 where
   pub held : (held_of new) ≡ None
   pub run : (run_of new) ≡ None
 
--- an event of a leaf that is no text, or of an end; it tells this as a first child
+-- an event of a leaf that stands by itself, or of an end; it tells this as a first child
 abbrev pub IsPlain : Event → First → Type 0
 IsPlain (event.End offset) next = next ≡ child.Nothing
+IsPlain (event.CData offset text) next = next ≡ child.Chars text
 IsPlain (event.Comment offset text) next = next ≡ child.Other
 IsPlain (event.Pi offset target text) next = next ≡ child.Other
 IsPlain other next = ⊥
@@ -192,6 +197,7 @@ IsPlain other next = ⊥
 -- what it is in the tree
 abbrev pub plain_items : Event → List Item
 plain_items (event.End offset) = Closes offset ∷ []
+plain_items (event.CData offset text) = Stands (CData offset text) ∷ []
 plain_items (event.Comment offset text) = Stands (Comment offset text) ∷ []
 plain_items (event.Pi offset target text) = Stands (Pi offset target text) ∷ []
 plain_items other = []
@@ -199,6 +205,7 @@ plain_items other = []
 -- what follows is such a leaf or an end, and tells this as a first child
 abbrev pub Follows : After → First → Type 0
 Follows (after.End offset) next = next ≡ child.Nothing
+Follows (after.CData offset text) next = next ≡ child.Chars text
 Follows (after.Comment offset text) next = next ≡ child.Other
 Follows (after.Pi offset target text) next = next ≡ child.Other
 Follows other next = ⊥
@@ -206,6 +213,7 @@ Follows other next = ⊥
 -- what it is in the tree
 abbrev pub after_items : After → List Item
 after_items (after.End offset) = Closes offset ∷ []
+after_items (after.CData offset text) = Stands (CData offset text) ∷ []
 after_items (after.Comment offset text) = Stands (Comment offset text) ∷ []
 after_items (after.Pi offset target text) = Stands (Pi offset target text) ∷ []
 after_items other = []
@@ -216,6 +224,7 @@ width [] n = n
 width (event.Start offset name attrs decls first ∷ es) n = width es n - 1
 width (event.End offset ∷ es) n = width es n + 1
 width (event.Chars offset text ∷ es) n = width es n
+width (event.CData offset text ∷ es) n = width es n
 width (event.Comment offset text ∷ es) n = width es n
 width (event.Pi offset target text ∷ es) n = width es n
 width (event.DocumentEnd offset ∷ es) n = width es n + 1
@@ -226,6 +235,7 @@ AreWide [] n = Unit {0}
 AreWide (event.Start offset name attrs decls first ∷ es) n = (2 ≤ width es n) × AreWide es n
 AreWide (event.End offset ∷ es) n = AreWide es n
 AreWide (event.Chars offset text ∷ es) n = AreWide es n
+AreWide (event.CData offset text ∷ es) n = AreWide es n
 AreWide (event.Comment offset text ∷ es) n = AreWide es n
 AreWide (event.Pi offset target text ∷ es) n = AreWide es n
 AreWide (event.DocumentEnd offset ∷ es) n = AreWide es n

@@ -2,6 +2,7 @@ pub mod Tree
 pub mod Before
 pub mod Lexed
 pub mod Document
+pub mod Joined
 pub mod Telling
 pub mod Flatten
 pub mod Source

@@ -7,7 +7,7 @@ use Rattle.xml_tokens.specs.declared.lexeme.Ending.TheVariants as ending
 use Rattle.xml_events.specs.declared.event.Event.{Event}
 use Rattle.xml_events.specs.declared.event.Pull.{Pull}
 use Rattle.xml_events.specs.declared.event.Pull.TheVariants as pull
-use Rattle.xml_events.specs.Before.{Before, at_start}
+use Rattle.xml_events.specs.Before.{Before, starting}
 use Rattle.xml_events.specs.Document.{Item, Opens, Says, Reading, stops, reading_from, lists_of, with_items, finished}
 use Rattle.xml_events.specs.Telling.{told, followed, pulled}
 use Rattle.xml_events.specs.Tree.{Need, Bad, Future}
@@ -25,16 +25,20 @@ pub record Source : Type 0 where
   pub over : Option Ending
 
 -- a document that begins
-abbrev pub source : Limits → (strip : Bool) → Source
-source limits strip = record {
+abbrev pub source_for : Limits → (strip cdata : Bool) → Source
+source_for limits strip cdata = record {
   limits = limits;
   strip = strip;
   known = [];
   front = [];
-  before = at_start;
+  before = starting cdata;
   lexer = begun limits;
   over = None;
 }
+
+-- the same where CDATA sections aren't recognised
+abbrev pub source : Limits → (strip : Bool) → Source
+source limits strip = source_for limits strip false
 
 -- the document goes on with a piece
 abbrev pub fed_with : Source → (piece : List ℕ) → Source

@@ -1,5 +1,5 @@
 -- What a place in a document takes.
-use Rattle.std.specs.Prelude.{◌≡◌, ◌≤◌, ℕ, true, List, [], ◌∷◌, ◌++◌, ◌-◌, reverse, length, take, Option, Some, None, if◌then◌else◌}
+use Rattle.std.specs.Prelude.{◌≡◌, ◌≤◌, ℕ, Bool, true, List, [], ◌∷◌, ◌++◌, ◌-◌, reverse, length, take, Option, Some, None, if◌then◌else◌}
 use Rattle.std.specs.List.{list_all}
 use Rattle.stx_base.specs.Character.{is_name}
 use Rattle.stx_base.specs.declared.fault.XmlKind.TheVariants.{TextTooLong}
@@ -14,9 +14,9 @@ use Rattle.xml_events.specs.declared.place.Refusal.{Refusal}
 use Rattle.xml_events.specs.declared.place.Refusal.TheVariants as refusal
 use Rattle.xml_events.specs.declared.place.Word.{Word}
 use Rattle.xml_events.specs.declared.place.Word.TheVariants as word
-use Rattle.xml_events.specs.Before.{Before, at_start, before_next, fault_of, is_too_long, unfit}
+use Rattle.xml_events.specs.Before.{Before, starting, before_next, fault_of, is_too_long, unfit}
 use Rattle.xml_events.specs.Document.{Item, Opens, Closes, Says, Stands, element_at, items_of}
-use Rattle.xml_events.specs.Tree.{Comment, Pi}
+use Rattle.xml_events.specs.Tree.{CData, Comment, Pi}
 
 abbrev pub refused : NameFault → Refusal
 refused (fault.Xml kind) = refusal.Xml kind
@@ -28,7 +28,7 @@ names_of p = reverse p.names
 
 -- what stands before a lexeme
 abbrev pub before_of : Place → Before
-before_of p = record { names = names_of p; path = p.scopes; rooted = p.rooted; typed = p.typed; chars = p.chars }
+before_of p = record { names = names_of p; path = p.scopes; rooted = p.rooted; typed = p.typed; chars = p.chars; cdata = p.cdata }
 
 -- each open element has its declarations, no more are open than may be, and they have Names
 pub record IsFit (p : Place) : Type 0 where
@@ -37,9 +37,9 @@ pub record IsFit (p : Place) : Type 0 where
   pub named : list_all is_name p.names ≡ true
 
 -- a place before the first lexeme
-pub record StartsAs (limits : Limits) (p : Place) : Type 0 where
+pub record StartsAs (limits : Limits) (cdata : Bool) (p : Place) : Type 0 where
   pub limits_are : p.limits ≡ limits
-  pub before : before_of p ≡ at_start
+  pub before : before_of p ≡ starting cdata
   pub fit : IsFit p
 
 -- what a word is in the tree, at a place
@@ -48,6 +48,7 @@ items_at offset (word.Open tag) = Opens (element_at offset tag) ∷ []
 items_at offset (word.Empty tag) = Opens (element_at offset tag) ∷ Closes offset ∷ []
 items_at offset word.Close = Closes offset ∷ []
 items_at offset (word.Text text) = Says offset text ∷ []
+items_at offset (word.CData text) = Stands (CData offset text) ∷ []
 items_at offset (word.Comment text) = Stands (Comment offset text) ∷ []
 items_at offset (word.Pi target text) = Stands (Pi offset target text) ∷ []
 items_at offset word.Nothing = []

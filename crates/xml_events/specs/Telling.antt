@@ -1,5 +1,5 @@
 -- Events, as what they tell of a tree.
-use Rattle.std.specs.Prelude.{ℕ, List, [], ◌∷◌, ◌++◌, Option, Some, None}
+use Rattle.std.specs.Prelude.{◌≡◌, ℕ, List, [], ◌∷◌, ◌++◌, Option, Some, None}
 use Rattle.std.specs.Option.{option_or}
 use Rattle.stx_base.specs.declared.node.First.{First}
 use Rattle.stx_base.specs.declared.node.First.TheVariants as child
@@ -8,20 +8,13 @@ use Rattle.xml_events.specs.declared.event.Event.TheVariants as event
 use Rattle.xml_events.specs.declared.event.Pull.{Pull}
 use Rattle.xml_events.specs.declared.event.Pull.TheVariants as pull
 use Rattle.xml_events.specs.Document.{inner, outer}
-use Rattle.xml_events.specs.Tree.{Why, Need, Bad, Told, Leaf, Chars, Comment, Pi, Element, Forest, End, Cut, Single, Nested, Future}
-
--- the first child of an element, by the list of its children
-abbrev pub first_of : (kids : Forest) → First
-first_of (End mark offset) = child.Nothing
-first_of (Cut why) = child.Nothing
-first_of (Single mark (Chars offset text) next) = child.Chars text
-first_of (Single mark (Comment offset text) next) = child.Other
-first_of (Single mark (Pi offset target text) next) = child.Other
-first_of (Nested mark element kids next) = child.Other
+use Rattle.xml_events.specs.Tree.{Why, Need, Bad, Told, Ready, Leaf, Chars, CData, Comment, Pi, Element, Forest, End, Cut, Single, Nested, Future}
+pub use Rattle.xml_events.specs.Tree.{first_of}
 
 -- the event of a leaf
 abbrev pub event_of : Leaf → Event
 event_of (Chars offset text) = event.Chars offset text
+event_of (CData offset text) = event.CData offset text
 event_of (Comment offset text) = event.Comment offset text
 event_of (Pi offset target text) = event.Pi offset target text
 
@@ -29,12 +22,14 @@ event_of (Pi offset target text) = event.Pi offset target text
 abbrev pub start_of : Element → First → Event
 start_of e first = event.Start e.offset e.name e.attrs e.decls first
 
--- An event, and then a future: what the event tells stands first in the innermost list, or is its end.
+-- An event, and then a future: what the event tells stands first in the innermost list, or is its end. An element keeps what its
+-- start tells of its first child.
 abbrev pub followed : Event → Future → Future
 followed (event.Start offset name attrs decls first) f =
-    Nested Told (record { offset = offset; name = name; attrs = attrs; decls = decls }) (inner f) (inner (outer f)) ∷ outer (outer f)
+    Nested (Ready first) (record { offset = offset; name = name; attrs = attrs; decls = decls }) (inner f) (inner (outer f)) ∷ outer (outer f)
 followed (event.End offset) f = End Told offset ∷ f
 followed (event.Chars offset text) f = Single Told (Chars offset text) (inner f) ∷ outer f
+followed (event.CData offset text) f = Single Told (CData offset text) (inner f) ∷ outer f
 followed (event.Comment offset text) f = Single Told (Comment offset text) (inner f) ∷ outer f
 followed (event.Pi offset target text) f = Single Told (Pi offset target text) (inner f) ∷ outer f
 followed (event.DocumentEnd offset) f = End Told offset ∷ f
@@ -48,6 +43,19 @@ told (e ∷ es) f = followed e (told es f)
 abbrev pub no_event : Why → Pull
 no_event Need = pull.Need
 no_event (Bad fault) = pull.Bad fault
+
+-- a list has no other first node than this tells
+abbrev pub HasFirst : First → Forest → Type 0
+HasFirst first (Cut why) = Unit {0}
+HasFirst first (End mark offset) = first ≡ first_of (End mark offset)
+HasFirst first (Single mark leaf next) = first ≡ first_of (Single mark leaf next)
+HasFirst first (Nested stage element kids next) = first ≡ first_of (Nested stage element kids next)
+
+-- A future agrees with an element's start where the first node that it has for the element's list, if it has one, is the one that the
+-- start tells. It agrees with every other event.
+abbrev pub Agrees : Event → Future → Type 0
+Agrees (event.Start offset name attrs decls first) f = HasFirst first (inner f)
+Agrees other f = Unit {0}
 
 -- an element is told with its first child, or can't be told yet
 abbrev pub start_pulled : Element → (kids : Forest) → Pull

@@ -24,6 +24,11 @@ pub enum Event {
         offset: u64,
         text: Text,
     },
+    /// A CDATA section, where it is a node of its own. It may be empty.
+    CData {
+        offset: u64,
+        text: Text,
+    },
     Comment {
         offset: u64,
         text: Text,
@@ -67,7 +72,9 @@ impl Event {
                     spare.keep(text);
                 }
             }
-            Event::Chars { text, .. } | Event::Comment { text, .. } => spare.keep(text),
+            Event::Chars { text, .. }
+            | Event::CData { text, .. }
+            | Event::Comment { text, .. } => spare.keep(text),
             Event::Pi { target, text, .. } => {
                 spare.keep(target);
                 spare.keep(text);
@@ -103,6 +110,13 @@ impl Copied for Event {
             Event::Chars { offset, text } => {
                 let text = text.copy(alloc)?;
                 Ok(Event::Chars {
+                    offset: *offset,
+                    text,
+                })
+            }
+            Event::CData { offset, text } => {
+                let text = text.copy(alloc)?;
+                Ok(Event::CData {
                     offset: *offset,
                     text,
                 })

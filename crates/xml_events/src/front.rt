@@ -33,6 +33,11 @@ pub enum After {
     End {
         offset: u64,
     },
+    /// A CDATA section that is a node of its own.
+    CData {
+        offset: u64,
+        text: Text,
+    },
     Comment {
         offset: u64,
         text: Text,
@@ -64,7 +69,8 @@ pub struct Front {
 
 impl Front {
     ghost use Rattle.std.specs.Prelude.{false};
-    ghost use Rattle.xml_events.specs.Document.{Closes, Opens, Says, element_at};
+    ghost use Rattle.xml_events.specs.Document.{Closes, Opens, Says, Stands, element_at};
+    ghost use Rattle.xml_events.specs.Tree.{CData};
     ghost use Rattle.xml_events.specs.Fronts.{after_items, run_events, settled, Follows, Gives, IsDry, IsEmpty, IsSettled, Strips, TakesItems};
     ghost use Rattle.xml_events.specs.Taking.{items_at};
 
@@ -124,6 +130,10 @@ impl Front {
                 self.settled = false;
                 Some(Event::End { offset })
             }
+            After::CData { offset, text } => {
+                self.settled = false;
+                Some(Event::CData { offset, text })
+            }
             After::Comment { offset, text } => {
                 self.settled = false;
                 Some(Event::Comment { offset, text })
@@ -154,6 +164,7 @@ impl Front {
             Word::Empty(resolved) => self.open_and_close(Tag { offset, resolved }, spare),
             Word::Close => self.follow(First::Nothing, After::End { offset }, spare),
             Word::Text(text) => self.say(offset, text, spare),
+            Word::CData(text) => self.say_apart(offset, text, spare),
             Word::Comment(text) => {
                 self.follow(First::Other, After::Comment { offset, text }, spare)
             }
@@ -186,6 +197,15 @@ impl Front {
                 Ok(())
             }
         }
+    }
+
+    // A CDATA section that is a node of its own.
+    fn say_apart(&mut self, offset: u64, text: Text, spare: &mut Spare) -> Result<(), Memory>
+        requires { self.old.settled ≡ false }
+        ensures { OnOk result (TakesItems (Stands (CData offset text) ∷ []) self.old self.new) }
+    {
+        let first = spare.text(text.as_str())?;
+        self.follow(First::Chars(first), After::CData { offset, text }, spare)
     }
 
     #[inline(always)]

@@ -1,12 +1,18 @@
 //! Laws about the definitions that the reader's contract cites. They do nothing.
 ghost use Rattle.xml_events.specs.Growing.{BeginningGoesOn, DocumentsGrow, WholeNeedsNoMore};
-ghost use Rattle.xml_events.specs.Laws.{EndsThere, FirstFault, Flattened, GoesOnFed, HasDocument, IsTree, NoFault, OnlyTree};
+ghost use Rattle.xml_events.specs.Joined.{CDataIsText};
+ghost use Rattle.xml_events.specs.Laws.{EndsThere, FirstFault, Flattened, GoesOnFed, HasDocument, IsTree, NoFault, OnlyTree, ToldAgrees};
 
 /// What a reader has before it is the document's tree, however its bytes come.
 pub fn documents()
     ensures begins { HasDocument }
     ensures fed { GoesOnFed }
     ensures ended { EndsThere }
+{}
+
+/// Where CDATA sections aren't recognised they are text like other.
+pub fn joined()
+    ensures { CDataIsText }
 {}
 
 /// How far a document is read, and why it goes no further.
@@ -21,6 +27,11 @@ pub fn flattened()
     ensures lexemes { Flattened }
     // No other tree does.
     ensures only { OnlyTree }
+{}
+
+/// An element that was told keeps what its start told of its first child, and what follows agrees with that.
+pub fn agreeing()
+    ensures { ToldAgrees }
 {}
 
 /// The tree of a document's first bytes grows with them.

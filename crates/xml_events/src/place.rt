@@ -21,6 +21,8 @@ pub enum Word {
     Close,
     /// Characters inside the root.
     Text(Text),
+    /// A CDATA section that is a node of its own.
+    CData(Text),
     Comment(Text),
     Pi { target: Text, text: Text },
     /// No part of the tree.
@@ -72,14 +74,16 @@ pub struct Place {
     typed: bool,
     // So many characters has the text that stands directly before.
     chars: u64,
+    // CDATA sections are nodes of their own.
+    cdata: bool,
     ghost counted: { chars ≤ limits.text },
 }
 
 impl Place {
     ghost use Rattle.xml_events.specs.Taking.{before_of, names_of, IsClosed, IsFit, IsLeft, Refuses, StartsAs, Takes, TakesFitting, Took, text_fault, unfit_at};
 
-    pub fn new(alloc: Global, limits: Limits) -> Place
-        ensures { StartsAs limits result }
+    pub fn new(alloc: Global, limits: Limits, cdata: bool) -> Place
+        ensures { StartsAs limits cdata result }
     {
         Place {
             limits,
@@ -88,6 +92,7 @@ impl Place {
             rooted: false,
             typed: false,
             chars: 0,
+            cdata,
         }
     }
 
@@ -113,7 +118,7 @@ impl Place {
                 text,
                 blank: _blank,
             } => self.take_text(text),
-            Body::CData { text } => self.take_text(text),
+            Body::CData { text } => self.take_cdata(text),
             Body::Start { name, attrs, empty } => self.take_start(name, attrs, empty, spare),
             Body::End { name } => {
                 let taken = self.take_end(&name);
@@ -173,6 +178,24 @@ impl Place {
         }
         self.chars += count;
         Ok(Word::Text(text))
+    }
+
+    // Inside the root alone; outside of it a CDATA section is misplaced.
+    fn take_cdata(&mut self, text: Text) -> Result<Word, Refusal>
+        requires fit { IsFit self.old }
+        requires inside { spec.is_inside (names_of self.old) ≡ true }
+        ensures ok { IfOk result (TakesFitting self.old (body.CData text) self.new) }
+        ensures err { IfErr result (Refuses (unfit_at self.old (body.CData text)) self.old self.new) }
+        ensures limits { self.new.limits ≡ self.old.limits }
+    {
+        if !self.cdata {
+            return self.take_text(text);
+        }
+        if char_count(&text) as u64 > self.limits.text {
+            return Err(Refusal::Xml(XmlKind::TextTooLong));
+        }
+        self.chars = 0;
+        Ok(Word::CData(text))
     }
 
     fn take_start(

@@ -3,8 +3,8 @@ ghost use Rattle.xml_tokens.specs.Reader.{fed};
 ghost use Rattle.xml_tokens.specs.declared.lexeme.Ending.TheVariants as ending;
 ghost use Rattle.xml_events.specs.Cores.{answer_of};
 ghost use Rattle.xml_events.specs.Answering.{Counts, EndsWhole, Goes};
-ghost use Rattle.xml_events.specs.Document.{doc};
-ghost use Rattle.xml_events.specs.Source.{ended_there, fed_with, future, source, IsAnswer, Keeps, Leaves, Shrinks};
+ghost use Rattle.xml_events.specs.Document.{doc, doc_for};
+ghost use Rattle.xml_events.specs.Source.{ended_there, fed_with, future, source, source_for, IsAnswer, Keeps, Leaves, Shrinks};
 ghost use Rattle.xml_events.specs.declared.event.Pull.TheVariants as pull;
 ghost use Rattle.xml_events.specs.declared.reader.Turn.TheVariants as turn;
 
@@ -49,10 +49,18 @@ impl EventReader {
         // What is to come is the document's tree, whatever its bytes.
         ensures document { (bytes : List ℕ) (ended : Bool) → future result bytes ended ≡ doc limits strip bytes ended ∷ [] }
     {
+        EventReader::for_sheet(alloc, limits, strip, false)
+    }
+
+    /// The same; with `cdata` each CDATA section is a node of its own, and else text like other.
+    pub fn for_sheet(alloc: Global, limits: Limits, strip: bool, cdata: bool) -> EventReader
+        ensures source { result ≡ source_for limits strip cdata }
+        ensures document { (bytes : List ℕ) (ended : Bool) → future result bytes ended ≡ doc_for limits strip cdata bytes ended ∷ [] }
+    {
         EventReader {
             core: Core {
                 lexer: Lexer::new(alloc, limits),
-                place: Place::new(alloc, limits),
+                place: Place::new(alloc, limits, cdata),
                 front: Front::new(strip),
                 over: None,
             },

@@ -24,7 +24,9 @@ impl Counts {
     fn add(&mut self, event: &Event) {
         match event {
             Event::Start { .. } => self.elements = self.elements.saturating_add(1),
-            Event::Chars { .. } => self.texts = self.texts.saturating_add(1),
+            Event::Chars { .. } | Event::CData { .. } => {
+                self.texts = self.texts.saturating_add(1);
+            }
             Event::Comment { .. } | Event::Pi { .. } => {
                 self.others = self.others.saturating_add(1);
             }
@@ -44,7 +46,7 @@ pub fn report<R: Read, W: Write>(alloc: Global, input: &mut R, out: &mut W) -> i
 
 /// Counts the events of a whole document.
 fn counted<R: Read>(alloc: Global, input: &mut R) -> io::Result<Counts> {
-    let mut reader = begun(alloc, Limits::standard(), false);
+    let mut reader = begun(alloc, Limits::standard(), false, false);
     let mut spare = Spare::new(alloc);
     let mut counts = Counts {
         elements: 0,

@@ -1,7 +1,7 @@
 //! Documents read to events. A start is `PLACE<NAME ATTRIBUTES DECLARATIONS>FIRST`, where FIRST tells the first child: `-` for
 //! none, `*` for one that is no text, else the text in quotes. Where `: brief` is set, the events are only counted.
 
-ghost use Rattle.std.specs.Prelude.{◌≡◌, false};
+ghost use Rattle.std.specs.Prelude.{◌≡◌, false, IfOk};
 
 use crate::lexemes::tell_fault;
 use crate::names::tell_declaration;
@@ -50,7 +50,7 @@ impl Reads for Events {
         marked: bool,
         out: &mut String,
     ) -> Result<(), Trouble> {
-        let mut reader = begun(alloc, row.limits()?, row.is_set("strip"));
+        let mut reader = begun_for(alloc, row)?;
         let mut telling = Telling::new(alloc, row);
         tell_pieces(&mut reader, pieces, marked, &mut telling)?;
         telling.over()?;
@@ -64,7 +64,7 @@ impl Reads for Events {
         document: &[u8],
         out: &mut String,
     ) -> Result<(), Trouble> {
-        let mut reader = begun(alloc, row.limits()?, row.is_set("strip"));
+        let mut reader = begun_for(alloc, row)?;
         let mut telling = Telling::new(alloc, row);
         tell_document_again(&mut reader, document, &mut telling)?;
         out.push_str(telling.text.as_str())?;
@@ -109,10 +109,20 @@ fn tell_document_again(
 
 // The reader's contract says all of a document; these say what the rows need, which is quicker to prove from.
 
-pub fn begun(alloc: Global, limits: Limits, strip: bool) -> EventReader
+/// Where `cdata` is set, CDATA sections are nodes.
+pub fn begun(alloc: Global, limits: Limits, strip: bool, cdata: bool) -> EventReader
     ensures { result.lexer.ended ≡ false }
 {
-    EventReader::new(alloc, limits, strip)
+    EventReader::for_sheet(alloc, limits, strip, cdata)
+}
+
+fn begun_for(alloc: Global, row: &Row) -> Result<EventReader, Trouble>
+    ensures { IfOk result (λ reader. reader.lexer.ended ≡ false) }
+{
+    let limits = row.limits()?;
+    let strip = row.is_set("strip");
+    let cdata = row.is_set("cdata");
+    Ok(begun(alloc, limits, strip, cdata))
 }
 
 pub fn answer(reader: &mut EventReader, spare: &mut Spare) -> Pull
@@ -183,6 +193,7 @@ fn tell(event: &Event, out: &mut String) -> Result<(), Trouble> {
         }
         Event::End { offset } => write!(out, "{offset}</> ")?,
         Event::Chars { offset, text } => write!(out, "{offset}[{}] ", text.as_str())?,
+        Event::CData { offset, text } => write!(out, "{offset}cdata[{}] ", text.as_str())?,
         Event::Comment { offset, text } => write!(out, "{offset}comment[{}] ", text.as_str())?,
         Event::Pi {
             offset,

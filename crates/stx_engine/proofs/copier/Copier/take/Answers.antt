@@ -2,7 +2,7 @@ use Rattle.std.proofs.Common.{ap, ◌∙◌}
 use Rattle.xml_events.specs.Tree.{Chars, Comment, Element, Pi}
 use Rattle.stx_engine.specs.Meaning.{leaf_parts}
 use Rattle.stx_engine.specs.More.{end_ahead, given_by, leaf_ahead, start_ahead}
-use Rattle.stx_engine.proofs.Copying.{takes-same, told-chars, told-comment, told-document-end, told-end, told-instruction, told-start}
+use Rattle.stx_engine.proofs.Copying.{takes-same, told-cdata, told-chars, told-comment, told-document-end, told-end, told-instruction, told-start}
 use Rattle.stx_engine.proofs.copier.Copier.take.Goals as goal
 
 pub returns-in-Start-clause-takes : goal.returns-in-Start-clause-takes
@@ -17,6 +17,12 @@ returns-in-Chars-clause-takes c =
     let s = c.args.self.now in
     takes-same (leaf_ahead s (leaf_parts s.pass (Chars 0 c.in-Chars.text))) (given_by s c.args.event) c.chars-turn.new.self c.args.out.now.items c.chars-turn.new.out.items c.chars-turn.result
     (λ f. ap (λ e. given_by s e f) c.in-Chars.is ∙ told-chars s c.in-Chars._offset c.in-Chars.text f) c.chars-turn.ensures.takes
+
+pub returns-in-CData-clause-takes : goal.returns-in-CData-clause-takes
+returns-in-CData-clause-takes c =
+    let s = c.args.self.now in
+    takes-same (leaf_ahead s (leaf_parts s.pass (Chars 0 c.in-CData.text))) (given_by s c.args.event) c.chars.new.self c.args.out.now.items c.chars.new.out.items c.chars.result
+    (λ f. ap (λ e. given_by s e f) c.in-CData.is ∙ told-cdata s c.in-CData._offset c.in-CData.text f) c.chars.ensures.takes
 
 pub returns-in-Comment-clause-takes : goal.returns-in-Comment-clause-takes
 returns-in-Comment-clause-takes c =

@@ -9,4 +9,4 @@ returns-clause-ok c =
     let old = c.args.self.now in
     let pushed = c.in_ok-push.ensures.ok ∙ ap (λ n. old.names ++ n ∷ []) c.as_str.ensures.chars in
     let room = room-left old.names c.push.new.self c.args.name old.limits.depth pushed c.if-is_overfull.ensures in
-    opened old _ c.args.name c.args.attrs c.in-Ok.tag t.taken room t.value pushed t.ok refl refl refl refl c.requires c.args.empty c.if-empty.false
+    opened old _ c.args.name c.args.attrs c.in-Ok.tag t.taken room t.value pushed t.ok refl refl refl refl refl c.requires c.args.empty c.if-empty.false
