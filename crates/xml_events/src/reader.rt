@@ -1,5 +1,6 @@
 ghost use Rattle.std.specs.Prelude.{◌≡◌, ◌++◌, ◌∷◌, ◌≤◌, ℕ, Bool, List, ◌<◌, ◌^◌, [], Some, None, false, true, IfOk, MatchOption, OnOk, OnErr};
 ghost use Rattle.xml_tokens.specs.Reader.{fed};
+ghost use Rattle.xml_tokens.specs.declared.lexeme.Ending.{Ending};
 ghost use Rattle.xml_tokens.specs.declared.lexeme.Ending.TheVariants as ending;
 ghost use Rattle.xml_events.specs.Cores.{answer_of};
 ghost use Rattle.xml_events.specs.Answering.{Counts, EndsWhole, Goes};
@@ -92,7 +93,8 @@ impl EventReader {
         ensures answer { IsAnswer self.old result }
         ensures leaves { Leaves self.old result self.new }
         ensures shrinks { Shrinks self.old result self.new }
-        ensures repeats { self.old.over ≡ Some ending.Memory → result ≡ pull.Memory }
+        // What is repeated is the answer itself: want of memory comes behind no other ending.
+        ensures repeats { (over : Ending) → self.old.over ≡ Some over → result ≡ answer_of over }
         ensures goes { Goes self.old result self.new }
         ensures lists { Counts self.old result self.new }
         ensures whole { EndsWhole self.old result }
