@@ -11,6 +11,7 @@ pub mod Over
 pub mod Faults
 pub mod Joining
 pub mod Agreeing
+pub mod Places
 pub mod Flattening
 pub mod Treeing
 pub mod Unflattening

@@ -12,5 +12,6 @@ pub mod Fronts
 pub mod Cores
 pub mod Growing
 pub mod Laws
+pub mod Places
 pub mod Run
 pub mod Texts

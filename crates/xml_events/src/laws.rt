@@ -1,6 +1,7 @@
 //! Laws about the definitions that the reader's contract cites. They do nothing.
 ghost use Rattle.xml_events.specs.Growing.{BeginningGoesOn, DocumentsGrow, WholeNeedsNoMore};
 ghost use Rattle.xml_events.specs.Joined.{CDataIsText};
+ghost use Rattle.xml_events.specs.Places.{OpenAreUnended, TextsAreCounted};
 ghost use Rattle.xml_events.specs.Laws.{EndsThere, FirstFault, Flattened, GoesOnFed, HasDocument, IsTree, NoFault, OnlyTree, ToldAgrees};
 
 /// What a reader has before it is the document's tree, however its bytes come.
@@ -13,6 +14,12 @@ pub fn documents()
 /// Where CDATA sections aren't recognised they are text like other.
 pub fn joined()
     ensures { CDataIsText }
+{}
+
+/// What stands before a lexeme: the open elements, and the text that goes on.
+pub fn places()
+    ensures open { OpenAreUnended }
+    ensures texts { TextsAreCounted }
 {}
 
 /// How far a document is read, and why it goes no further.
