@@ -1,0 +1,15 @@
+pub mod Computing
+pub mod Rows
+pub mod Weighing
+pub mod Fresh
+pub mod Total
+pub mod Running
+pub mod Ending
+pub mod Passing
+pub mod Skipping
+pub mod Holding
+pub mod Locals
+pub mod Keeping
+pub mod Kept
+pub mod Copying
+pub mod Resuming

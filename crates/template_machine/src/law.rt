@@ -1,0 +1,61 @@
+//! Laws of the definitions, as contracts.
+
+ghost use Rattle.std.specs.Prelude.{◌≡◌, ◌↔◌, List};
+ghost use Rattle.stx_base.specs.Course.{Ends, Over};
+ghost use Rattle.template_machine.specs.Copies.{CopiesAll, CopiesNothing, CopiesTexts};
+ghost use Rattle.template_machine.specs.Ending.{Said, Ending};
+ghost use Rattle.template_machine.specs.Job.{Given};
+ghost use Rattle.template_machine.specs.Laws.{KeepsLocals, PassesAsBefore, SkipsSilently};
+ghost use Rattle.template_machine.specs.Meaning.{code, meaning};
+ghost use Rattle.template_machine.specs.Outcome.{AreNew, outcome};
+ghost use Rattle.template_machine.specs.Passed.{PassesThrough};
+ghost use Rattle.template_machine.specs.Resuming.{Resumes};
+ghost use Rattle.template_machine.specs.Rows.{Again, Assigned, Attributes, Buffered, EachItem, LastOfTwo, Nested, Sections, Twice};
+ghost use Rattle.xml_events.specs.Tree.{Forest};
+
+/// Each sheet has exactly one meaning on each tree, and `outcome` is it.
+pub fn one_meaning()
+    ensures some { (given : Given) → AreNew given → (tree : Forest) → (os : List Said) × (e : Ending) × Ends (code given) (meaning given tree) os e }
+    ensures one { (given : Given) (tree : Forest) (os ps : List Said) (e f : Ending) → Ends (code given) (meaning given tree) os e → Ends (code given) (meaning given tree) ps f → (os ≡ ps) × (e ≡ f) }
+    ensures function { (given : Given) → AreNew given → (tree : Forest) (os : List Said) (e : Ending) → Ends (code given) (meaning given tree) os e ↔ (outcome given tree ≡ Over os e) }
+{}
+
+/// What nodes without templates, and nodes that are passed over, say.
+pub fn without_templates()
+    // A sheet without templates puts what its root group passes through.
+    ensures passed { PassesThrough }
+    // Passing over nodes says nothing.
+    ensures skipped { SkipsSilently }
+    // Sheets of version 1.0 pass through what they passed through before there were kinds.
+    ensures before { PassesAsBefore }
+{}
+
+/// What each pass-through with a name makes of a whole document, in a sheet without templates.
+pub fn copies()
+    ensures all { CopiesAll }
+    ensures texts { CopiesTexts }
+    ensures nothing { CopiesNothing }
+{}
+
+/// A list of instructions leaves the locals that were there: what is declared in it, and in all that it calls, is gone at its end.
+pub fn locals_last()
+    ensures { KeepsLocals }
+{}
+
+/// Each thing that is done is done by going on with what waits.
+pub fn resuming()
+    ensures { (given : Given) → Resumes given }
+{}
+
+/// What small sheets make of small documents.
+pub fn worked_rows()
+    ensures last_of_two { LastOfTwo }
+    ensures sections { Sections }
+    ensures nested { Nested }
+    ensures again { Again }
+    ensures twice { Twice }
+    ensures attributes { Attributes }
+    ensures buffered { Buffered }
+    ensures assigned { Assigned }
+    ensures each_item { EachItem }
+{}

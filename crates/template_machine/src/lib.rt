@@ -1,0 +1,4 @@
+//! What a run of a sheet means.
+#![tactic(auto)]
+
+pub mod law;
