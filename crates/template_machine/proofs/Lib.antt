@@ -13,3 +13,4 @@ pub mod Keeping
 pub mod Kept
 pub mod Copying
 pub mod Resuming
+pub mod Stopping

@@ -22,3 +22,4 @@ pub mod Copies
 pub mod Laws
 pub mod Examples
 pub mod Rows
+pub mod Stopping

@@ -117,11 +117,11 @@ pub record Resumes (given : Given) : Type 0 where
       → is_free (newest st.buffers id).usage ≡ true
       → nat_lt (sources_open self.level.source) given.limits.sources ≡ true
       → let asked = asked_of given at base handed (Opened None at (sources_open self.level.source + 1)) in
-        and_then (buffer_nodes given at base handed (Some id) self (here_at spot f st)) (rest given ws (beyond spot.spent f))
+      and_then (buffer_nodes given at base handed (Some id) self (here_at spot f st)) (rest given ws (beyond spot.spent f))
       ≡ rest given (Siblings_of asked ∷ Source_of (Some id) spot ∷ ws) f (remains (all_of (forest (newest st.buffers id).parts)) (begins_reading id st))
   pub other_document :
       (at : Place) (base : ℕ) (handed : List Bound) (name : List ℕ) (self : Self) (spot : Spot) (ws : List Wait) (f : Future)
       (st : State) (list : Forest)
       → let asked = asked_of given at base handed (Opened (Some name) at (sources_open self.level.source + 1)) in
-        and_then (document_nodes given at base handed name self (here_at spot f st) (Some list)) (rest given ws (beyond spot.spent f))
+      and_then (document_nodes given at base handed name self (here_at spot f st) (Some list)) (rest given ws (beyond spot.spent f))
       ≡ rest given (Siblings_of asked ∷ Source_of None spot ∷ ws) f (remains (all_of list) st)

@@ -11,6 +11,7 @@ ghost use Rattle.template_machine.specs.Outcome.{AreNew, outcome};
 ghost use Rattle.template_machine.specs.Passed.{PassesThrough};
 ghost use Rattle.template_machine.specs.Resuming.{Resumes};
 ghost use Rattle.template_machine.specs.Rows.{Again, Assigned, Attributes, Buffered, EachItem, LastOfTwo, Nested, Sections, Twice};
+ghost use Rattle.template_machine.specs.Stopping.{Busy, Categories, Crowded, Going, Late, LeftOpen, NoDocument, OpenCopy, OtherDocument, Parted, Short, Unmatched};
 ghost use Rattle.xml_events.specs.Tree.{Forest};
 
 /// Each sheet has exactly one meaning on each tree, and `outcome` is it.
@@ -58,4 +59,20 @@ pub fn worked_rows()
     ensures buffered { Buffered }
     ensures assigned { Assigned }
     ensures each_item { EachItem }
+{}
+
+/// Small sheets that stop, and what they come to before that.
+pub fn stopping_rows()
+    ensures busy { Busy }
+    ensures open_copy { OpenCopy }
+    ensures crowded { Crowded }
+    ensures parted { Parted }
+    ensures left_open { LeftOpen }
+    ensures unmatched { Unmatched }
+    ensures late { Late }
+    ensures other_document { OtherDocument }
+    ensures no_document { NoDocument }
+    ensures short { Short }
+    ensures categories { Categories }
+    ensures going { Going }
 {}

@@ -1,0 +1,18 @@
+use Rattle.template_machine.proofs.Stopping as rows
+use Rattle.template_machine.proofs.law.stopping_rows.Goals as goal
+
+pub returns : goal.returns
+returns c = record {
+  busy = rows.busy;
+  open_copy = rows.open_copy;
+  crowded = rows.crowded;
+  parted = rows.parted;
+  left_open = rows.left_open;
+  unmatched = rows.unmatched;
+  late = rows.late;
+  other_document = rows.other_document;
+  no_document = rows.no_document;
+  short = rows.short;
+  categories = rows.categories;
+  going = rows.going;
+}
