@@ -11,7 +11,7 @@ ghost use Rattle.template_machine.specs.Outcome.{AreNew, outcome};
 ghost use Rattle.template_machine.specs.Passed.{PassesThrough};
 ghost use Rattle.template_machine.specs.Resuming.{Resumes};
 ghost use Rattle.template_machine.specs.Rows.{Again, Assigned, Attributes, Buffered, EachItem, LastOfTwo, Nested, Sections, Twice};
-ghost use Rattle.template_machine.specs.Stopping.{Busy, Categories, Crowded, Going, Late, LeftOpen, NoDocument, OpenCopy, OtherDocument, Parted, Short, Unmatched};
+ghost use Rattle.template_machine.specs.Stopping.{Broken, BrokenOther, Busy, ByKinds, Categories, Crowded, EnoughSources, Full, Going, Gone, Late, LeftOpen, NoDocument, OpenCopy, OtherDocument, Outermost, Parted, PassedOver, ReadSpent, Renewed, Short, TooManySources, Unmatched, Waits};
 ghost use Rattle.xml_events.specs.Tree.{Forest};
 
 /// Each sheet has exactly one meaning on each tree, and `outcome` is it.
@@ -61,7 +61,7 @@ pub fn worked_rows()
     ensures each_item { EachItem }
 {}
 
-/// Small sheets that stop, and what they come to before that.
+/// Small sheets that stop, or try where they would, and what they come to.
 pub fn stopping_rows()
     ensures busy { Busy }
     ensures open_copy { OpenCopy }
@@ -75,4 +75,16 @@ pub fn stopping_rows()
     ensures short { Short }
     ensures categories { Categories }
     ensures going { Going }
+    ensures outermost { Outermost }
+    ensures by_kinds { ByKinds }
+    ensures gone { Gone }
+    ensures renewed { Renewed }
+    ensures read_spent { ReadSpent }
+    ensures full { Full }
+    ensures too_many_sources { TooManySources }
+    ensures enough_sources { EnoughSources }
+    ensures passed_over { PassedOver }
+    ensures waits { Waits }
+    ensures broken { Broken }
+    ensures broken_other { BrokenOther }
 {}

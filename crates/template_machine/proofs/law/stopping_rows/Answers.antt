@@ -15,4 +15,16 @@ returns c = record {
   short = rows.short;
   categories = rows.categories;
   going = rows.going;
+  outermost = rows.outermost;
+  by_kinds = rows.by_kinds;
+  gone = rows.gone;
+  renewed = rows.renewed;
+  read_spent = rows.read_spent;
+  full = rows.full;
+  too_many_sources = rows.too_many_sources;
+  enough_sources = rows.enough_sources;
+  passed_over = rows.passed_over;
+  waits = rows.waits;
+  broken = rows.broken;
+  broken_other = rows.broken_other;
 }
