@@ -1,4 +1,4 @@
--- Which template is chosen for a node. (To be taken from group_scope.)
+-- Which template is chosen for a node.
 use Rattle.match_patterns.specs.Priority.{default_priority}
 use Rattle.sheet_model.specs.Groups.{around, parent_of}
 use Rattle.std.specs.Prelude.{ℕ, ◌+◌, ◌==◌, ℤ, int_lt, nat_lt, Bool, true, false, ◌&&◌, ◌||◌, if◌then◌else◌, List, [], ◌∷◌, ◌++◌, Option, Some, None}
