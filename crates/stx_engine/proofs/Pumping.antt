@@ -2,6 +2,7 @@
 use Rattle.std.proofs.Common.{◌≡◌, ℕ, suc, ◌+◌, Bool, true, false, List, [], ◌++◌, Option, Some, None, Ok, Err, length, refl, sym, ap, ◌∙◌, subst, append_assoc, append-nil, length-append, arith}
 use Rattle.std.specs.Prelude.{codes}
 use Rattle.stx_base.specs.Course.{Begins}
+use Rattle.stx_base.specs.Spare.{Kept}
 use Rattle.stx_base.specs.declared.fault.XmlFault.{XmlFault}
 use Rattle.result_writer.specs.declared.fault.ResultFault.{ResultFault}
 use Rattle.result_writer.specs.declared.fault.WriteStop.TheVariants.{Fault, Memory}
@@ -35,6 +36,10 @@ use Rattle.stx_engine.proofs.Waiting.{end-alone, waits-so}
 abbrev pub with : Engine → Source → Copying → Engine
 with e s c = record e { reader = s; copier = c }
 
+-- and where this is kept for later texts
+abbrev pub keeping : Kept → Engine → Engine
+keeping kept e = record e { spare = kept }
+
 -- how many lists are open behind an event that didn't end the document
 lists-go : (e : Event) (lists elements behind : ℕ) → Opened e elements behind → lists ≡ suc elements → ((offset : ℕ) → e ≡ event.DocumentEnd offset → lists ≡ 1) → lists_behind e lists ≡ suc behind
 lists-go (event.Start offset name attrs decls first) lists elements behind o l d = omega (arith, o, l)
@@ -62,8 +67,8 @@ module _ (e : Engine) (going : IsGoing e) (s : Source) (x : Event) (answer : IsA
   end-is-alone : (offset : ℕ) → x ≡ event.DocumentEnd offset → length (future e.reader [] false) ≡ 1
   end-is-alone offset h = end-alone (future e.reader [] false) offset (answer [] false ∙ ap (λ y. pull.Event y) h)
 
-  pub goes-on : Goes e.reader (pull.Event x) s → Counts e.reader (pull.Event x) s → Takes (given_by e.copier x) c before now (Ok More) → Opened x (length e.copier.around) (length c.around) → Reads (more e) (with e s c) before now None
-  goes-on goes counts takes opened = (
+  pub goes-on : (kept : Kept) → Goes e.reader (pull.Event x) s → Counts e.reader (pull.Event x) s → Takes (given_by e.copier x) c before now (Ok More) → Opened x (length e.copier.around) (length c.around) → Reads (more e) (keeping kept (with e s c)) before now None
+  goes-on kept goes counts takes opened = (
     takes.0,
     takes.1,
     (
@@ -92,8 +97,8 @@ module _ (e : Engine) (going : IsGoing e) (s : Source) (now : List ℕ) where
   ahead-nothing g = refl
 
   -- more of the document is wanted
-  pub wants-so : IsAnswer e.reader pull.Need → Leaves e.reader pull.Need s → Goes e.reader pull.Need s → Reads (more e) (with e s e.copier) now now (Some reading.Wants)
-  wants-so answer leaves goes = (
+  pub wants-so : (kept : Kept) → IsAnswer e.reader pull.Need → Leaves e.reader pull.Need s → Goes e.reader pull.Need s → Reads (more e) (keeping kept (with e s e.copier)) now now (Some reading.Wants)
+  wants-so kept answer leaves goes = (
     [],
     sym (append-nil now),
     (

@@ -10,7 +10,7 @@ use Rattle.stx_engine.proofs.engine.Engine.advance.Goals as goal
 
 pub returns-in-Ok-More-clause-reads : goal.returns-in-Ok-More-clause-reads
 returns-in-Ok-More-clause-reads c =
-    goes-on c.args.self.now c.requires c.next.new.self c.in-Event.event c.in-Event.ensures.answer c.in-Event.ensures.leaves c.take.new.self c.args.out.now.items c.take.new.out.items c.in-Event.ensures.goes c.in-Event.ensures.lists
+    goes-on c.args.self.now c.requires c.next.new.self c.in-Event.event c.in-Event.ensures.answer c.in-Event.ensures.leaves c.take.new.self c.args.out.now.items c.take.new.out.items c.take.new.spare c.in-Event.ensures.goes c.in-Event.ensures.lists
     (subst (λ r. Takes (given_by c.args.self.now.copier c.in-Event.event) c.take.new.self c.args.out.now.items c.take.new.out.items (Ok r)) c.in-Ok-More.field-0-is c.in-Ok-More.ensures.takes)
     (c.in-Ok-More.ensures.opens (ap Ok c.in-Ok-More.field-0-is))
 
@@ -31,7 +31,7 @@ returns-in-Err-Memory-clause-reads c =
 
 pub returns-in-Need-clause-reads : goal.returns-in-Need-clause-reads
 returns-in-Need-clause-reads c =
-    wants-so c.args.self.now c.requires c.next.new.self c.args.out.now.items c.in-Need.ensures.answer c.in-Need.ensures.leaves c.in-Need.ensures.goes
+    wants-so c.args.self.now c.requires c.next.new.self c.args.out.now.items c.next.new.spare c.in-Need.ensures.answer c.in-Need.ensures.leaves c.in-Need.ensures.goes
 
 pub returns-in-Bad-clause-reads : goal.returns-in-Bad-clause-reads
 returns-in-Bad-clause-reads c =
