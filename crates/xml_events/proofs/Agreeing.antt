@@ -1,13 +1,11 @@
 -- What comes behind an event agrees with it.
-use Rattle.std.proofs.Common.{◌≡◌, ℕ, List, [], ◌∷◌}
+use Rattle.std.proofs.Common.{◌≡◌}
 use Rattle.stx_base.specs.declared.node.First.{First}
-use Rattle.stx_base.specs.declared.node.First.TheVariants as child
-use Rattle.xml_events.specs.declared.event.Event.{Event}
 use Rattle.xml_events.specs.declared.event.Event.TheVariants as event
 use Rattle.xml_events.specs.declared.event.Pull.TheVariants as pull
 use Rattle.xml_events.specs.Document.{inner}
 use Rattle.xml_events.specs.Laws.{ToldAgrees}
-use Rattle.xml_events.specs.Telling.{Agrees, HasFirst, followed, pulled, start_pulled, start_of, first_of}
+use Rattle.xml_events.specs.Telling.{HasFirst, start_pulled, start_of}
 use Rattle.xml_events.specs.Tree.{Element, Forest, End, Cut, Single, Nested}
 
 has_first : (e : Element) (first : First) (kids : Forest) → start_pulled e kids ≡ pull.Event (start_of e first) → HasFirst first kids

@@ -13,7 +13,7 @@ use Rattle.xml_tokens.specs.declared.lexeme.Step.TheVariants as step
 use Rattle.xml_events.specs.Before.{Before, starting, outer_names, fault_of, before_next, is_complete, is_inside, is_innermost, without_text, behind_text}
 use Rattle.xml_events.specs.Document.{Reading, Says, stops, completes, cuts, at_end, judged, reading, reading_from, lists_of, with_items, inner, outer, finished, items_of, doc_for, Stands, text_items}
 use Rattle.xml_events.specs.Lexed.{lexed_from, unread}
-use Rattle.xml_events.specs.Source.{Source, source, future, source_for}
+use Rattle.xml_events.specs.Source.{Source, future, source_for}
 use Rattle.xml_events.specs.Tree.{Why, Bad, Cut, Future, CData}
 use Rattle.xml_events.proofs.Reading.{judged-lists}
 

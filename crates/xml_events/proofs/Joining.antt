@@ -1,5 +1,5 @@
 -- Where CDATA sections aren't recognised they are text like other.
-use Rattle.std.proofs.Common.{◌≡◌, ℕ, ◌+◌, Bool, true, false, List, [], ◌∷◌, ◌++◌, length, Option, Some, None, refl, ap, sym, ◌∙◌}
+use Rattle.std.proofs.Common.{◌≡◌, ℕ, ◌+◌, Bool, true, false, List, [], ◌∷◌, ◌++◌, length, Option, Some, None, refl, ap, ◌∙◌}
 use Rattle.std.specs.Prelude.{if◌then◌else◌}
 use Rattle.stx_base.specs.declared.fault.XmlKind.{XmlKind}
 use Rattle.stx_base.specs.declared.fault.XmlKind.TheVariants.{Misplaced, TextTooLong}
@@ -10,7 +10,7 @@ use Rattle.xml_tokens.specs.declared.lexeme.Body.TheVariants as body
 use Rattle.xml_tokens.specs.declared.lexeme.Lexeme.{Lexeme}
 use Rattle.xml_tokens.specs.declared.lexeme.Step.{Step}
 use Rattle.xml_events.specs.Before.{Before, at_start, is_inside, is_misplaced, is_too_long, without_text, behind_text, unfit, fault_of, before_next}
-use Rattle.xml_events.specs.Document.{Item, Stands, Reading, text_items, items_of, judged, reading, lists_of, inner, finished}
+use Rattle.xml_events.specs.Document.{Stands, Reading, text_items, items_of, judged, reading, lists_of, inner, finished}
 use Rattle.xml_events.specs.Joined.{joined_unfit, joined_fault_of, joined_next, joined_items, joined_judged, joined_reading, CDataIsText}
 use Rattle.xml_events.specs.Lexed.{lexed, unread}
 use Rattle.xml_events.specs.Tree.{CData}

@@ -26,7 +26,7 @@ use Rattle.xml_events.specs.Document.{Says, Reading, items_of, stops, completes,
 use Rattle.xml_events.specs.Lexed.{Lexed, answered, lexed_within, lexed_from, lexed, unread}
 use Rattle.xml_events.specs.Run.{AreCalled}
 use Rattle.xml_events.specs.Telling.{told, followed, pulled, start_pulled, start_of, first_of, events_in}
-use Rattle.xml_events.specs.Tree.{Need, Bad, Told, Mark, Chars, CData, Comment, Pi, Element, Forest, End, Cut, Single, Nested, Future, Stage, Ready}
+use Rattle.xml_events.specs.Tree.{Need, Bad, Chars, CData, Comment, Pi, Element, Forest, End, Cut, Single, Nested, Future, Stage, Ready}
 use Rattle.xml_events.proofs.Counting.{Open, reading-open, has-document}
 use Rattle.xml_events.proofs.Reading.{judged-lists}
 

@@ -3,7 +3,7 @@ use Rattle.std.specs.Prelude.{◌≡◌, ℕ, zero, suc, ◌+◌, Bool, true, fa
 use Rattle.xml_tokens.specs.declared.lexeme.Body.{Body}
 use Rattle.xml_tokens.specs.declared.lexeme.Body.TheVariants as body
 use Rattle.xml_tokens.specs.declared.lexeme.Lexeme.{Lexeme}
-use Rattle.xml_events.specs.Before.{Before, starting, is_inside}
+use Rattle.xml_events.specs.Before.{starting, is_inside}
 use Rattle.xml_events.specs.Laws.{behind}
 
 -- lexemes have the end tag of an element, of which so many others are open inside it
