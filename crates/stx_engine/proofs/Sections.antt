@@ -41,17 +41,17 @@ high_first (b ∷ bs) more ws w n h l = ap (λ t. t && begins (bs ++ more) ws) (
 begins_encoded : (word text more : List ℕ) → list_all (λ w. not (is_high w)) word ≡ true → begins (encode_utf8_all text ++ more) word ≡ begins (text ++ more) word
 begins_encoded [] text more h = refl
 begins_encoded (w ∷ ws) [] more h = refl
-begins_encoded (w ∷ ws) (c ∷ cs) more h = 
+begins_encoded (w ∷ ws) (c ∷ cs) more h =
     let both = and_parts (not (is_high w)) (list_all (λ w. not (is_high w)) ws) h in
     let low : w < 128 = lower w (negated (is_high w) both.0) in
     ⊎_elim
     (λ (small : c < 128).
-      ap (λ l. begins ((l ++ encode_utf8_all cs) ++ more) (w ∷ ws)) (encode_ascii c small)
-      ∙ ap (λ t. (c == w) && t) (begins_encoded ws cs more both.1))
+    ap (λ l. begins ((l ++ encode_utf8_all cs) ++ more) (w ∷ ws)) (encode_ascii c small)
+    ∙ ap (λ t. (c == w) && t) (begins_encoded ws cs more both.1))
     (λ (high : 128 ≤ c).
-      ap (λ l. begins l (w ∷ ws)) (append_assoc (encode c) (encode_utf8_all cs) more)
-      ∙ high_first (encode c) (encode_utf8_all cs ++ more) ws w (encode_some c) (encode_high c high) low
-      ∙ sym (ap (λ t. t && begins (cs ++ more) ws) (high_not c w (high_from c high) low)))
+    ap (λ l. begins l (w ∷ ws)) (append_assoc (encode c) (encode_utf8_all cs) more)
+    ∙ high_first (encode c) (encode_utf8_all cs ++ more) ws w (encode_some c) (encode_high c high) low
+    ∙ sym (ap (λ t. t && begins (cs ++ more) ws) (high_not c w (high_from c high) low)))
     (cases_lt c 128) where
       lower : (w : ℕ) → is_high w ≡ false → w < 128
       lower w h = grind (arith, nat_tests)
@@ -81,25 +81,25 @@ not_yet c (d ∷ e ∷ es) more h = (or_none ((c == 93) && ((d == 93) && ((e == 
 
 ends_once : (text more : List ℕ) (at : ℕ) → has_cdata_end text ≡ false → first_word (codes "]]>") at (encode_utf8_all text ++ 93 ∷ 93 ∷ 62 ∷ more) ≡ Some (at + length (encode_utf8_all text))
 ends_once [] more at h = ap (λ n. Some n) (omega arith)
-ends_once (c ∷ cs) more at h = 
+ends_once (c ∷ cs) more at h =
     let tail = 93 ∷ 93 ∷ 62 ∷ more in
     let rest = encode_utf8_all cs ++ tail in
     let behind = (or_none _ (has_cdata_end cs) h).1 in
     ⊎_elim
     (λ (small : c < 128).
-      let is : encode_utf8_all (c ∷ cs) ++ tail ≡ c ∷ rest = ap (λ l. (l ++ encode_utf8_all cs) ++ tail) (encode_ascii c small) in
-      let none : begins (c ∷ rest) (codes "]]>") ≡ false =
-          sym (ap (λ l. begins l (codes "]]>")) is) ∙ begins_encoded (codes "]]>") (c ∷ cs) tail refl ∙ not_yet c cs more h in
-      let n : length (encode_utf8_all (c ∷ cs)) ≡ suc (length (encode_utf8_all cs)) = ap (λ l. length (l ++ encode_utf8_all cs)) (encode_ascii c small) in
-      ap (first_word (codes "]]>") at) is
-      ∙ ap (λ t. if t then Some at else first_word (codes "]]>") (at + 1) rest) none
-      ∙ ends_once cs more (at + 1) behind
-      ∙ ap (λ n. Some n) (omega (arith, n)))
+    let is : encode_utf8_all (c ∷ cs) ++ tail ≡ c ∷ rest = ap (λ l. (l ++ encode_utf8_all cs) ++ tail) (encode_ascii c small) in
+    let none : begins (c ∷ rest) (codes "]]>") ≡ false =
+    sym (ap (λ l. begins l (codes "]]>")) is) ∙ begins_encoded (codes "]]>") (c ∷ cs) tail refl ∙ not_yet c cs more h in
+    let n : length (encode_utf8_all (c ∷ cs)) ≡ suc (length (encode_utf8_all cs)) = ap (λ l. length (l ++ encode_utf8_all cs)) (encode_ascii c small) in
+    ap (first_word (codes "]]>") at) is
+    ∙ ap (λ t. if t then Some at else first_word (codes "]]>") (at + 1) rest) none
+    ∙ ends_once cs more (at + 1) behind
+    ∙ ap (λ n. Some n) (omega (arith, n)))
     (λ (high : 128 ≤ c).
-      ap (first_word (codes "]]>") at) (append_assoc (encode c) (encode_utf8_all cs) tail)
-      ∙ behind_high (encode c) rest at (encode_high c high)
-      ∙ ends_once cs more (at + length (encode c)) behind
-      ∙ ap (λ n. Some n) (omega (arith, length-append (encode c) (encode_utf8_all cs))))
+    ap (first_word (codes "]]>") at) (append_assoc (encode c) (encode_utf8_all cs) tail)
+    ∙ behind_high (encode c) rest at (encode_high c high)
+    ∙ ends_once cs more (at + length (encode c)) behind
+    ∙ ap (λ n. Some n) (omega (arith, length-append (encode c) (encode_utf8_all cs))))
     (cases_lt c 128)
 
 pub cdata_whole : (text more : List ℕ) → is_cdata_text text ≡ true → IsWhole false (cdata_text text) more

@@ -60,8 +60,7 @@ module _ (s : Bool) (next : First) where
     by_node false n None e = absurd cc
     by_node false n (Some r) e =
         let same = text-node s next run.offset run.text list h n in
-        let is : run ≡ r = cc in
-        (
+        let is : run ≡ r = cc in (
           ap (λ x. x ∷ map (finished s) lists) same ∙ ap (λ (x : Run). Single Told (Chars x.offset x.text) (finished s list) ∷ map (finished s) lists) is,
           ap stage_by same ∙ ap (λ (x : Run). Ready (child.Chars x.text)) is,
         )

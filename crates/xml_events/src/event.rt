@@ -72,9 +72,8 @@ impl Event {
                     spare.keep(text);
                 }
             }
-            Event::Chars { text, .. }
-            | Event::CData { text, .. }
-            | Event::Comment { text, .. } => spare.keep(text),
+            Event::Chars { text, .. } | Event::CData { text, .. } | Event::Comment { text, .. } =>
+                spare.keep(text),
             Event::Pi { target, text, .. } => {
                 spare.keep(target);
                 spare.keep(text);
