@@ -34,7 +34,7 @@ impl Tables for PathRows {
             "printed expressions" => syntax::tell_printed(alloc, row, out),
             "nodes" => nodes::tell(alloc, row, out),
             "evaluations" => evaluation::tell(alloc, row, out),
-            "string values" => evaluation::tell_atoms(alloc, row, out),
+            "string values" => evaluation::tell_texts(alloc, row, out),
             _ => Err(Trouble::Row("a table that isn't there")),
         }
     }

@@ -3,7 +3,8 @@
 use crate::items::{atoms_of, items_of, tell_atom, tell_atoms, tell_items, tell_stop};
 use rows::{Row, Trouble};
 use std::alloc::Global;
-use stx_base::{Cmp, Copied, Fun, List, Op};
+use stx_base::{Cmp, Copied, Fun, List, Op, Text};
+use stxpath_syntax::{Dialect, Expr, read_expr};
 use stxpath_values::{Atom, EvalStop, arith, call, compare, takes, to_text, to_whole, truth};
 
 fn tell_one(value: Result<Atom, EvalStop>, out: &mut String) -> Result<(), Trouble> {
@@ -104,51 +105,31 @@ fn add_sign(sign: &str, answer: &str, out: &mut String) -> Result<(), Trouble> {
     Ok(())
 }
 
-/// The functions that see no node.
-const FUNCTIONS: [Fun; 22] = [
-    Fun::Str,
-    Fun::Integer,
-    Fun::True,
-    Fun::False,
-    Fun::Concat,
-    Fun::StringJoin,
-    Fun::StringLength,
-    Fun::Substring,
-    Fun::SubstringBefore,
-    Fun::SubstringAfter,
-    Fun::Contains,
-    Fun::StartsWith,
-    Fun::EndsWith,
-    Fun::NormalizeSpace,
-    Fun::Translate,
-    Fun::Count,
-    Fun::Empty,
-    Fun::Exists,
-    Fun::Sum,
-    Fun::ItemAt,
-    Fun::IndexOf,
-    Fun::Subsequence,
-];
-
-fn function_of(alloc: Global, written: &str) -> Result<Fun, Trouble> {
-    for fun in FUNCTIONS {
-        if format!(in alloc; "{fun:?}")?.as_str() == written {
-            return Ok(fun);
-        }
+/// The function of a name, which is read in a call with so many arguments.
+fn function_of(alloc: Global, name: &str, count: usize) -> Result<Fun, Trouble> {
+    let mut text = String::from_str(alloc, name)?;
+    text.push('(')?;
+    for place in 0..count {
+        text.push_str(if place == 0 { "1" } else { ", 1" })?;
     }
-    Err(Trouble::Row("no function"))
+    text.push(')')?;
+    let text = Text::from_string(text);
+    match read_expr(alloc, &text, &List::new(alloc), Dialect::One) {
+        Ok(Expr::Call(fun, _)) => Ok(fun),
+        _ => Err(Trouble::Row("no function of so many arguments")),
+    }
 }
 
 /// A function's name and its arguments, parted by ` | `.
 pub fn tell_call(alloc: Global, row: &Row, out: &mut String) -> Result<(), Trouble> {
     let mut args = List::new(alloc);
     let (name, others) = row.given.split_once(" | ").unwrap_or((row.given, ""));
-    let fun = function_of(alloc, name)?;
     if !others.is_empty() {
         for arg in others.split(" | ") {
             args.push(atoms_of(alloc, arg)?)?;
         }
     }
+    let fun = function_of(alloc, name, args.len())?;
     if !takes(fun, args.len()) {
         return Err(Trouble::Row("another number of arguments"));
     }

@@ -96,6 +96,8 @@ fn text_part_of(alloc: Global, written: &str) -> Result<Part, Trouble> {
 struct Told {
     bytes: Vec<u8>,
     faults: String,
+    /// How many parts were answered.
+    place: u64,
 }
 
 impl Told {
@@ -103,11 +105,14 @@ impl Told {
         Told {
             bytes: Vec::new(alloc),
             faults: String::new(alloc),
+            place: 0,
         }
     }
 
-    /// Adds `FAULT at PLACE`, where the part at that place is refused.
-    fn answer(&mut self, answer: Result<(), WriteStop>, place: usize) -> Result<(), Trouble> {
+    /// Adds `FAULT at PLACE`, where the next part is refused.
+    fn answer(&mut self, answer: Result<(), WriteStop>) -> Result<(), Trouble> {
+        let place = self.place;
+        self.place = place.saturating_add(1);
         match answer {
             Ok(()) => Ok(()),
             Err(WriteStop::Fault(fault)) => {
@@ -304,37 +309,74 @@ impl Handed {
     }
 }
 
-/// The parts are put one after another. One that is refused changes nothing, so those behind it are put as if it weren't there.
-fn written(alloc: Global, row: &Row, handed: Handed) -> Result<Told, Trouble> {
-    let mut writer = begun(alloc, row)?;
-    let mut spare = Spare::new(alloc);
-    let mut told = Told::new(alloc);
-    for (place, part) in row.given.split(" | ").enumerate() {
-        if !part.is_empty() {
-            let put = put_of(alloc, part)?;
-            let answer = handed.put_any(&mut writer, put, &mut spare, &mut told.bytes)?;
-            told.answer(answer, place)?;
-        }
-    }
-    told.end(finished(&mut writer))?;
-    Ok(told)
+/// A result while parts are put.
+#[derive(Drop)]
+struct Writing {
+    writer: Writer,
+    spare: Spare,
+    told: Told,
 }
 
-fn accept(opened: &mut Opened, part: &Part) -> Result<Result<(), WriteStop>, Trouble> {
-    if !holds_cdata_text(part) {
+impl Writing {
+    fn new(alloc: Global, row: &Row) -> Result<Writing, Trouble> {
+        Ok(Writing {
+            writer: begun(alloc, row)?,
+            spare: Spare::new(alloc),
+            told: Told::new(alloc),
+        })
+    }
+
+    fn put(&mut self, handed: Handed, put: Put) -> Result<(), Trouble> {
+        let out = &mut self.told.bytes;
+        let answer = handed.put_any(&mut self.writer, put, &mut self.spare, out)?;
+        self.told.answer(answer)
+    }
+
+    /// Puts a part as it is written. Only the one of an empty row is empty.
+    fn put_written(&mut self, alloc: Global, handed: Handed, part: &str) -> Result<(), Trouble> {
+        if part.is_empty() {
+            return Ok(());
+        }
+        self.put(handed, put_of(alloc, part)?)
+    }
+
+    fn finished(self) -> Result<Told, Trouble> {
+        let Writing {
+            mut writer,
+            spare: _spare,
+            mut told,
+        } = self;
+        told.end(finished(&mut writer))?;
+        Ok(told)
+    }
+}
+
+/// The parts are put one after another. One that is refused changes nothing, so those behind it are put as if it weren't there.
+fn written(alloc: Global, row: &Row, handed: Handed) -> Result<Told, Trouble> {
+    let mut writing = Writing::new(alloc, row)?;
+    for part in row.given.split(" | ") {
+        writing.put_written(alloc, handed, part)?;
+    }
+    writing.finished()
+}
+
+fn accept(alloc: Global, opened: &mut Opened, part: &str, told: &mut Told) -> Result<(), Trouble> {
+    if part.is_empty() {
+        return Ok(());
+    }
+    let part = part_of(alloc, part)?;
+    if !holds_cdata_text(&part) {
         return Err(Trouble::Row("a text that no CDATA section has"));
     }
-    Ok(opened.accept(part))
+    told.answer(opened.accept(&part))
 }
 
 /// The same without bytes.
 fn accepted(alloc: Global, row: &Row) -> Result<Told, Trouble> {
     let mut opened = Opened::new(alloc, row.limits()?.elements);
     let mut told = Told::new(alloc);
-    for (place, part) in row.given.split(" | ").enumerate() {
-        if !part.is_empty() {
-            told.answer(accept(&mut opened, &part_of(alloc, part)?)?, place)?;
-        }
+    for part in row.given.split(" | ") {
+        accept(alloc, &mut opened, part, &mut told)?;
     }
     if !opened.closed() {
         told.fault(ResultFault::UnclosedResult)?;
@@ -342,23 +384,23 @@ fn accepted(alloc: Global, row: &Row) -> Result<Told, Trouble> {
     Ok(told)
 }
 
+/// What comes of the parts in a way to hand them over.
+fn told_by(alloc: Global, row: &Row, way: &str) -> Result<Told, Trouble> {
+    if way == "accepted" {
+        accepted(alloc, row)
+    } else {
+        written(alloc, row, handed_of(way)?)
+    }
+}
+
 /// What is written of the parts in the ways that `: handed` names, and told again where it isn't the same.
 pub fn tell(alloc: Global, row: &Row, out: &mut String) -> Result<(), Trouble> {
     let ways = row.setting("handed").unwrap_or("lent over kind accepted");
-    let mut first: Option<Told> = None;
-    for way in ways.split(' ') {
-        let told = if way == "accepted" {
-            accepted(alloc, row)?
-        } else {
-            written(alloc, row, handed_of(way)?)?
-        };
-        match &first {
-            None => {
-                out.push_str(told.text(alloc)?.as_str())?;
-                first = Some(told);
-            }
-            Some(first) => tell_other(alloc, first, &told, way, out)?,
-        }
+    let (way, others) = ways.split_once(' ').unwrap_or((ways, ""));
+    let first = told_by(alloc, row, way)?;
+    out.push_str(first.text(alloc)?.as_str())?;
+    for way in others.split_whitespace() {
+        tell_other(alloc, &first, &told_by(alloc, row, way)?, way, out)?;
     }
     Ok(())
 }
@@ -379,19 +421,14 @@ fn tell_other(
 
 /// The bytes that each part adds, with a bar behind them. They are appended to what is there.
 pub fn tell_settled(alloc: Global, row: &Row, out: &mut String) -> Result<(), Trouble> {
-    let mut writer = begun(alloc, row)?;
-    let mut spare = Spare::new(alloc);
-    let mut told = Told::new(alloc);
-    told.bytes.extend_from_slice(b"<?head?>")?;
-    for (place, part) in row.given.split(" | ").enumerate() {
-        let put = put_of(alloc, part)?;
-        let answer = Handed::Lent.put_any(&mut writer, put, &mut spare, &mut told.bytes)?;
-        told.answer(answer, place)?;
-        told.bytes.push(b'|')?;
+    let mut writing = Writing::new(alloc, row)?;
+    writing.told.bytes.extend_from_slice(b"<?head?>")?;
+    for part in row.given.split(" | ") {
+        writing.put_written(alloc, Handed::Lent, part)?;
+        writing.told.bytes.push(b'|')?;
     }
-    told.end(finished(&mut writer))?;
-    out.push_str(told.text(alloc)?.as_str())?;
-    Ok(())
+    let told = writing.finished()?;
+    Ok(out.push_str(told.text(alloc)?.as_str())?)
 }
 
 fn attributes_of(alloc: Global, written: &str) -> Result<List<Attr>, Trouble> {
@@ -417,7 +454,7 @@ fn put_at_once(
     told.end(writer.put_attributes(attrs))?;
     if told.faults.is_empty() {
         let answer = end_innermost(writer, &mut Spare::new(alloc), &mut told.bytes);
-        told.answer(answer, 0)?;
+        told.answer(answer)?;
     }
     Ok(())
 }
@@ -436,7 +473,7 @@ pub fn tell_at_once(alloc: Global, row: &Row, out: &mut String) -> Result<(), Tr
         prefix: Text::new(alloc),
     };
     let put = put_start(&mut writer, name, &List::new(alloc), &mut told.bytes);
-    told.answer(put, 0)?;
+    told.answer(put)?;
     put_at_once(
         alloc,
         &mut writer,
@@ -452,7 +489,7 @@ fn text_written(alloc: Global, text: &str) -> Result<String, Trouble> {
     let mut told = Told::new(alloc);
     let text = Text::of(alloc, text)?;
     let answer = put_chars(&mut Writer::new(alloc, 1), &text, &mut told.bytes);
-    told.answer(answer, 0)?;
+    told.answer(answer)?;
     told.text(alloc)
 }
 
