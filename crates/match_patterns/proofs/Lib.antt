@@ -2,3 +2,4 @@ mod Bools
 mod Endings
 mod Walks
 mod Fitting
+mod Lawful

@@ -2,3 +2,4 @@ pub mod Fits
 pub mod Priority
 pub mod Grouping
 pub mod Walk
+pub mod Laws

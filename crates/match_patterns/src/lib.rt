@@ -3,6 +3,7 @@
 
 mod fit;
 mod group;
+pub mod law;
 mod plain;
 mod priority;
 mod walk;
