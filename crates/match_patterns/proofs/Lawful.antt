@@ -44,11 +44,11 @@ slash_step : (g : Setting) (s : PathStep) → s.link ≡ link.Slash → steps_fi
 slash_step g s is =
     same_truth (steps_fit (s ∷ []) g None) (g.place == 1 && step_fits s g g.place)
     (λ h.
-        let o = only g s h in
-        and_both (g.place == 1) (step_fits s g g.place) (subst (λ l. may_follow l None g.place ≡ true) is o.follows) o.fits)
+    let o = only g s h in
+    and_both (g.place == 1) (step_fits s g g.place) (subst (λ l. may_follow l None g.place ≡ true) is o.follows) o.fits)
     (λ h.
-        let b = both (g.place == 1) (step_fits s g g.place) h in
-        fits_by g (s ∷ []) None (alone g s g.place b.1 (subst (λ l. may_follow l None g.place ≡ true) (sym is) b.0)))
+    let b = both (g.place == 1) (step_fits s g g.place) h in
+    fits_by g (s ∷ []) None (alone g s g.place b.1 (subst (λ l. may_follow l None g.place ≡ true) (sym is) b.0)))
 
 pub fits_by_step : FitsByStep
 fits_by_step = λ g s. (start_step g s, slash_step g s)
@@ -69,19 +69,20 @@ pub fits_by_parent : FitsByParent
 fits_by_parent = λ g front s m some is next.
     same_truth (steps_fit (front ++ s ∷ []) g None) (step_fits s g g.place && steps_fit front (at_place m g) None)
     (λ h.
-        let ends = leads_by g (front ++ s ∷ []) None h in
-        let l = slash_last g front s g.place is some ends in
-        let same : l.0 ≡ m = omega (arith, l.1.0) in
-        and_both (step_fits s g g.place) (steps_fit front (at_place m g) None) (parts g None front s g.place ends).last.fits
-        (there g front m (subst (λ k. EndsAt g front k) same l.1.1)))
+    let ends = leads_by g (front ++ s ∷ []) None h in
+    let l = slash_last g front s g.place is some ends in
+    let same : l.0 ≡ m = omega (arith, l.1.0) in
+    and_both (step_fits s g g.place) (steps_fit front (at_place m g) None) (parts g None front s g.place ends).last.fits
+    (there g front m (subst (λ k. EndsAt g front k) same l.1.1)))
     (λ h.
-        let b = both (step_fits s g g.place) (steps_fit front (at_place m g) None) h in
-        fits_by g (front ++ s ∷ []) None (slash_here g front s m g.place is b.0 next (here g front m b.1)))
+    let b = both (step_fits s g g.place) (steps_fit front (at_place m g) None) h in
+    fits_by g (front ++ s ∷ []) None (slash_here g front s m g.place is b.0 next (here g front m b.1)))
 
 pub fits_by_ancestor : FitsByAncestor
-fits_by_ancestor = λ g front s some is.
-    (λ h.
-        let ends = leads_by g (front ++ s ∷ []) None h in
-        let l = deep_last g front s g.place is some ends in
-        ((parts g None front s g.place ends).last.fits, (l.0, (l.1.0, there g front l.0 l.1.1))),
-    λ h. fits_by g (front ++ s ∷ []) None (deep_here g front s h.1.0 g.place is h.0 h.1.1.0 (here g front h.1.0 h.1.1.1)))
+fits_by_ancestor = λ g front s some is. (
+  λ h.
+      let ends = leads_by g (front ++ s ∷ []) None h in
+      let l = deep_last g front s g.place is some ends in
+      ((parts g None front s g.place ends).last.fits, (l.0, (l.1.0, there g front l.0 l.1.1))),
+  λ h. fits_by g (front ++ s ∷ []) None (deep_here g front s h.1.0 g.place is h.0 h.1.1.0 (here g front h.1.0 h.1.1.1)),
+)
