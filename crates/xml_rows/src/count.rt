@@ -59,14 +59,32 @@ fn counted<R: Read>(alloc: Global, input: &mut R) -> io::Result<Counts> {
         if len == 0 {
             break;
         }
-        if reader.feed(room.get(..len).unwrap_or(&[])).is_err() {
-            return Err(io::Error::from(ErrorKind::OutOfMemory));
-        }
-        drain(&mut reader, &mut counts, &mut spare)?;
+        take(
+            &mut reader,
+            room.get(..len).unwrap_or(&[]),
+            &mut counts,
+            &mut spare,
+        )?;
     }
     reader.finish();
     drain(&mut reader, &mut counts, &mut spare)?;
     Ok(counts)
+}
+
+/// Counts the events that are known behind a document's next bytes.
+fn take(
+    reader: &mut EventReader,
+    piece: &[u8],
+    counts: &mut Counts,
+    spare: &mut Spare,
+) -> io::Result<()>
+    requires { reader.old.lexer.ended ≡ false }
+    ensures { reader.new.lexer.ended ≡ false }
+{
+    if reader.feed(piece).is_err() {
+        return Err(io::Error::from(ErrorKind::OutOfMemory));
+    }
+    drain(reader, counts, spare)
 }
 
 /// Counts the events that are known, and lets the next ones be made of their texts.

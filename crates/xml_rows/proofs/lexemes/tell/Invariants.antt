@@ -2,4 +2,4 @@ use Rattle.std.proofs.Common.{◌≡◌, false}
 use Rattle.xml_rows.proofs.lexemes.tell.Given as goal
 
 abbrev pub invariant-loop-piece : goal.invariant-loop-piece
-invariant-loop-piece l = l.lexer.ended ≡ false
+invariant-loop-piece g l = l.lexer.ended ≡ false

@@ -1,9 +1,9 @@
 //! Trees as the rows write them. What is still to be written waits on a stack, the next on top.
 
-use rows::{Trouble, tell_name};
 use std::alloc::Global;
 use std::fmt::Write;
-use stx_base::NodeTest;
+use std::test::Fail;
+use stx_base::{Name, NodeTest};
 use stxpath_syntax::{Alternative, Avt, AvtPart, Bin, Expr, Link, PathStep, Pattern};
 
 #[derive(Clone, Copy)]
@@ -19,7 +19,7 @@ use self::Work::{Step, Test, Word};
 /// More than any row has to write.
 const MOST: u32 = 1_000_000;
 
-pub fn shown_expr(alloc: Global, expr: &Expr) -> Result<String, Trouble> {
+pub fn shown_expr(alloc: Global, expr: &Expr) -> Result<String, Fail> {
     let mut out = String::new(alloc);
     let mut work = Vec::new(alloc);
     work.push(Work::Expr(expr))?;
@@ -27,7 +27,7 @@ pub fn shown_expr(alloc: Global, expr: &Expr) -> Result<String, Trouble> {
     Ok(out)
 }
 
-pub fn shown_pattern(alloc: Global, pattern: &Pattern) -> Result<String, Trouble> {
+pub fn shown_pattern(alloc: Global, pattern: &Pattern) -> Result<String, Fail> {
     let mut out = String::new(alloc);
     let mut work = Vec::new(alloc);
     for alternative in pattern.alternatives.as_slice() {
@@ -44,7 +44,7 @@ pub fn shown_pattern(alloc: Global, pattern: &Pattern) -> Result<String, Trouble
 }
 
 /// Characters in quotes and expressions in braces.
-pub fn shown_avt(alloc: Global, avt: &Avt) -> Result<String, Trouble> {
+pub fn shown_avt(alloc: Global, avt: &Avt) -> Result<String, Fail> {
     let mut out = String::new(alloc);
     let mut work = Vec::new(alloc);
     for part in avt.parts.as_slice() {
@@ -64,7 +64,7 @@ pub fn shown_avt(alloc: Global, avt: &Avt) -> Result<String, Trouble> {
     Ok(out)
 }
 
-fn run(work: &mut Vec<Work<'_>>, out: &mut String) -> Result<(), Trouble> {
+fn run(work: &mut Vec<Work<'_>>, out: &mut String) -> Result<(), Fail> {
     for _ in 0..MOST {
         match work.pop() {
             None => return Ok(()),
@@ -78,13 +78,13 @@ fn run(work: &mut Vec<Work<'_>>, out: &mut String) -> Result<(), Trouble> {
     Ok(())
 }
 
-fn show<'a>(expr: &'a Expr, work: &mut Vec<Work<'a>>, out: &mut String) -> Result<(), Trouble> {
+fn show<'a>(expr: &'a Expr, work: &mut Vec<Work<'a>>, out: &mut String) -> Result<(), Fail> {
     match expr {
         Expr::Whole(n) => write!(out, "{n}")?,
         Expr::Literal(text) => write!(out, "'{}'", text.as_str())?,
         Expr::Var(name) => {
             out.push('$')?;
-            tell_name(name, out)?;
+            show_name(name, out)?;
         }
         Expr::Call(fun, args) => {
             write!(out, "({fun:?}")?;
@@ -121,7 +121,7 @@ fn show<'a>(expr: &'a Expr, work: &mut Vec<Work<'a>>, out: &mut String) -> Resul
     Ok(())
 }
 
-fn show_operator(bin: Bin, out: &mut String) -> Result<(), Trouble> {
+fn show_operator(bin: Bin, out: &mut String) -> Result<(), Fail> {
     match bin {
         Bin::Or => out.push_str("(Or ")?,
         Bin::And => out.push_str("(And ")?,
@@ -131,7 +131,7 @@ fn show_operator(bin: Bin, out: &mut String) -> Result<(), Trouble> {
     Ok(())
 }
 
-fn push_operands<'a>(operands: &'a [Expr], work: &mut Vec<Work<'a>>) -> Result<(), Trouble> {
+fn push_operands<'a>(operands: &'a [Expr], work: &mut Vec<Work<'a>>) -> Result<(), Fail> {
     work.push(Word(")"))?;
     for operand in operands.iter().rev() {
         work.push(Work::Expr(operand))?;
@@ -141,7 +141,7 @@ fn push_operands<'a>(operands: &'a [Expr], work: &mut Vec<Work<'a>>) -> Result<(
 }
 
 /// What stands behind the steps, and the bracket.
-fn push_ending<'a>(ending: &'a Option<NodeTest>, work: &mut Vec<Work<'a>>) -> Result<(), Trouble> {
+fn push_ending<'a>(ending: &'a Option<NodeTest>, work: &mut Vec<Work<'a>>) -> Result<(), Fail> {
     work.push(Word(")"))?;
     if let Some(test) = ending {
         work.push(Test(test))?;
@@ -150,7 +150,7 @@ fn push_ending<'a>(ending: &'a Option<NodeTest>, work: &mut Vec<Work<'a>>) -> Re
     Ok(())
 }
 
-fn push_steps<'a>(steps: &'a [PathStep], work: &mut Vec<Work<'a>>) -> Result<(), Trouble> {
+fn push_steps<'a>(steps: &'a [PathStep], work: &mut Vec<Work<'a>>) -> Result<(), Fail> {
     for step in steps.iter().rev() {
         work.push(Step(step))?;
     }
@@ -161,7 +161,7 @@ fn show_step<'a>(
     step: &'a PathStep,
     work: &mut Vec<Work<'a>>,
     out: &mut String,
-) -> Result<(), Trouble> {
+) -> Result<(), Fail> {
     out.push_str(match step.link {
         Link::Start => "",
         Link::Slash => "/",
@@ -176,10 +176,10 @@ fn show_step<'a>(
     Ok(())
 }
 
-fn show_test(test: &NodeTest, out: &mut String) -> Result<(), Trouble> {
+fn show_test(test: &NodeTest, out: &mut String) -> Result<(), Fail> {
     match test {
         NodeTest::Document => out.push_str("document")?,
-        NodeTest::Name(name) => tell_name(name, out)?,
+        NodeTest::Name(name) => show_name(name, out)?,
         NodeTest::Prefix(binding) => {
             write!(
                 out,
@@ -197,7 +197,7 @@ fn show_test(test: &NodeTest, out: &mut String) -> Result<(), Trouble> {
         NodeTest::Pi(target) => write!(out, "pi('{}')", target.as_str())?,
         NodeTest::AttrName(name) => {
             out.push('@')?;
-            tell_name(name, out)?;
+            show_name(name, out)?;
         }
         NodeTest::AttrPrefix(binding) => {
             write!(
@@ -209,5 +209,13 @@ fn show_test(test: &NodeTest, out: &mut String) -> Result<(), Trouble> {
         }
         NodeTest::AnyAttr => out.push_str("@*")?,
     }
+    Ok(())
+}
+
+fn show_name(name: &Name, out: &mut String) -> Result<(), Fail> {
+    if !name.prefix.is_empty() || !name.uri.is_empty() {
+        write!(out, "{}{{{}}}", name.prefix.as_str(), name.uri.as_str())?;
+    }
+    out.push_str(name.local.as_str())?;
     Ok(())
 }
