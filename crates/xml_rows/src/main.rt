@@ -1,8 +1,6 @@
-//! Rows of lexemes, names, events and results: what comes of each is compared with what is wanted. Without words it counts the
-//! events of the document on standard input.
+//! Rows of lexemes, names, events and results: what comes of each is compared with what is wanted.
 #![tactic(auto)]
 
-mod count;
 mod ends;
 mod events;
 mod lexemes;
@@ -13,8 +11,8 @@ mod writer;
 use reading::{tell_again, tell_cuts, tell_pieces};
 use rows::{Row, Tables, Trouble, run_rows};
 use std::alloc::Global;
+use std::io;
 use std::process::ExitCode;
-use std::{env, io};
 
 struct Xml;
 
@@ -41,9 +39,5 @@ impl Tables for Xml {
 }
 
 fn main(rt: HostRuntime) -> io::Result<ExitCode> {
-    if env::args(&rt)?.count() > 1 {
-        return run_rows(&rt, &Xml);
-    }
-    count::report(rt.alloc(), &mut rt.stdin(), &mut rt.stdout())?;
-    Ok(ExitCode::SUCCESS)
+    run_rows(&rt, &Xml)
 }
