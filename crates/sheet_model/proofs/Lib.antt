@@ -1,3 +1,3 @@
-mod Lists
-mod Nests
-mod Searches
+pub mod Lists
+pub mod Nests
+pub mod Searches
