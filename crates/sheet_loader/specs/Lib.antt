@@ -1,0 +1,13 @@
+pub mod Attributes
+pub mod Elements
+pub mod Files
+pub mod Judging
+pub mod Load
+pub mod Making
+pub mod Read
+pub mod Reading
+pub mod References
+pub mod Referring
+pub mod Tags
+pub mod Values
+pub mod Versions

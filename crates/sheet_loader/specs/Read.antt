@@ -1,0 +1,237 @@
+-- The reading of a sheet's files: their nodes in document order, up to the first fault.
+use Rattle.std.specs.Prelude.{ℕ, ◌-◌, Result, Ok, Err, Bool, true, false, ◌&&◌, not, ◌==◌, List, [], ◌∷◌, ◌++◌, map, length, slice_get, Option, Some, None, is_some, codes, bytes_eq, if◌then◌else◌}
+use Rattle.std.specs.List.{list_all, flat_map}
+use Rattle.std.specs.Option.{option_map_or}
+use Rattle.stx_base.specs.Character.{is_space}
+use Rattle.stx_base.specs.Course.{Course, Ret, Halt, Say, Ask, and_then}
+use Rattle.stx_base.specs.declared.fault.SheetCode.{SheetCode}
+use Rattle.stx_base.specs.declared.fault.SheetCode.TheVariants as code
+use Rattle.stx_base.specs.declared.name.Attr.{Attr}
+use Rattle.stx_base.specs.declared.name.Binding.{Binding}
+use Rattle.stx_base.specs.declared.name.Name.{Name}
+use Rattle.stx_base.specs.declared.part.Part.{Part}
+use Rattle.stx_base.specs.declared.part.Part.TheVariants as part
+use Rattle.stxpath_syntax.specs.declared.expr.AvtPart.{AvtPart}
+use Rattle.sheet_model.specs.Names.{template_variables}
+use Rattle.sheet_model.specs.declared.instr.Instr.TheVariants as instr
+use Rattle.sheet_model.specs.declared.instr.LiteralAttr.{LiteralAttr}
+use Rattle.sheet_model.specs.declared.pass.Pass.{Pass}
+use Rattle.sheet_model.specs.declared.pass.Pass.TheVariants as pass
+use Rattle.sheet_model.specs.declared.sheet.Sheet.{Sheet}
+use Rattle.xml_events.specs.Tree.{Forest, Leaf, Chars, CData, Comment, Pi, Element, End, Cut, Single, Nested, Why, Need, Bad}
+use Rattle.sheet_loader.specs.Elements as element
+use Rattle.sheet_loader.specs.Elements.{Kind, Inside, Document, Declarations, Start_of_body, Body, Characters, Parts, Nothing, kind_named, inside_of, allows_literals, allows_text, keeps_space}
+use Rattle.sheet_loader.specs.Judging.{is_stx, is_transform_named, locals_at, scope_at, values, fault_of}
+use Rattle.sheet_loader.specs.Making.{Values, value_at, as_name, as_expression, as_pattern, as_priority, as_word, is_yes, pass_or, visibility_of, name, select, pattern, body, params, parts, behind, locals_of, branches, item, variable}
+use Rattle.sheet_loader.specs.Reading.{File, Ending, Refused, Wants, Loading, Context, Item, Instruction, Text, Parts as parts_item, Listed, Job, Nodes, Does, place, refused, cut}
+use Rattle.sheet_loader.specs.Referring.{references, to_variables}
+use Rattle.sheet_loader.specs.Tags.{Found, path_fault}
+use Rattle.sheet_loader.specs.Values.{Reads, Value, read, A_template}
+
+abbrev pub listed : List Item → Loading → Listed
+listed items loading = record { items = items; loading = loading }
+
+abbrev pub is_choose : Kind → Bool
+is_choose element.Choose = true
+is_choose other = false
+
+-- whether a list of an element comes from its attribute
+abbrev pub has_select : Values → Bool
+has_select v = is_some (as_expression (value_at (codes "select") v))
+
+-- a group of the sheet comes to be at its start tag
+abbrev pub with_group : Context → (at : ℕ) → Values → Loading → Loading
+with_group here at v l = record l { sheet = record l.sheet { groups = l.sheet.groups ++ record {
+    parent = Some here.group; name = as_name (value_at (codes "name") v); pass = pass_or here.pass (value_at (codes "pass-through") v)
+    ; at = place here at } ∷ [] } }
+
+-- the root group, which has no name and no parent, and what the sheet says of white space and CDATA sections
+abbrev pub with_root : Context → (at : ℕ) → Values → Loading → Loading
+with_root here at v l = record l { sheet = record l.sheet {
+    groups = record { parent = None; name = None; pass = pass_or pass.None (value_at (codes "pass-through") v); at = place here at } ∷ []
+    ; strip = is_yes (value_at (codes "strip-space") v); cdata = is_yes (value_at (codes "recognize-cdata") v) } }
+
+-- what a start tag declares before what stands in its element
+abbrev pub begun : Context → (at : ℕ) → Kind → Values → Loading → Loading
+begun here at element.Group v l = with_group here at v l
+begun here at element.Transform v l = elim here.inside [ Document false ↦ with_root here at v l | _ ↦ with_group here at v l ]
+begun here at other v l = l
+
+-- what a declaration adds to the sheet once its element is read
+abbrev pub ended : Context → (at : ℕ) → Kind → Values → Listed → Loading
+ended here at element.Template v inner = record inner.loading { sheet = record inner.loading.sheet {
+    templates = inner.loading.sheet.templates ++ record {
+        group = here.group; pattern = pattern (codes "match") v; priority = as_priority (value_at (codes "priority") v)
+        ; visibility = visibility_of (as_word (value_at (codes "visibility") v)); public = is_yes (value_at (codes "public") v)
+        ; new_scope = is_yes (value_at (codes "new-scope") v); params = params inner.items; body = body inner.items; at = place here at } ∷ [] } }
+ended here at element.Procedure v inner = record inner.loading { sheet = record inner.loading.sheet {
+    procedures = inner.loading.sheet.procedures ++ record {
+        group = here.group; name = name v; params = params inner.items; body = body inner.items; at = place here at } ∷ [] } }
+ended here at element.Buffer v inner = record inner.loading { sheet = record inner.loading.sheet {
+    buffers = inner.loading.sheet.buffers ++ record {
+        group = here.group; name = name v; content = parts inner.items; at = place here at } ∷ [] } }
+ended here at element.Variable v inner = record inner.loading { sheet = record inner.loading.sheet {
+    variables = inner.loading.sheet.variables ++ variable here.group false (place here at) v ∷ [] } }
+ended here at element.Param v inner = record inner.loading { sheet = record inner.loading.sheet {
+    variables = inner.loading.sheet.variables ++ variable here.group true (place here at) v ∷ [] } }
+ended here at other v inner = inner.loading
+
+-- an element among declarations adds to the sheet, and another one to its list
+abbrev pub made : Context → (at : ℕ) → Kind → (scope : List Binding) → Values → Listed → Listed
+made here at kind scope v inner =
+    elim here.inside [
+        Declarations params ↦ listed [] (ended here at kind v inner)
+        | Document included ↦ listed [] inner.loading
+        | _ ↦ listed (item kind here.group (place here at) scope v inner.items) inner.loading ]
+
+-- the groups that stand in an element: the number of the last group is that of a group which has just come to be
+abbrev pub group_within : (around last : ℕ) → Kind → ℕ
+group_within around last element.Group = last
+group_within around last element.Transform = last
+group_within around last other = around
+
+abbrev pub pass_within : Context → Kind → Values → Pass
+pass_within here element.Group v = pass_or here.pass (value_at (codes "pass-through") v)
+pass_within here element.Transform v = pass_or here.pass (value_at (codes "pass-through") v)
+pass_within here other v = here.pass
+
+-- the item of a loop is a local of its body
+abbrev pub own_locals : Kind → Values → List Name
+own_locals element.ForEachItem v = name v ∷ []
+own_locals other v = []
+
+-- what is in force within an element, where the sheet has these groups by then
+abbrev pub within : Context → (before : List Item) → Kind → Element → Values → (groups : ℕ) → Context
+within here before kind e v groups = record here {
+    scope = scope_at here e; inside = inside_of here.inside kind (has_select v); at = e.offset
+    ; group = group_within here.group (groups - 1) kind; pass = pass_within here kind v
+    ; locals = locals_at here before ++ own_locals kind v }
+
+-- what is in force in a file that is included, of which nothing is read yet
+abbrev pub in_file : Context → (number : ℕ) → File → Context
+in_file here number file = record here {
+    file = number; limit = file.limit; reading = (number, file.name) ∷ here.reading; version = file.version; scope = []
+    ; inside = Document true; at = 0; locals = [] }
+
+module _ (reads : Reads) (files : List (Option File)) where
+  -- a file that is included is read where it stands, if it is there
+  abbrev pub file_given : Context → (at number : ℕ) → Option (Option File) → (href : List ℕ) → Loading → Does Listed
+  file_given here at number None href l = Halt (Wants (map (λ f. f.0) here.reading) href)
+  file_given here at number (Some None) href l = refused here at code.NoDocument
+  file_given here at number (Some (Some file)) href l =
+      Ask (Nodes (in_file here number file) [] file.nodes (record l { sheet = record l.sheet { files = l.sheet.files ++ file.name ∷ [] } })) Ret
+
+  abbrev pub file_of : Context → (at : ℕ) → Kind → Values → Loading → Does Listed
+  file_of here at element.Include v l =
+      let number = length l.sheet.files in let href = as_word (value_at (codes "href") v) in
+      Say href (file_given here at number (slice_get files number) href l)
+  file_of here at other v l = Ret (listed [] l)
+
+  -- a choose has a when
+  abbrev pub closed : Context → (at : ℕ) → Kind → List Binding → Values → Listed → Does Listed
+  closed here at kind scope v inner =
+      if is_choose kind && length (branches inner.items) == 0 then refused here at code.Misplaced
+      else Ret (made here at kind scope v inner)
+
+  -- an element of the language without faults: its file, if it includes one, what stands in it, and what it comes to
+  abbrev pub good : Context → (before : List Item) → Element → (kids : Forest) → Kind → Values → Loading → Does Listed
+  good here before e kids kind v l =
+      let referring = record l { references = l.references ++ references (place here e.offset) here before l.sheet kind v } in
+      and_then (file_of here e.offset kind v (begun here e.offset kind v referring)) (λ r.
+      Ask (Nodes (within here before kind e v (length r.loading.sheet.groups)) [] kids r.loading) (λ inner.
+      closed here e.offset kind (scope_at here e) v inner))
+
+  abbrev pub judged : Context → (before : List Item) → Element → (kids : Forest) → Kind → Option SheetCode → Loading → Does Listed
+  judged here before e kids kind (Some why) l = refused here e.offset why
+  judged here before e kids kind None l = good here before e kids kind (values reads here kind e) l
+
+  -- an element of the namespace of sheets
+  abbrev pub known : Context → (before : List Item) → Element → (kids : Forest) → Option Kind → Loading → Does Listed
+  known here before e kids None l = refused here e.offset code.UnknownElement
+  known here before e kids (Some kind) l = judged here before e kids kind (fault_of reads here before l.sheet e kind) l
+
+  -- the templates of a literal element's attributes
+  abbrev pub templates : Context → Element → List Found
+  templates here e = map (λ a. Some (read A_template (reads.template here.version.dialect (scope_at here e) a.value))) e.attrs
+
+  abbrev pub parts_of_template : Found → List AvtPart
+  parts_of_template (Some (Ok (A_template found))) = found
+  parts_of_template other = []
+
+  -- the attributes of a literal element with what their values are read as
+  abbrev pub literal_attrs : List Attr → List Found → List LiteralAttr
+  literal_attrs [] found = []
+  literal_attrs attrs [] = []
+  literal_attrs (a ∷ attrs) (f ∷ found) = record { name = a.name; value = record { parts = parts_of_template f } } ∷ literal_attrs attrs found
+
+  -- a literal element of a body
+  abbrev pub literal : Context → (before : List Item) → Element → (kids : Forest) → Loading → Does Listed
+  literal here before e kids l =
+      let attrs = literal_attrs e.attrs (templates here e) in
+      let names = flat_map (λ (a : LiteralAttr). template_variables a.value) attrs in
+      let locals = locals_at here before in
+      let inner = record here { scope = scope_at here e; inside = Body; at = e.offset; locals = locals } in
+      Ask (Nodes inner [] kids (record l { references = l.references ++ to_variables (place here e.offset) locals here.group names }))
+          (λ r. Ret (listed (Instruction (instr.Literal e.name attrs (body r.items) (place here e.offset)) ∷ []) r.loading))
+
+  abbrev pub attribute_part : Attr → Part
+  attribute_part a = part.Attribute a.name a.value
+
+  -- an element of a buffer's content as parts: it carries no bindings along
+  abbrev pub element_parts : Element → List Part → List Part
+  element_parts e inner =
+      part.Start e.name [] ∷ (map attribute_part e.attrs ++ inner ++ part.End e.name ∷ [])
+
+  -- an element of a buffer's content: its start, its attributes as they are written, its nodes and its end
+  abbrev pub copied : Context → Element → (kids : Forest) → Loading → Does Listed
+  copied here e kids l =
+      Ask (Nodes (record here { scope = scope_at here e; at = e.offset }) [] kids l) (λ r.
+      Ret (listed (parts_item (element_parts e (parts r.items)) ∷ []) r.loading))
+
+  abbrev pub literal_judged : Context → (before : List Item) → Element → (kids : Forest) → Inside → Loading → Does Listed
+  literal_judged here before e kids Parts l = copied here e kids l
+  literal_judged here before e kids inside l =
+      if not (allows_literals inside) then refused here e.offset code.Misplaced
+      else option_map_or (λ why. refused here e.offset why) (path_fault (templates here e)) (literal here before e kids l)
+
+  -- an element: the root of a file, one of the language, or a literal one
+  abbrev pub element_of : Context → (before : List Item) → Element → (kids : Forest) → Inside → Loading → Does Listed
+  element_of here before e kids (Document inner) l =
+      if is_transform_named e.name then known here before e kids (kind_named e.name.local) l
+      else refused here e.offset code.NotStx
+  element_of here before e kids inside l =
+      if is_stx e.name then known here before e kids (kind_named e.name.local) l
+      else literal_judged here before e kids inside l
+
+  -- an element of which neither a node nor its end is known is not judged
+  abbrev pub when_known : Context → (before : List Item) → Element → (kids : Forest) → Loading → Does Listed
+  when_known here before e (Cut why) l = cut here why
+  when_known here before e kids l = element_of here before e kids here.inside l
+
+  -- what a text comes to, by what the list may hold
+  abbrev pub text_item : Context → (offset : ℕ) → List ℕ → Inside → List Item
+  text_item here offset text (Characters kept) = Text text ∷ []
+  text_item here offset text Parts = parts_item (part.Chars text ∷ []) ∷ []
+  text_item here offset text other = Instruction (instr.LiteralChars text (place here offset)) ∷ []
+
+  abbrev pub text_of : Context → (offset : ℕ) → List ℕ → Loading → Does Listed
+  text_of here offset text l =
+      if list_all is_space text && not (keeps_space here.inside) then Ret (listed [] l)
+      else if allows_text here.inside then Ret (listed (text_item here offset text here.inside) l)
+      else refused here here.at code.Misplaced
+
+  -- the nodes of a list, with what those before them came to
+  abbrev pub nodes : Context → (before : List Item) → Forest → Loading → Does Listed
+  nodes here before (End mark offset) l = Ret (listed before l)
+  nodes here before (Cut why) l = cut here why
+  nodes here before (Single mark (Chars offset text) next) l =
+      and_then (text_of here offset text l) (λ r. Ask (Nodes here (before ++ r.items) next r.loading) Ret)
+  nodes here before (Single mark (CData offset text) next) l =
+      and_then (text_of here offset text l) (λ r. Ask (Nodes here (before ++ r.items) next r.loading) Ret)
+  nodes here before (Single mark (Comment offset text) next) l = Ask (Nodes here before next l) Ret
+  nodes here before (Single mark (Pi offset target text) next) l = Ask (Nodes here before next l) Ret
+  nodes here before (Nested mark e kids next) l =
+      and_then (when_known here before e kids l) (λ r. Ask (Nodes here (before ++ r.items) next r.loading) Ret)
+
+  abbrev pub code_of_job : Job → Does Listed
+  code_of_job (Nodes here before list l) = nodes here before list l

@@ -1,0 +1,2 @@
+//! Reads a sheet from the events of its files.
+#![tactic(auto)]
