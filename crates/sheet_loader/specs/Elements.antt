@@ -140,6 +140,16 @@ abbrev pub is_with_param : Kind → Bool
 is_with_param WithParam = true
 is_with_param other = false
 
+abbrev pub is_include : Kind → Bool
+is_include Include = true
+is_include other = false
+
+-- the elements that are groups of the sheet
+abbrev pub makes_group : Kind → Bool
+makes_group Group = true
+makes_group Transform = true
+makes_group other = false
+
 abbrev pub is_transform : Kind → Bool
 is_transform Transform = true
 is_transform other = false

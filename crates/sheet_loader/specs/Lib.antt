@@ -2,6 +2,7 @@ pub mod Attributes
 pub mod Elements
 pub mod Files
 pub mod Judging
+pub mod Laws
 pub mod Load
 pub mod Making
 pub mod Read

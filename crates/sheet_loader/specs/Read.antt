@@ -17,11 +17,16 @@ use Rattle.sheet_model.specs.declared.instr.Instr.TheVariants as instr
 use Rattle.sheet_model.specs.declared.instr.LiteralAttr.{LiteralAttr}
 use Rattle.sheet_model.specs.declared.pass.Pass.{Pass}
 use Rattle.sheet_model.specs.declared.pass.Pass.TheVariants as pass
+use Rattle.sheet_model.specs.declared.sheet.Buffer.{Buffer}
+use Rattle.sheet_model.specs.declared.sheet.Group.{Group}
+use Rattle.sheet_model.specs.declared.sheet.Procedure.{Procedure}
 use Rattle.sheet_model.specs.declared.sheet.Sheet.{Sheet}
+use Rattle.sheet_model.specs.declared.sheet.Template.{Template}
+use Rattle.sheet_model.specs.declared.sheet.Variable.{Variable}
 use Rattle.xml_events.specs.Tree.{Forest, Leaf, Chars, CData, Comment, Pi, Element, End, Cut, Single, Nested, Why, Need, Bad}
 use Rattle.sheet_loader.specs.Elements as element
-use Rattle.sheet_loader.specs.Elements.{Kind, Inside, Document, Declarations, Start_of_body, Body, Characters, Parts, Nothing, kind_named, inside_of, allows_literals, allows_text, keeps_space}
-use Rattle.sheet_loader.specs.Judging.{is_stx, is_transform_named, locals_at, scope_at, values, fault_of}
+use Rattle.sheet_loader.specs.Elements.{Kind, Inside, Document, Declarations, Start_of_body, Body, Characters, Parts, Nothing, kind_named, inside_of, is_own, is_include, makes_group, allows_literals, allows_text, keeps_space}
+use Rattle.sheet_loader.specs.Judging.{is_declared_here, is_stx, is_transform_named, locals_at, scope_at, values, fault_of}
 use Rattle.sheet_loader.specs.Making.{Values, value_at, as_name, as_expression, as_pattern, as_priority, as_word, is_yes, pass_or, visibility_of, name, select, pattern, body, params, parts, behind, locals_of, branches, item, variable}
 use Rattle.sheet_loader.specs.Reading.{File, Ending, Refused, Wants, Loading, Context, Item, Instruction, Text, Parts as parts_item, Listed, Job, Nodes, Does, place, refused, cut}
 use Rattle.sheet_loader.specs.Referring.{references, to_variables}
@@ -39,61 +44,73 @@ is_choose other = false
 abbrev pub has_select : Values → Bool
 has_select v = is_some (as_expression (value_at (codes "select") v))
 
--- a group of the sheet comes to be at its start tag
-abbrev pub with_group : Context → (at : ℕ) → Values → Loading → Loading
-with_group here at v l = record l { sheet = record l.sheet { groups = l.sheet.groups ++ record {
-    parent = Some here.group; name = as_name (value_at (codes "name") v); pass = pass_or here.pass (value_at (codes "pass-through") v)
-    ; at = place here at } ∷ [] } }
+-- the root group, which has no name and no parent
+abbrev pub root_group : Context → (at : ℕ) → Values → Group
+root_group here at v = record { parent = None; name = None; pass = pass_or pass.None (value_at (codes "pass-through") v); at = place here at }
 
--- the root group, which has no name and no parent, and what the sheet says of white space and CDATA sections
+-- a group within another one; a transform that is included is one without name
+abbrev pub inner_group : Context → (at : ℕ) → Values → Group
+inner_group here at v = record {
+    parent = Some here.group; name = as_name (value_at (codes "name") v); pass = pass_or here.pass (value_at (codes "pass-through") v)
+    ; at = place here at }
+
+-- the transform of the sheet itself: its group, and what it says of white space and of CDATA sections
 abbrev pub with_root : Context → (at : ℕ) → Values → Loading → Loading
 with_root here at v l = record l { sheet = record l.sheet {
-    groups = record { parent = None; name = None; pass = pass_or pass.None (value_at (codes "pass-through") v); at = place here at } ∷ []
-    ; strip = is_yes (value_at (codes "strip-space") v); cdata = is_yes (value_at (codes "recognize-cdata") v) } }
+    groups = root_group here at v ∷ []; strip = is_yes (value_at (codes "strip-space") v); cdata = is_yes (value_at (codes "recognize-cdata") v) } }
+
+abbrev pub with_group : Context → (at : ℕ) → Values → Loading → Loading
+with_group here at v l = record l { sheet = record l.sheet { groups = l.sheet.groups ++ inner_group here at v ∷ [] } }
 
 -- what a start tag declares before what stands in its element
 abbrev pub begun : Context → (at : ℕ) → Kind → Values → Loading → Loading
-begun here at element.Group v l = with_group here at v l
-begun here at element.Transform v l = elim here.inside [ Document false ↦ with_root here at v l | _ ↦ with_group here at v l ]
-begun here at other v l = l
+begun here at kind v l =
+    if is_own here.inside then with_root here at v l
+    else if makes_group kind then with_group here at v l
+    else l
 
--- what a declaration adds to the sheet once its element is read
+-- what a declaration adds to the lists of the sheet once its element is read
+
+abbrev pub templates_made : Context → (at : ℕ) → Kind → Values → List Item → List Template
+templates_made here at element.Template v inner = record {
+    group = here.group; pattern = pattern (codes "match") v; priority = as_priority (value_at (codes "priority") v)
+    ; visibility = visibility_of (as_word (value_at (codes "visibility") v)); public = is_yes (value_at (codes "public") v)
+    ; new_scope = is_yes (value_at (codes "new-scope") v); params = params inner; body = body inner; at = place here at } ∷ []
+templates_made here at other v inner = []
+
+abbrev pub procedures_made : Context → (at : ℕ) → Kind → Values → List Item → List Procedure
+procedures_made here at element.Procedure v inner = record {
+    group = here.group; name = name v; params = params inner; body = body inner; at = place here at } ∷ []
+procedures_made here at other v inner = []
+
+abbrev pub buffers_made : Context → (at : ℕ) → Kind → Values → List Item → List Buffer
+buffers_made here at element.Buffer v inner = record { group = here.group; name = name v; content = parts inner; at = place here at } ∷ []
+buffers_made here at other v inner = []
+
+abbrev pub variables_made : Context → (at : ℕ) → Kind → Values → List Variable
+variables_made here at element.Variable v = variable here.group false (place here at) v ∷ []
+variables_made here at element.Param v = variable here.group true (place here at) v ∷ []
+variables_made here at other v = []
+
 abbrev pub ended : Context → (at : ℕ) → Kind → Values → Listed → Loading
-ended here at element.Template v inner = record inner.loading { sheet = record inner.loading.sheet {
-    templates = inner.loading.sheet.templates ++ record {
-        group = here.group; pattern = pattern (codes "match") v; priority = as_priority (value_at (codes "priority") v)
-        ; visibility = visibility_of (as_word (value_at (codes "visibility") v)); public = is_yes (value_at (codes "public") v)
-        ; new_scope = is_yes (value_at (codes "new-scope") v); params = params inner.items; body = body inner.items; at = place here at } ∷ [] } }
-ended here at element.Procedure v inner = record inner.loading { sheet = record inner.loading.sheet {
-    procedures = inner.loading.sheet.procedures ++ record {
-        group = here.group; name = name v; params = params inner.items; body = body inner.items; at = place here at } ∷ [] } }
-ended here at element.Buffer v inner = record inner.loading { sheet = record inner.loading.sheet {
-    buffers = inner.loading.sheet.buffers ++ record {
-        group = here.group; name = name v; content = parts inner.items; at = place here at } ∷ [] } }
-ended here at element.Variable v inner = record inner.loading { sheet = record inner.loading.sheet {
-    variables = inner.loading.sheet.variables ++ variable here.group false (place here at) v ∷ [] } }
-ended here at element.Param v inner = record inner.loading { sheet = record inner.loading.sheet {
-    variables = inner.loading.sheet.variables ++ variable here.group true (place here at) v ∷ [] } }
-ended here at other v inner = inner.loading
+ended here at kind v inner = record inner.loading { sheet = record inner.loading.sheet {
+    templates = inner.loading.sheet.templates ++ templates_made here at kind v inner.items
+    ; procedures = inner.loading.sheet.procedures ++ procedures_made here at kind v inner.items
+    ; buffers = inner.loading.sheet.buffers ++ buffers_made here at kind v inner.items
+    ; variables = inner.loading.sheet.variables ++ variables_made here at kind v } }
 
 -- an element among declarations adds to the sheet, and another one to its list
 abbrev pub made : Context → (at : ℕ) → Kind → (scope : List Binding) → Values → Listed → Listed
 made here at kind scope v inner =
-    elim here.inside [
-        Declarations params ↦ listed [] (ended here at kind v inner)
-        | Document included ↦ listed [] inner.loading
-        | _ ↦ listed (item kind here.group (place here at) scope v inner.items) inner.loading ]
+    if is_declared_here here.inside then listed [] (ended here at kind v inner)
+    else listed (item kind here.group (place here at) scope v inner.items) inner.loading
 
--- the groups that stand in an element: the number of the last group is that of a group which has just come to be
+-- the group of what stands in an element: the last group is that which has just come to be
 abbrev pub group_within : (around last : ℕ) → Kind → ℕ
-group_within around last element.Group = last
-group_within around last element.Transform = last
-group_within around last other = around
+group_within around last kind = if makes_group kind then last else around
 
 abbrev pub pass_within : Context → Kind → Values → Pass
-pass_within here element.Group v = pass_or here.pass (value_at (codes "pass-through") v)
-pass_within here element.Transform v = pass_or here.pass (value_at (codes "pass-through") v)
-pass_within here other v = here.pass
+pass_within here kind v = if makes_group kind then pass_or here.pass (value_at (codes "pass-through") v) else here.pass
 
 -- the item of a loop is a local of its body
 abbrev pub own_locals : Kind → Values → List Name
@@ -121,11 +138,14 @@ module _ (reads : Reads) (files : List (Option File)) where
   file_given here at number (Some (Some file)) href l =
       Ask (Nodes (in_file here number file) [] file.nodes (record l { sheet = record l.sheet { files = l.sheet.files ++ file.name ∷ [] } })) Ret
 
-  abbrev pub file_of : Context → (at : ℕ) → Kind → Values → Loading → Does Listed
-  file_of here at element.Include v l =
-      let number = length l.sheet.files in let href = as_word (value_at (codes "href") v) in
+  abbrev pub file_of : Context → (at : ℕ) → (href : List ℕ) → Loading → Does Listed
+  file_of here at href l =
+      let number = length l.sheet.files in
       Say href (file_given here at number (slice_get files number) href l)
-  file_of here at other v l = Ret (listed [] l)
+
+  -- what an element includes
+  abbrev pub included : Context → (at : ℕ) → Kind → Values → Loading → Does Listed
+  included here at kind v l = if is_include kind then file_of here at (as_word (value_at (codes "href") v)) l else Ret (listed [] l)
 
   -- a choose has a when
   abbrev pub closed : Context → (at : ℕ) → Kind → List Binding → Values → Listed → Does Listed
@@ -137,7 +157,7 @@ module _ (reads : Reads) (files : List (Option File)) where
   abbrev pub good : Context → (before : List Item) → Element → (kids : Forest) → Kind → Values → Loading → Does Listed
   good here before e kids kind v l =
       let referring = record l { references = l.references ++ references (place here e.offset) here before l.sheet kind v } in
-      and_then (file_of here e.offset kind v (begun here e.offset kind v referring)) (λ r.
+      and_then (included here e.offset kind v (begun here e.offset kind v referring)) (λ r.
       Ask (Nodes (within here before kind e v (length r.loading.sheet.groups)) [] kids r.loading) (λ inner.
       closed here e.offset kind (scope_at here e) v inner))
 

@@ -1,2 +1,4 @@
-//! Reads a sheet from the events of its files.
+//! What the files of a sheet come to: the sheet, or its first fault.
 #![tactic(auto)]
+
+pub mod law;
