@@ -4,7 +4,7 @@ use Rattle.std.specs.Option.{option_map_or}
 use Rattle.std.proofs.lemmas.List.{length-append}
 use Rattle.std.specs.List.{list_all}
 use Rattle.stx_base.specs.Character.{is_space}
-use Rattle.stx_base.specs.Course.{Course, Ret, Halt, Say, Ask, and_then, Answer, Given, Over, Unknown, Gives, Ends, value, run}
+use Rattle.stx_base.specs.Course.{Ret, Ask, Answer, Given, Over, Unknown}
 use Rattle.stx_base.specs.Termination.{Safe}
 use Rattle.stx_base.proofs.Course.{one_end, one_result, result_or_end}
 use Rattle.stx_base.proofs.Termination.{safe_then, comes_to, Known}
@@ -13,10 +13,10 @@ use Rattle.stx_base.specs.declared.fault.SheetCode.TheVariants as code
 use Rattle.stx_base.specs.declared.name.Binding.{Binding}
 use Rattle.xml_events.specs.Tree.{Forest, Chars, CData, Comment, Pi, Element, End, Cut, Single, Nested, Why, Need, Bad}
 use Rattle.sheet_loader.specs.Elements.{Kind, Inside, Document, Declarations, Start_of_body, Body, Branches, With_params, Characters, Parts, Nothing, is_own, is_include, makes_group, kind_named, allows_literals, allows_text, keeps_space}
-use Rattle.sheet_loader.specs.Judging.{fault_of, is_declared_here, is_stx, is_transform_named, locals_at, scope_at, values}
-use Rattle.sheet_loader.specs.Load.{nothing, at_start, whole, size, sizes, outcome, sheet_of}
+use Rattle.sheet_loader.specs.Judging.{fault_of, is_declared_here, is_stx, is_transform_named, scope_at, values}
+use Rattle.sheet_loader.specs.Load.{whole, size, sizes, outcome, sheet_of}
 use Rattle.sheet_loader.specs.Making.{Values, as_word, branches, item, value_at}
-use Rattle.sheet_loader.specs.Read.{begun, closed, code_of_job, copied, element_of, ended,  file_given, file_of, good, included, is_choose, judged, known, listed, literal, literal_judged, made, nodes, templates, text_item, text_of, when_known, with_group, with_root, within}
+use Rattle.sheet_loader.specs.Read.{begun, closed, code_of_job, copied, element_of, ended, file_given, file_of, good, included, is_choose, judged, known, listed, literal, literal_judged, made, nodes, templates, text_item, text_of, when_known, with_group, with_root, within}
 use Rattle.sheet_loader.specs.Reading.{File, Ending, Loading, Context, Item, Listed, Job, Nodes, Does, cut, ends_at, place, refused}
 use Rattle.sheet_loader.specs.References.{first_lost, Reference}
 use Rattle.sheet_loader.specs.Referring.{references}
@@ -64,6 +64,7 @@ module _ (reads : Reads) (files : List (Option File)) where
     of_group : (b : Bool) → coming (if b then with_group here at v l else l) ≡ coming l
     of_group true = refl
     of_group false = refl
+
     of_own : (b : Bool) → coming (if b then with_root here at v l else if makes_group kind then with_group here at v l else l) ≡ coming l
     of_own true = refl
     of_own false = of_group (makes_group kind)
@@ -119,10 +120,13 @@ module _ (reads : Reads) (files : List (Option File)) where
         let last : Listed → Does Listed = λ inner. closed reads files here e.offset kind (scope_at here e) v inner in
         let on : Listed → Does Listed = λ r. Ask (Nodes (within here before kind e v (length r.loading.sheet.groups)) [] kids r.loading) last in
         safe_then weight Pre Post w P (included reads files here e.offset kind v start) on
-        (included_ok w (λ r. Ok w P (on r)) here e.offset kind v start (omega (arith, same)) (λ r p.
-        (tt, omega (arith, same, p), λ inner q.
-        closed_ok w P here e.offset kind (scope_at here e) v inner
-        (h (made here e.offset kind (scope_at here e) v inner) (omega (arith, same, p, q, made_coming here e.offset kind (scope_at here e) v inner))))))
+        (included_ok w (λ r. Ok w P (on r)) here e.offset kind v start (omega (arith, same)) (λ r p. (
+          tt,
+          omega (arith, same, p),
+          λ inner q.
+              closed_ok w P here e.offset kind (scope_at here e) v inner
+              (h (made here e.offset kind (scope_at here e) v inner) (omega (arith, same, p, q, made_coming here e.offset kind (scope_at here e) v inner))),
+        )))
 
     judged_ok : (here : Context) (before : List Item) (e : Element) (kids : Forest) (kind : Kind) (o : Option SheetCode) (l : Loading) → size kids + coming l < w → ((r : Listed) → coming r.loading ≤ coming l → P r) → Ok w P (judged reads files here before e kids kind o l)
     judged_ok here before e kids kind (Some why) l less h = tt

@@ -1,16 +1,16 @@
 -- Sheets of version 1.0 are read as before there was version 1.1.
-use Rattle.std.proofs.Common.{◌≡◌, ℕ, zero, suc, ◌+◌, List, [], ◌∷◌, ◌++◌, map, slice_get, Option, Some, None, refl, ap, sym, ◌∙◌, arith}
+use Rattle.std.proofs.Common.{◌≡◌, ℕ, zero, suc, ◌+◌, List, [], ◌∷◌, ◌++◌, map, slice_get, Option, Some, None, refl, ap, sym, ◌∙◌}
 use Rattle.std.specs.Option.{option_map, option_map_or, option_and_then}
 use Rattle.stx_base.proofs.Course.{funext}
 use Rattle.stx_base.specs.Course.{Answer, Given, Over, Unknown}
 use Rattle.stx_base.specs.declared.limits.Limits.{Limits}
 use Rattle.stx_base.specs.declared.name.Attr.{Attr}
-use Rattle.sheet_loader.specs.Files.{Documents, Loads, Opened, by_answer, by_ending, changed, fewest, file_of, file_within, files_with, first_bytes, grown, known_at, limit_within, load_from, nodes_within, seen, share, size_of, wants, with_file}
+use Rattle.sheet_loader.specs.Files.{Documents, Opened, by_answer, changed, fewest, file_of, file_within, files_with, first_bytes, grown, known_at, limit_within, load_from, nodes_within, seen, share, size_of, wants, with_file}
 use Rattle.sheet_loader.specs.Laws.{AllSayOne, LoadsAsBefore, SaysOne}
 use Rattle.sheet_loader.specs.Load.{outcome}
 use Rattle.sheet_loader.specs.Reading.{Ending, File, Listed, Refused, Unfinished, Wants}
 use Rattle.sheet_loader.specs.Values.{Reads}
-use Rattle.sheet_loader.specs.Versions.{Version, language, old_language, root_attrs, version_by_root, version_named, version_of}
+use Rattle.sheet_loader.specs.Versions.{Version, language, old_language, root_attrs, version_by_root, version_named}
 
 same_version : (attrs : Option (List Attr)) → SaysOne attrs → version_by_root language attrs ≡ version_by_root old_language attrs
 same_version None h = refl
@@ -84,7 +84,7 @@ module _ (reads : Reads) (limits : Limits) (docs : Documents) (name : List ℕ) 
   same_with_file opened [] wanted h = refl
   same_with_file opened (n ∷ numbers) wanted h =
       ap (λ known. grown (n ∷ numbers) (size_of (docs wanted)) (seen (n ∷ numbers) known opened)
-          ++ record { name = wanted; bytes = docs wanted; before = option_map_or (λ o. o.before + o.inside) (slice_get opened n) 0 + known; inside = 0; known = 0 } ∷ [])
+      ++ record { name = wanted; bytes = docs wanted; before = option_map_or (λ o. o.before + o.inside) (slice_get opened n) 0 + known; inside = 0; known = 0 } ∷ [])
       (same_known opened (n ∷ numbers) wanted n h)
 
   with_file_told : (opened : List Opened) (numbers wanted : List ℕ) → AllTold docs opened → AllTold docs (with_file language reads limits docs name opened numbers wanted)
@@ -110,8 +110,8 @@ module _ (reads : Reads) (limits : Limits) (docs : Documents) (name : List ℕ) 
   same_load zero opened h = refl
   same_load (suc most) opened h =
       same_answer most opened (λ numbers wanted.
-          same_load most (with_file language reads limits docs name opened numbers wanted) (with_file_told opened numbers wanted h)
-          ∙ ap (load_from old_language reads limits docs name most) (same_with_file opened numbers wanted h))
+      same_load most (with_file language reads limits docs name opened numbers wanted) (with_file_told opened numbers wanted h)
+      ∙ ap (load_from old_language reads limits docs name most) (same_with_file opened numbers wanted h))
       (outcome reads name (map (file_of language reads limits docs name) opened))
       ∙ ap (λ files. by_answer old_language reads limits docs name (load_from old_language reads limits docs name most) opened (outcome reads name files)) (same_files opened h)
 

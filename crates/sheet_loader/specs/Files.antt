@@ -94,8 +94,11 @@ module _ (among : Language) (reads : Reads) (limits : Limits) (docs : Documents)
   -- a file with its first bytes alone, unless there are no more
   abbrev pub first_bytes : (name bytes : List ℕ) → (most : ℕ) → File
   first_bytes own bytes most = record {
-      name = own; version = version_of among (nodes_within limits bytes most); nodes = nodes_within limits bytes most
-      ; limit = limit_within bytes most }
+    name = own;
+    version = version_of among (nodes_within limits bytes most);
+    nodes = nodes_within limits bytes most;
+    limit = limit_within bytes most;
+  }
 
   -- a file, of which no more than so many bytes may be read
   abbrev pub file_within : (most : ℕ) → Opened → Option File

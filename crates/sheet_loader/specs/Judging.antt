@@ -1,5 +1,5 @@
 -- The faults that a start tag shows, in their order.
-use Rattle.std.specs.Prelude.{ℕ, Bool, true, false, ◌&&◌, not, ◌==◌, List, [], ◌∷◌, ◌++◌, Option, Some, None, Result, Ok, Err, codes, bytes_eq, if◌then◌else◌}
+use Rattle.std.specs.Prelude.{ℕ, Bool, true, false, ◌&&◌, not, ◌==◌, List, [], ◌∷◌, ◌++◌, Option, Some, None, Ok, codes, bytes_eq, if◌then◌else◌}
 use Rattle.std.specs.List.{list_any}
 use Rattle.std.specs.Option.{option_map_or}
 use Rattle.stx_base.specs.declared.fault.SheetCode.{SheetCode}
@@ -7,11 +7,7 @@ use Rattle.stx_base.specs.declared.fault.SheetCode.TheVariants as code
 use Rattle.stx_base.specs.declared.name.Binding.{Binding}
 use Rattle.stx_base.specs.declared.name.Name.{Name}
 use Rattle.sheet_model.specs.Names.{is_among, is_same}
-use Rattle.sheet_model.specs.declared.instr.WithParam.{WithParam}
-use Rattle.sheet_model.specs.declared.sheet.Buffer.{Buffer}
-use Rattle.sheet_model.specs.declared.sheet.Procedure.{Procedure}
 use Rattle.sheet_model.specs.declared.sheet.Sheet.{Sheet}
-use Rattle.sheet_model.specs.declared.sheet.Variable.{Variable}
 use Rattle.xml_events.specs.Tree.{Element}
 use Rattle.sheet_loader.specs.Attributes.{Form, Row, Version, rows}
 use Rattle.sheet_loader.specs.Elements as element
@@ -20,7 +16,7 @@ use Rattle.sheet_loader.specs.Making.{Values, value_at, as_name, as_word, behind
 use Rattle.sheet_loader.specs.Reading.{Context, Item}
 use Rattle.sheet_loader.specs.References.{has_group}
 use Rattle.sheet_loader.specs.Tags.{Found, found_at, is_bad_value, is_missing, is_unknown, path_fault}
-use Rattle.sheet_loader.specs.Values.{Reads, Value}
+use Rattle.sheet_loader.specs.Values.{Reads}
 
 -- an element of the namespace of sheets, and not a literal one
 abbrev pub is_stx : Name → Bool
@@ -114,13 +110,13 @@ module _ (reads : Reads) where
   abbrev pub fault_of : Context → (before : List Item) → Sheet → Element → Kind → Option SheetCode
   fault_of here before sheet e kind =
       first_of (
-          refuses (not (is_allowed (behind here.inside before) (last_of before) kind)) code.Misplaced
-          ∷ refuses (list_any (is_unknown (rows_of here kind)) e.attrs) code.UnknownAttribute
-          ∷ refuses (list_any (is_missing e.attrs) (rows_of here kind)) code.MissingAttribute
-          ∷ refuses (list_any (λ row. is_version row.form) (rows_of here kind) && not here.version.is_known) code.Version
-          ∷ refuses (list_any is_bad_value (found here kind e)) code.BadValue
-          -- Fraction or BadPath
-          ∷ path_fault (found here kind e)
-          ∷ refuses (declares_again here before sheet kind (values here kind e)) code.DuplicateName
-          ∷ refuses (is_loop here kind (values here kind e)) code.IncludeLoop
-          ∷ [])
+      refuses (not (is_allowed (behind here.inside before) (last_of before) kind)) code.Misplaced
+      ∷ refuses (list_any (is_unknown (rows_of here kind)) e.attrs) code.UnknownAttribute
+      ∷ refuses (list_any (is_missing e.attrs) (rows_of here kind)) code.MissingAttribute
+      ∷ refuses (list_any (λ row. is_version row.form) (rows_of here kind) && not here.version.is_known) code.Version
+      ∷ refuses (list_any is_bad_value (found here kind e)) code.BadValue
+      -- Fraction or BadPath
+      ∷ path_fault (found here kind e)
+      ∷ refuses (declares_again here before sheet kind (values here kind e)) code.DuplicateName
+      ∷ refuses (is_loop here kind (values here kind e)) code.IncludeLoop
+      ∷ [])

@@ -1,9 +1,8 @@
 -- What is so of all sheets.
-use Rattle.std.specs.Prelude.{◌≡◌, ℕ, List, [], ◌∷◌, codes, Option, Some, None}
+use Rattle.std.specs.Prelude.{◌≡◌, ℕ, List, codes, Option, Some, None}
 use Rattle.stx_base.specs.Course.{Answer, Given, Over, Unknown, Gives, Ends}
 use Rattle.stx_base.specs.declared.limits.Limits.{Limits}
 use Rattle.stx_base.specs.declared.name.Attr.{Attr}
-use Rattle.xml_events.specs.Tree.{Forest}
 use Rattle.sheet_loader.specs.Files.{Documents, load, nodes_within, old_load}
 use Rattle.sheet_loader.specs.Load.{outcome, sheet_of}
 use Rattle.sheet_loader.specs.Read.{code_of_job}

@@ -9,6 +9,7 @@ pub mod Read
 pub mod Reading
 pub mod References
 pub mod Referring
+pub mod Rows
 pub mod Tags
 pub mod Values
 pub mod Versions

@@ -1,31 +1,41 @@
 -- What a sheet's files come to: the sheet, or how its reading ends without one.
-use Rattle.std.specs.Prelude.{ℕ, ◌+◌, Bool, false, List, [], ◌∷◌, Option, Some, None}
+use Rattle.std.specs.Prelude.{ℕ, ◌+◌, false, List, [], ◌∷◌, Option, Some, None}
 use Rattle.std.specs.Option.{option_map_or}
-use Rattle.stx_base.specs.Course.{Course, Ret, Halt, Say, Ask, Answer, value, run}
+use Rattle.stx_base.specs.Course.{Ret, Halt, Say, Ask, Answer, value, run}
 use Rattle.stx_base.specs.declared.fault.SheetCode.TheVariants as code
 use Rattle.sheet_model.specs.declared.pass.Pass.TheVariants as pass
 use Rattle.xml_events.specs.Tree.{Forest, End, Cut, Single, Nested}
 use Rattle.sheet_loader.specs.Elements.{Document}
 use Rattle.sheet_loader.specs.Read.{code_of_job}
-use Rattle.sheet_loader.specs.Reading.{File, Ending, Refused, Wants, Loading, Context, Listed, Job, Nodes, Does}
-use Rattle.sheet_loader.specs.References.{Reference, first_lost}
+use Rattle.sheet_loader.specs.Reading.{File, Ending, Refused, Wants, Loading, Context, Listed, Nodes, Does}
+use Rattle.sheet_loader.specs.References.{Reference, code_of, first_lost}
 use Rattle.sheet_loader.specs.Values.{Reads}
 
 -- what a sheet is before anything of it is read, with the name of its file
 abbrev pub nothing : (name : List ℕ) → Loading
 nothing name = record {
-    sheet = record { groups = []; templates = []; procedures = []; buffers = []; variables = []; strip = false; cdata = false; files = name ∷ [] }
-    ; references = [] }
+  sheet = record { groups = []; templates = []; procedures = []; buffers = []; variables = []; strip = false; cdata = false; files = name ∷ [] };
+  references = [];
+}
 
 abbrev pub at_start : File → Context
 at_start file = record {
-    file = 0; limit = file.limit; reading = (0, file.name) ∷ []; version = file.version; scope = []; inside = Document false; at = 0
-    ; group = 0; pass = pass.None; locals = [] }
+  file = 0;
+  limit = file.limit;
+  reading = (0, file.name) ∷ [];
+  version = file.version;
+  scope = [];
+  inside = Document false;
+  at = 0;
+  group = 0;
+  pass = pass.None;
+  locals = [];
+}
 
 -- a reference that finds nothing is looked for only where the files have no fault
 abbrev pub whole : Listed → Option Reference → Does Listed
 whole r None = Ret r
-whole r (Some lost) = Halt (Refused lost.at lost.code)
+whole r (Some lost) = Halt (Refused lost.at (code_of lost.sought))
 
 -- the nodes of a list, those within them too, and its end
 abbrev pub size : Forest → ℕ

@@ -1,13 +1,11 @@
 -- What the elements of a sheet come to, once they were judged.
-use Rattle.std.specs.Prelude.{ℕ, ℤ, Bool, true, false, ◌&&◌, List, [], ◌∷◌, ◌++◌, length, Option, Some, None, codes, bytes_eq, if◌then◌else◌}
-use Rattle.std.specs.List.{list_all, list_any, flat_map, concat}
+use Rattle.std.specs.Prelude.{ℕ, ℤ, Bool, true, false, List, [], ◌∷◌, Option, Some, None, codes, bytes_eq, if◌then◌else◌}
+use Rattle.std.specs.List.{list_all, flat_map}
 use Rattle.stx_base.specs.declared.fault.Place.{Place}
 use Rattle.stx_base.specs.declared.name.Binding.{Binding}
 use Rattle.stx_base.specs.declared.name.Name.{Name}
 use Rattle.stx_base.specs.declared.part.Part.{Part}
-use Rattle.stxpath_syntax.specs.declared.expr.Alternative.{Alternative}
 use Rattle.stxpath_syntax.specs.declared.expr.Avt.{Avt}
-use Rattle.stxpath_syntax.specs.declared.expr.AvtPart.{AvtPart}
 use Rattle.stxpath_syntax.specs.declared.expr.Expr.{Expr}
 use Rattle.stxpath_syntax.specs.declared.expr.Expr.TheVariants as expression
 use Rattle.stxpath_syntax.specs.declared.expr.Pattern.{Pattern}
@@ -18,7 +16,6 @@ use Rattle.sheet_model.specs.declared.instr.Instr.TheVariants as instr
 use Rattle.sheet_model.specs.declared.instr.When.{When}
 use Rattle.sheet_model.specs.declared.instr.WithParam.{WithParam}
 use Rattle.sheet_model.specs.declared.pass.Pass.{Pass}
-use Rattle.sheet_model.specs.declared.pass.Pass.TheVariants as pass
 use Rattle.sheet_model.specs.declared.sheet.Variable.{Variable}
 use Rattle.sheet_model.specs.declared.sheet.Visibility.{Visibility}
 use Rattle.sheet_model.specs.declared.sheet.Visibility.TheVariants as seen
@@ -189,8 +186,13 @@ one i = Instruction i ∷ []
 -- the variable that an element declares; with `select` left out it has the empty text
 abbrev pub variable : (group : ℕ) → (param : Bool) → Place → Values → Variable
 variable group param at values = record {
-    group = group; name = name values; select = as_expression (value_at (codes "select") values)
-    ; keep = is_yes (value_at (codes "keep-value") values); param = param; at = at }
+  group = group;
+  name = name values;
+  select = as_expression (value_at (codes "select") values);
+  keep = is_yes (value_at (codes "keep-value") values);
+  param = param;
+  at = at;
+}
 
 -- What an element of a body, of a choose, of a process instruction or a parameter comes to: its place, the declarations in force
 -- at it, its values, and what its list came to.

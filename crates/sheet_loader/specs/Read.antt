@@ -1,9 +1,9 @@
 -- The reading of a sheet's files: their nodes in document order, up to the first fault.
-use Rattle.std.specs.Prelude.{ℕ, ◌-◌, Result, Ok, Err, Bool, true, false, ◌&&◌, not, ◌==◌, List, [], ◌∷◌, ◌++◌, map, length, slice_get, Option, Some, None, is_some, codes, bytes_eq, if◌then◌else◌}
+use Rattle.std.specs.Prelude.{ℕ, ◌-◌, Ok, Bool, true, false, ◌&&◌, not, ◌==◌, List, [], ◌∷◌, ◌++◌, map, length, slice_get, Option, Some, None, is_some, codes, if◌then◌else◌}
 use Rattle.std.specs.List.{list_all, flat_map}
 use Rattle.std.specs.Option.{option_map_or}
 use Rattle.stx_base.specs.Character.{is_space}
-use Rattle.stx_base.specs.Course.{Course, Ret, Halt, Say, Ask, and_then}
+use Rattle.stx_base.specs.Course.{Ret, Halt, Say, Ask, and_then}
 use Rattle.stx_base.specs.declared.fault.SheetCode.{SheetCode}
 use Rattle.stx_base.specs.declared.fault.SheetCode.TheVariants as code
 use Rattle.stx_base.specs.declared.name.Attr.{Attr}
@@ -20,18 +20,17 @@ use Rattle.sheet_model.specs.declared.pass.Pass.TheVariants as pass
 use Rattle.sheet_model.specs.declared.sheet.Buffer.{Buffer}
 use Rattle.sheet_model.specs.declared.sheet.Group.{Group}
 use Rattle.sheet_model.specs.declared.sheet.Procedure.{Procedure}
-use Rattle.sheet_model.specs.declared.sheet.Sheet.{Sheet}
 use Rattle.sheet_model.specs.declared.sheet.Template.{Template}
 use Rattle.sheet_model.specs.declared.sheet.Variable.{Variable}
-use Rattle.xml_events.specs.Tree.{Forest, Leaf, Chars, CData, Comment, Pi, Element, End, Cut, Single, Nested, Why, Need, Bad}
+use Rattle.xml_events.specs.Tree.{Forest, Chars, CData, Comment, Pi, Element, End, Cut, Single, Nested}
 use Rattle.sheet_loader.specs.Elements as element
 use Rattle.sheet_loader.specs.Elements.{Kind, Inside, Document, Declarations, Start_of_body, Body, Characters, Parts, Nothing, kind_named, inside_of, is_own, is_include, makes_group, allows_literals, allows_text, keeps_space}
 use Rattle.sheet_loader.specs.Judging.{is_declared_here, is_stx, is_transform_named, locals_at, scope_at, values, fault_of}
-use Rattle.sheet_loader.specs.Making.{Values, value_at, as_name, as_expression, as_pattern, as_priority, as_word, is_yes, pass_or, visibility_of, name, select, pattern, body, params, parts, behind, locals_of, branches, item, variable}
-use Rattle.sheet_loader.specs.Reading.{File, Ending, Refused, Wants, Loading, Context, Item, Instruction, Text, Parts as parts_item, Listed, Job, Nodes, Does, place, refused, cut}
+use Rattle.sheet_loader.specs.Making.{Values, value_at, as_name, as_expression, as_priority, as_word, is_yes, pass_or, visibility_of, name, pattern, body, params, parts, branches, item, variable}
+use Rattle.sheet_loader.specs.Reading.{File, Wants, Loading, Context, Item, Instruction, Text, Parts as parts_item, Listed, Job, Nodes, Does, place, refused, cut}
 use Rattle.sheet_loader.specs.Referring.{references, to_variables}
 use Rattle.sheet_loader.specs.Tags.{Found, path_fault}
-use Rattle.sheet_loader.specs.Values.{Reads, Value, read, A_template}
+use Rattle.sheet_loader.specs.Values.{Reads, read, A_template}
 
 abbrev pub listed : List Item → Loading → Listed
 listed items loading = record { items = items; loading = loading }
@@ -51,13 +50,21 @@ root_group here at v = record { parent = None; name = None; pass = pass_or pass.
 -- a group within another one; a transform that is included is one without name
 abbrev pub inner_group : Context → (at : ℕ) → Values → Group
 inner_group here at v = record {
-    parent = Some here.group; name = as_name (value_at (codes "name") v); pass = pass_or here.pass (value_at (codes "pass-through") v)
-    ; at = place here at }
+  parent = Some here.group;
+  name = as_name (value_at (codes "name") v);
+  pass = pass_or here.pass (value_at (codes "pass-through") v);
+  at = place here at;
+}
 
 -- the transform of the sheet itself: its group, and what it says of white space and of CDATA sections
 abbrev pub with_root : Context → (at : ℕ) → Values → Loading → Loading
-with_root here at v l = record l { sheet = record l.sheet {
-    groups = root_group here at v ∷ []; strip = is_yes (value_at (codes "strip-space") v); cdata = is_yes (value_at (codes "recognize-cdata") v) } }
+with_root here at v l = record l {
+  sheet = record l.sheet {
+    groups = root_group here at v ∷ [];
+    strip = is_yes (value_at (codes "strip-space") v);
+    cdata = is_yes (value_at (codes "recognize-cdata") v);
+  };
+}
 
 abbrev pub with_group : Context → (at : ℕ) → Values → Loading → Loading
 with_group here at v l = record l { sheet = record l.sheet { groups = l.sheet.groups ++ inner_group here at v ∷ [] } }
@@ -73,14 +80,26 @@ begun here at kind v l =
 
 abbrev pub templates_made : Context → (at : ℕ) → Kind → Values → List Item → List Template
 templates_made here at element.Template v inner = record {
-    group = here.group; pattern = pattern (codes "match") v; priority = as_priority (value_at (codes "priority") v)
-    ; visibility = visibility_of (as_word (value_at (codes "visibility") v)); public = is_yes (value_at (codes "public") v)
-    ; new_scope = is_yes (value_at (codes "new-scope") v); params = params inner; body = body inner; at = place here at } ∷ []
+  group = here.group;
+  pattern = pattern (codes "match") v;
+  priority = as_priority (value_at (codes "priority") v);
+  visibility = visibility_of (as_word (value_at (codes "visibility") v));
+  public = is_yes (value_at (codes "public") v);
+  new_scope = is_yes (value_at (codes "new-scope") v);
+  params = params inner;
+  body = body inner;
+  at = place here at;
+} ∷ []
 templates_made here at other v inner = []
 
 abbrev pub procedures_made : Context → (at : ℕ) → Kind → Values → List Item → List Procedure
 procedures_made here at element.Procedure v inner = record {
-    group = here.group; name = name v; params = params inner; body = body inner; at = place here at } ∷ []
+  group = here.group;
+  name = name v;
+  params = params inner;
+  body = body inner;
+  at = place here at;
+} ∷ []
 procedures_made here at other v inner = []
 
 abbrev pub buffers_made : Context → (at : ℕ) → Kind → Values → List Item → List Buffer
@@ -93,11 +112,14 @@ variables_made here at element.Param v = variable here.group true (place here at
 variables_made here at other v = []
 
 abbrev pub ended : Context → (at : ℕ) → Kind → Values → Listed → Loading
-ended here at kind v inner = record inner.loading { sheet = record inner.loading.sheet {
-    templates = inner.loading.sheet.templates ++ templates_made here at kind v inner.items
-    ; procedures = inner.loading.sheet.procedures ++ procedures_made here at kind v inner.items
-    ; buffers = inner.loading.sheet.buffers ++ buffers_made here at kind v inner.items
-    ; variables = inner.loading.sheet.variables ++ variables_made here at kind v } }
+ended here at kind v inner = record inner.loading {
+  sheet = record inner.loading.sheet {
+    templates = inner.loading.sheet.templates ++ templates_made here at kind v inner.items;
+    procedures = inner.loading.sheet.procedures ++ procedures_made here at kind v inner.items;
+    buffers = inner.loading.sheet.buffers ++ buffers_made here at kind v inner.items;
+    variables = inner.loading.sheet.variables ++ variables_made here at kind v;
+  };
+}
 
 -- an element among declarations adds to the sheet, and another one to its list
 abbrev pub made : Context → (at : ℕ) → Kind → (scope : List Binding) → Values → Listed → Listed
@@ -120,15 +142,26 @@ own_locals other v = []
 -- what is in force within an element, where the sheet has these groups by then
 abbrev pub within : Context → (before : List Item) → Kind → Element → Values → (groups : ℕ) → Context
 within here before kind e v groups = record here {
-    scope = scope_at here e; inside = inside_of here.inside kind (has_select v); at = e.offset
-    ; group = group_within here.group (groups - 1) kind; pass = pass_within here kind v
-    ; locals = locals_at here before ++ own_locals kind v }
+  scope = scope_at here e;
+  inside = inside_of here.inside kind (has_select v);
+  at = e.offset;
+  group = group_within here.group (groups - 1) kind;
+  pass = pass_within here kind v;
+  locals = locals_at here before ++ own_locals kind v;
+}
 
 -- what is in force in a file that is included, of which nothing is read yet
 abbrev pub in_file : Context → (number : ℕ) → File → Context
 in_file here number file = record here {
-    file = number; limit = file.limit; reading = (number, file.name) ∷ here.reading; version = file.version; scope = []
-    ; inside = Document true; at = 0; locals = [] }
+  file = number;
+  limit = file.limit;
+  reading = (number, file.name) ∷ here.reading;
+  version = file.version;
+  scope = [];
+  inside = Document true;
+  at = 0;
+  locals = [];
+}
 
 module _ (reads : Reads) (files : List (Option File)) where
   -- a file that is included is read where it stands, if it is there
@@ -192,7 +225,7 @@ module _ (reads : Reads) (files : List (Option File)) where
       let locals = locals_at here before in
       let inner = record here { scope = scope_at here e; inside = Body; at = e.offset; locals = locals } in
       Ask (Nodes inner [] kids (record l { references = l.references ++ to_variables (place here e.offset) locals here.group names }))
-          (λ r. Ret (listed (Instruction (instr.Literal e.name attrs (body r.items) (place here e.offset)) ∷ []) r.loading))
+      (λ r. Ret (listed (Instruction (instr.Literal e.name attrs (body r.items) (place here e.offset)) ∷ []) r.loading))
 
   abbrev pub attribute_part : Attr → Part
   attribute_part a = part.Attribute a.name a.value

@@ -1,31 +1,20 @@
 -- How a sheet is read: its files in document order, up to the first fault.
-use Rattle.std.specs.Prelude.{ℕ, zero, suc, ◌+◌, Bool, true, false, ◌&&◌, ◌||◌, not, ◌==◌, List, [], ◌∷◌, ◌++◌, map, length, slice_get, reverse, Option, Some, None, is_some, Result, Ok, Err, codes, bytes_eq, if◌then◌else◌, unwrap_or}
-use Rattle.std.specs.List.{list_all, list_any, flat_map}
-use Rattle.std.specs.Option.{option_map, option_map_or}
-use Rattle.stx_base.specs.Character.{is_space}
-use Rattle.stx_base.specs.Course.{Course, Ret, Halt, Say, Ask, and_then}
+use Rattle.std.specs.Prelude.{ℕ, List, Option, Some, None}
+use Rattle.stx_base.specs.Course.{Course, Halt}
 use Rattle.stx_base.specs.declared.fault.Place.{Place}
 use Rattle.stx_base.specs.declared.fault.SheetCode.{SheetCode}
 use Rattle.stx_base.specs.declared.fault.SheetCode.TheVariants as code
-use Rattle.stx_base.specs.declared.name.Attr.{Attr}
 use Rattle.stx_base.specs.declared.name.Binding.{Binding}
 use Rattle.stx_base.specs.declared.name.Name.{Name}
 use Rattle.stx_base.specs.declared.part.Part.{Part}
-use Rattle.stx_base.specs.declared.part.Part.TheVariants as part
-use Rattle.stxpath_syntax.specs.declared.expr.Avt.{Avt}
 use Rattle.stxpath_syntax.specs.declared.expr.Expr.{Expr}
-use Rattle.stxpath_syntax.specs.declared.expr.Pattern.{Pattern}
-use Rattle.sheet_model.specs.declared.instr.Content.{Content}
-use Rattle.sheet_model.specs.declared.instr.Content.TheVariants as content
 use Rattle.sheet_model.specs.declared.instr.Instr.{Instr}
-use Rattle.sheet_model.specs.declared.instr.Instr.TheVariants as instr
-use Rattle.sheet_model.specs.declared.instr.LiteralAttr.{LiteralAttr}
 use Rattle.sheet_model.specs.declared.instr.When.{When}
 use Rattle.sheet_model.specs.declared.instr.WithParam.{WithParam}
 use Rattle.sheet_model.specs.declared.pass.Pass.{Pass}
 use Rattle.sheet_model.specs.declared.sheet.Sheet.{Sheet}
 use Rattle.sheet_model.specs.declared.sheet.Variable.{Variable}
-use Rattle.xml_events.specs.Tree.{Forest, Leaf, Chars, Comment, Pi, Element, End, Cut, Single, Nested, Why, Need, Bad}
+use Rattle.xml_events.specs.Tree.{Forest, Why, Need, Bad}
 use Rattle.sheet_loader.specs.Elements as element
 use Rattle.sheet_loader.specs.References.{Reference}
 use Rattle.sheet_loader.specs.Versions.{Version}

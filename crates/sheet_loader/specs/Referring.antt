@@ -1,39 +1,32 @@
 -- What the tag of an element refers to.
-use Rattle.std.specs.Prelude.{ℕ, List, [], ◌∷◌, ◌++◌, Option, Some, None, Bool, if◌then◌else◌, codes}
+use Rattle.std.specs.Prelude.{ℕ, List, [], ◌∷◌, ◌++◌, Option, Some, None, if◌then◌else◌, codes}
+use Rattle.std.specs.List.{flat_map}
 use Rattle.std.specs.Option.{option_map_or}
 use Rattle.stx_base.specs.declared.fault.Place.{Place}
-use Rattle.stx_base.specs.declared.fault.SheetCode.{SheetCode}
-use Rattle.stx_base.specs.declared.fault.SheetCode.TheVariants as code
 use Rattle.stx_base.specs.declared.name.Name.{Name}
-use Rattle.sheet_model.specs.Names.{variables, template_variables, pattern_variables}
+use Rattle.sheet_model.specs.Names.{is_among, variables, template_variables, pattern_variables}
 use Rattle.sheet_model.specs.declared.sheet.Sheet.{Sheet}
 use Rattle.sheet_loader.specs.Elements as element
 use Rattle.sheet_loader.specs.Elements.{Kind}
 use Rattle.sheet_loader.specs.Judging.{is_declared_here, locals_at}
 use Rattle.sheet_loader.specs.Making.{Values, value_at, as_name, as_expression, as_pattern, as_template, name}
 use Rattle.sheet_loader.specs.Reading.{Context, Item}
-use Rattle.sheet_loader.specs.References.{Reference, all_variables, has_buffer, has_group, has_procedure}
+use Rattle.sheet_loader.specs.References.{Reference, Sought, A_buffer, A_group, A_procedure, A_variable, No_earlier_variable, has_variable}
 
-abbrev pub refers : Place → SheetCode → (Sheet → Bool) → List Reference
-refers at lost is_found = record { at = at; code = lost; is_found = is_found } ∷ []
+abbrev pub refers : Place → Sought → List Reference
+refers at sought = record { at = at; sought = sought } ∷ []
 
 abbrev pub to_group : Place → Option Name → List Reference
 to_group at None = []
-to_group at (Some n) = refers at code.NoGroup (λ sheet. has_group sheet n)
+to_group at (Some n) = refers at (A_group n)
 
-abbrev pub to_procedure : Place → (from : ℕ) → Name → List Reference
-to_procedure at from n = refers at code.NoProcedure (λ sheet. has_procedure sheet from n)
-
-abbrev pub to_buffer : Place → (from : ℕ) → Name → List Reference
-to_buffer at from n = refers at code.NoBuffer (λ sheet. has_buffer sheet from n)
-
--- what an instruction names is sought among the locals, and then among the variables of the group and those around it
+-- what an instruction names, but for locals, is sought among the variables of the group and those around it
 abbrev pub to_variables : Place → (locals : List Name) → (from : ℕ) → List Name → List Reference
-to_variables at locals from names = refers at code.NoVariable (all_variables locals from names)
+to_variables at locals from names = flat_map (λ n. if is_among locals n then [] else refers at (A_variable from n)) names
 
 -- a declaration sees only what stands earlier in the sheet
 abbrev pub to_earlier : Place → Sheet → (from : ℕ) → List Name → List Reference
-to_earlier at so_far from names = refers at code.NoVariable (λ sheet. all_variables [] from names so_far)
+to_earlier at so_far from names = flat_map (λ n. if has_variable so_far from n then [] else refers at No_earlier_variable) names
 
 abbrev pub variables_at : (word : List ℕ) → Values → List Name
 variables_at word v = option_map_or variables (as_expression (value_at word v)) []
@@ -54,7 +47,7 @@ named_in v =
 abbrev pub in_patterns : Place → (group : ℕ) → Values → List Reference
 in_patterns at group v =
     to_variables at [] group (variables_of_pattern_at (codes "match") v
-        ++ variables_of_pattern_at (codes "while") v ++ variables_of_pattern_at (codes "until") v)
+    ++ variables_of_pattern_at (codes "while") v ++ variables_of_pattern_at (codes "until") v)
 
 abbrev pub in_expressions : Place → Context → (before : List Item) → Sheet → Values → List Reference
 in_expressions at here before so_far v =
@@ -62,9 +55,9 @@ in_expressions at here before so_far v =
     else to_variables at (locals_at here before) here.group (named_in v)
 
 abbrev pub by_name : Place → Context → (before : List Item) → Kind → Name → List Reference
-by_name at here before element.CallProcedure n = to_procedure at here.group n
-by_name at here before element.ProcessBuffer n = to_buffer at here.group n
-by_name at here before element.ResultBuffer n = to_buffer at here.group n
+by_name at here before element.CallProcedure n = refers at (A_procedure here.group n)
+by_name at here before element.ProcessBuffer n = refers at (A_buffer here.group n)
+by_name at here before element.ResultBuffer n = refers at (A_buffer here.group n)
 by_name at here before element.Assign n = to_variables at (locals_at here before) here.group (n ∷ [])
 by_name at here before other n = []
 

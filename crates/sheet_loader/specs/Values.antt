@@ -1,11 +1,10 @@
 -- What the values of attributes are read as.
-use Rattle.std.specs.Prelude.{ℕ, ℤ, pos, neg_ℤ, ◌+◌, ◌-◌, ◌*◌, Bool, true, false, ◌&&◌, ◌||◌, not, ◌==◌, nat_le, List, [], ◌∷◌, ◌++◌, length, Option, Some, None, Result, Ok, Err, codes, bytes_eq, if◌then◌else◌}
+use Rattle.std.specs.Prelude.{ℕ, ℤ, pos, neg_ℤ, ◌+◌, ◌-◌, ◌*◌, Bool, true, false, ◌&&◌, not, ◌==◌, nat_le, List, [], ◌∷◌, ◌++◌, length, Option, Some, None, Result, Ok, Err, codes, bytes_eq, if◌then◌else◌}
 use Rattle.std.specs.List.{list_all, list_any, before_first, after_first}
 use Rattle.std.specs.Option.{option_map}
 use Rattle.stx_base.specs.Character.{is_space}
 use Rattle.stx_base.specs.declared.fault.SheetCode.{SheetCode}
 use Rattle.stx_base.specs.declared.fault.SheetCode.TheVariants as code
-use Rattle.stx_base.specs.declared.name.Attr.{Attr}
 use Rattle.stx_base.specs.declared.name.Binding.{Binding}
 use Rattle.stx_base.specs.declared.name.Name.{Name}
 use Rattle.stx_base.specs.declared.node.NodeTest.{NodeTest}
@@ -21,7 +20,6 @@ use Rattle.stxpath_syntax.specs.declared.expr.Expr.{Expr}
 use Rattle.stxpath_syntax.specs.declared.expr.Link.{Link}
 use Rattle.stxpath_syntax.specs.declared.expr.Link.TheVariants as link
 use Rattle.stxpath_syntax.specs.declared.expr.PathStep.{PathStep}
-use Rattle.stxpath_syntax.specs.declared.fault.PathFault.{PathFault}
 use Rattle.stxpath_syntax.specs.declared.fault.PathKind.{PathKind}
 use Rattle.stxpath_syntax.specs.declared.fault.PathKind.TheVariants as kind
 use Rattle.sheet_model.specs.Passing.{no_kind}
@@ -29,7 +27,7 @@ use Rattle.sheet_model.specs.declared.pass.Kinds.{Kinds}
 use Rattle.sheet_model.specs.declared.pass.Pass.{Pass}
 use Rattle.sheet_model.specs.declared.pass.Pass.TheVariants as pass
 use Rattle.xml_names.specs.QName.{is_qname, prefix_of, local_of}
-use Rattle.sheet_loader.specs.Attributes.{Form, Row, Word, Version, Passing, Priority, Named, Expression, Patterned, Tests, Template_of_value, Any}
+use Rattle.sheet_loader.specs.Attributes.{Form, Word, Version, Passing, Priority, Named, Expression, Patterned, Tests, Template_of_value, Any}
 
 -- What texts of the path language are read as: there is one such record, since each text has one reading or one first fault.
 pub record Reads : Type 0 where
@@ -133,7 +131,7 @@ abbrev pub unsigned_priority : List ℕ → Option ℕ
 unsigned_priority text =
     if list_any is_dot text
     then (if are_digits 1 6 (before_first is_dot text) && are_digits 1 2 (after_first is_dot text)
-        then Some (number 0 (before_first is_dot text) * 100 + hundredths (after_first is_dot text)) else None)
+    then Some (number 0 (before_first is_dot text) * 100 + hundredths (after_first is_dot text)) else None)
     else (if are_digits 1 6 text then Some (number 0 text * 100) else None)
 
 abbrev pub priority_of : List ℕ → Option ℤ

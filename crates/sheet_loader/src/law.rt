@@ -1,6 +1,7 @@
 //! Laws of the definitions, as contracts.
 
 ghost use Rattle.sheet_loader.specs.Laws.{ComesToOne, LoadsAsBefore};
+ghost use Rattle.sheet_loader.specs.Rows.{Again, Empty, Included, Includes, Kinds, Lost, Missing, NoBranch, NoElement, NoName, NoTransform, OtherVersion, OutOfPlace, Sections, SpaceInPlace, TextOutOfPlace, UnknownBeforeMissing, Waits};
 
 /// Each set of files comes to one answer: a sheet, or how its reading ends without one, with the names that were opened.
 pub fn one_answer()
@@ -10,4 +11,26 @@ pub fn one_answer()
 /// Sheets of version 1.0 are read as they were before there was version 1.1.
 pub fn versions()
     ensures { LoadsAsBefore }
+{}
+
+/// What small sheets come to.
+pub fn small_sheets()
+    ensures empty { Empty }
+    ensures no_transform { NoTransform }
+    ensures no_element { NoElement }
+    ensures out_of_place { OutOfPlace }
+    ensures text_out_of_place { TextOutOfPlace }
+    ensures space_in_place { SpaceInPlace }
+    ensures unknown_before_missing { UnknownBeforeMissing }
+    ensures missing { Missing }
+    ensures no_name { NoName }
+    ensures other_version { OtherVersion }
+    ensures kinds { Kinds }
+    ensures sections { Sections }
+    ensures again { Again }
+    ensures no_branch { NoBranch }
+    ensures lost { Lost }
+    ensures includes { Includes }
+    ensures included { Included }
+    ensures waits { Waits }
 {}
