@@ -11,7 +11,7 @@ use Rattle.stx_base.proofs.Termination.{safe_then, comes_to, Known}
 use Rattle.stx_base.specs.declared.fault.SheetCode.{SheetCode}
 use Rattle.stx_base.specs.declared.fault.SheetCode.TheVariants as code
 use Rattle.stx_base.specs.declared.name.Binding.{Binding}
-use Rattle.xml_events.specs.Tree.{Forest, Chars, CData, Comment, Pi, Element, End, Cut, Single, Nested, Why, Need, Bad}
+use Rattle.xml_events.specs.Tree.{Forest, Chars, CData, Comment, Pi, Element, End, Cut, Single, Nested, Why, Need, Bad, Stage, Waiting, Ready, Entered}
 use Rattle.sheet_loader.specs.Elements.{Kind, Inside, Document, Declarations, Start_of_body, Body, Branches, With_params, Characters, Parts, Nothing, is_own, is_include, makes_group, kind_named, allows_literals, allows_text, keeps_space}
 use Rattle.sheet_loader.specs.Judging.{fault_of, is_declared_here, is_stx, is_transform_named, scope_at, values}
 use Rattle.sheet_loader.specs.Load.{whole, size, sizes, outcome, sheet_of}
@@ -179,11 +179,13 @@ module _ (reads : Reads) (files : List (Option File)) where
     element_ok here before e kids Parts l less h = listed_ok here before e kids Parts l less h
     element_ok here before e kids Nothing l less h = listed_ok here before e kids Nothing l less h
 
-    when_known_ok : (here : Context) (before : List Item) (e : Element) (kids : Forest) (l : Loading) → size kids + coming l < w → ((r : Listed) → coming r.loading ≤ coming l → P r) → Ok w P (when_known reads files here before e kids l)
-    when_known_ok here before e (Cut why) l less h = cut_ok w P here why
-    when_known_ok here before e (End mark offset) l less h = element_ok here before e (End mark offset) here.inside l less h
-    when_known_ok here before e (Single mark leaf next) l less h = element_ok here before e (Single mark leaf next) here.inside l less h
-    when_known_ok here before e (Nested stage x inner next) l less h = element_ok here before e (Nested stage x inner next) here.inside l less h
+    when_known_ok : (here : Context) (before : List Item) (stage : Stage) (e : Element) (kids : Forest) (l : Loading) → size kids + coming l < w → ((r : Listed) → coming r.loading ≤ coming l → P r) → Ok w P (when_known reads files here before stage e kids l)
+    when_known_ok here before Waiting e (Cut why) l less h = cut_ok w P here why
+    when_known_ok here before Waiting e (End mark offset) l less h = element_ok here before e (End mark offset) here.inside l less h
+    when_known_ok here before Waiting e (Single mark leaf next) l less h = element_ok here before e (Single mark leaf next) here.inside l less h
+    when_known_ok here before Waiting e (Nested stage x inner next) l less h = element_ok here before e (Nested stage x inner next) here.inside l less h
+    when_known_ok here before (Ready first) e kids l less h = element_ok here before e kids here.inside l less h
+    when_known_ok here before (Entered first) e kids l less h = element_ok here before e kids here.inside l less h
 
   -- what stands behind a node
   abbrev behind_node : Context → (before : List Item) → (next : Forest) → Listed → Does Listed
@@ -207,8 +209,8 @@ module _ (reads : Reads) (files : List (Option File)) where
   nodes_ok here before (Single mark (Pi offset target text) next) l = (tt, omega arith, λ r p. p)
   nodes_ok here before (Nested stage e kids next) l =
       let w = 1 + size kids + size next + coming l in
-      safe_then weight Pre Post w (λ r. coming r.loading ≤ coming l) (when_known reads files here before e kids l) (behind_node here before next)
-      (when_known_ok w (λ r. Ok w (λ s. coming s.loading ≤ coming l) (behind_node here before next r)) here before e kids l (omega arith) (λ r p. next_ok w here before next l r (omega arith) p))
+      safe_then weight Pre Post w (λ r. coming r.loading ≤ coming l) (when_known reads files here before stage e kids l) (behind_node here before next)
+      (when_known_ok w (λ r. Ok w (λ s. coming s.loading ≤ coming l) (behind_node here before next r)) here before stage e kids l (omega arith) (λ r p. next_ok w here before next l r (omega arith) p))
 
   code_ok : (q : Job) → Pre q → Ok (weight q) (Post q) (code_of_job reads files q)
   code_ok (Nodes here before list l) u = nodes_ok here before list l

@@ -22,7 +22,7 @@ use Rattle.sheet_model.specs.declared.sheet.Group.{Group}
 use Rattle.sheet_model.specs.declared.sheet.Procedure.{Procedure}
 use Rattle.sheet_model.specs.declared.sheet.Template.{Template}
 use Rattle.sheet_model.specs.declared.sheet.Variable.{Variable}
-use Rattle.xml_events.specs.Tree.{Forest, Chars, CData, Comment, Pi, Element, End, Cut, Single, Nested}
+use Rattle.xml_events.specs.Tree.{Forest, Chars, CData, Comment, Pi, Element, End, Cut, Single, Nested, Stage, Waiting}
 use Rattle.sheet_loader.specs.Elements as element
 use Rattle.sheet_loader.specs.Elements.{Kind, Inside, Document, Declarations, Start_of_body, Body, Characters, Parts, Nothing, kind_named, inside_of, is_own, is_include, makes_group, allows_literals, allows_text, keeps_space}
 use Rattle.sheet_loader.specs.Judging.{is_declared_here, is_stx, is_transform_named, locals_at, scope_at, values, fault_of}
@@ -257,9 +257,9 @@ module _ (reads : Reads) (files : List (Option File)) where
       else literal_judged here before e kids inside l
 
   -- an element of which neither a node nor its end is known is not judged
-  abbrev pub when_known : Context → (before : List Item) → Element → (kids : Forest) → Loading → Does Listed
-  when_known here before e (Cut why) l = cut here why
-  when_known here before e kids l = element_of here before e kids here.inside l
+  abbrev pub when_known : Context → (before : List Item) → Stage → Element → (kids : Forest) → Loading → Does Listed
+  when_known here before Waiting e (Cut why) l = cut here why
+  when_known here before stage e kids l = element_of here before e kids here.inside l
 
   -- what a text comes to, by what the list may hold
   abbrev pub text_item : Context → (offset : ℕ) → List ℕ → Inside → List Item
@@ -283,8 +283,8 @@ module _ (reads : Reads) (files : List (Option File)) where
       and_then (text_of here offset text l) (λ r. Ask (Nodes here (before ++ r.items) next r.loading) Ret)
   nodes here before (Single mark (Comment offset text) next) l = Ask (Nodes here before next l) Ret
   nodes here before (Single mark (Pi offset target text) next) l = Ask (Nodes here before next l) Ret
-  nodes here before (Nested mark e kids next) l =
-      and_then (when_known here before e kids l) (λ r. Ask (Nodes here (before ++ r.items) next r.loading) Ret)
+  nodes here before (Nested stage e kids next) l =
+      and_then (when_known here before stage e kids l) (λ r. Ask (Nodes here (before ++ r.items) next r.loading) Ret)
 
   abbrev pub code_of_job : Job → Does Listed
   code_of_job (Nodes here before list l) = nodes here before list l

@@ -5,7 +5,7 @@ use Rattle.stx_base.specs.declared.fault.SheetCode.{SheetCode}
 use Rattle.stx_base.specs.declared.fault.SheetCode.TheVariants as code
 use Rattle.stx_base.specs.declared.name.Attr.{Attr}
 use Rattle.stx_base.specs.declared.node.First.TheVariants as first
-use Rattle.xml_events.specs.Tree.{Forest, End, Cut, Single, Nested, Chars, Told, Ready, Need}
+use Rattle.xml_events.specs.Tree.{Forest, End, Cut, Single, Nested, Chars, Told, Ready, Need, Waiting}
 use Rattle.sheet_loader.specs.Elements.{stx_uri}
 use Rattle.sheet_loader.specs.Load.{outcome}
 use Rattle.sheet_loader.specs.Reading.{File, Ending, Refused, Wants, Unfinished, Listed}
@@ -160,4 +160,6 @@ Included =
 
 -- of an element nothing is known before its first child or its end
 abbrev pub Waits : Type 0
-Waits = comes (one (stx 76 (codes "foo") [] (Cut Need) (Cut Need))) (More (codes "s" ∷ []))
+Waits =
+    comes (one (Nested Waiting (record { offset = 76; name = record { uri = stx_uri; local = codes "foo"; prefix = [] }; attrs = []; decls = [] }) (Cut Need) (Cut Need)))
+    (More (codes "s" ∷ []))
