@@ -11,6 +11,7 @@ use crate::dialect::Dialect;
 use crate::expr::{Avt, AvtPart, Expr};
 use crate::fault::{ParseFault, PathFault, PathKind};
 use crate::parse::expression;
+use crate::stop::instead;
 use std::alloc::Global;
 use stx_base::{Binding, List, Memory, Text};
 
@@ -141,8 +142,10 @@ fn append_value(
     ensures parts { OnOk result (parts.new ≡ parts.old ++ templating.flushed plain.old ++ AvtPart.Value value ∷ []) }
     ensures plain { OnOk result (plain.new ≡ []) }
 {
-    flush(alloc, parts, plain)?;
-    parts.push(AvtPart::Value(value))
+    match flush(alloc, parts, plain) {
+        Ok(()) => parts.push(AvtPart::Value(value)),
+        Err(memory) => instead(value, Err(memory)),
+    }
 }
 
 /// Appends a piece to the parts and the plain characters behind them.

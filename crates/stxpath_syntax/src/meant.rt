@@ -7,6 +7,7 @@ ghost use Rattle.stxpath_syntax.specs.Meaning as spec;
 use crate::expr::{Alternative, Bin, Expr, Link, PathStep};
 use crate::fault::{PathFault, PathKind};
 use crate::functions::permits;
+use crate::stop::instead;
 use crate::token::Operator;
 use std::alloc::Global;
 use stx_base::{Boxed, Fun, List, Memory, Name, NodeTest};
@@ -118,11 +119,18 @@ pub fn neg(alloc: Global, operand: Meant<Expr>) -> Result<Meant<Expr>, Memory>
     }
 }
 
-fn pair(alloc: Global, bin: Bin, left: Expr, right: Expr) -> Result<Expr, Memory>
-    ensures { IfOk result (λ made. made ≡ Expr.Binary bin left right) }
+fn boxed<T: Drop>(alloc: Global, left: T, right: T) -> Result<(Boxed<T>, Boxed<T>), Memory>
+    ensures { IfOk result (λ both. both ≡ (left, right)) }
 {
     let left = Boxed::new(alloc, left)?;
     let right = Boxed::new(alloc, right)?;
+    Ok((left, right))
+}
+
+fn pair(alloc: Global, bin: Bin, left: Expr, right: Expr) -> Result<Expr, Memory>
+    ensures { IfOk result (λ made. made ≡ Expr.Binary bin left right) }
+{
+    let (left, right) = boxed(alloc, left, right)?;
     Ok(Expr::Binary(bin, left, right))
 }
 
@@ -136,8 +144,8 @@ fn paired(
     ensures { IfOk result (λ meant. meant ≡ spec.binary bin (Meant.Fine left height) right) }
 {
     match right {
-        Meant::Bad(fault) => Ok(Meant::Bad(fault)),
-        Meant::High => Ok(Meant::High),
+        Meant::Bad(fault) => Ok(instead(left, Meant::Bad(fault))),
+        Meant::High => Ok(instead(left, Meant::High)),
         Meant::Fine(right, more) => {
             let both = pair(alloc, bin, left, right)?;
             Ok(above(both, height.max(more)))
@@ -154,7 +162,7 @@ fn binary(
     ensures { IfOk result (λ meant. meant ≡ spec.binary bin left right) }
 {
     match left {
-        Meant::Bad(fault) => Ok(Meant::Bad(fault)),
+        Meant::Bad(fault) => Ok(instead(right, Meant::Bad(fault))),
         Meant::High => Ok(spoiled(right)),
         Meant::Fine(left, height) => paired(alloc, bin, left, height, right),
     }
@@ -166,10 +174,10 @@ fn divided(at: usize, left: Meant<Expr>) -> PathFault
 {
     match left {
         Meant::Bad(fault) => fault,
-        _ => PathFault {
-            kind: PathKind::Fraction,
-            place: at,
-        },
+        rest => {
+            let kind = PathKind::Fraction;
+            instead(rest, PathFault { kind, place: at })
+        }
     }
 }
 
@@ -185,7 +193,7 @@ pub fn operated(
 {
     match operator {
         Operator::Binary(bin) => binary(alloc, bin, left, right),
-        Operator::Div => Ok(Meant::Bad(divided(at, left))),
+        Operator::Div => Ok(instead(right, Meant::Bad(divided(at, left)))),
     }
 }
 
@@ -296,7 +304,7 @@ pub fn abs(steps: Meant<List<PathStep>>, test: Meant<Option<NodeTest>>) -> Meant
     ensures { result ≡ spec.abs steps test }
 {
     match steps {
-        Meant::Bad(fault) => Meant::Bad(fault),
+        Meant::Bad(fault) => instead(test, Meant::Bad(fault)),
         Meant::High => spoiled(test),
         Meant::Fine(steps, height) => path(steps, height, test),
     }
@@ -311,8 +319,8 @@ fn tested(
     ensures { result ≡ spec.step link (Meant.Fine test height) predicates }
 {
     match predicates {
-        Meant::Bad(fault) => Meant::Bad(fault),
-        Meant::High => Meant::High,
+        Meant::Bad(fault) => instead(test, Meant::Bad(fault)),
+        Meant::High => instead(test, Meant::High),
         Meant::Fine(predicates, more) => {
             let step = PathStep {
                 link,

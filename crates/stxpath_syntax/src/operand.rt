@@ -12,7 +12,7 @@ use crate::meant;
 use crate::meant::Meant;
 use crate::stack::Stack;
 use crate::state::{Begun, Frame, Mode, Owner, Walk};
-use crate::stop::{Stop, stuck};
+use crate::stop::{Stop, instead, stuck};
 use crate::token::{Operator, Placed, Token, Written};
 use crate::words::function_of;
 use std::alloc::Global;
@@ -60,7 +60,7 @@ fn reduced(alloc: Global, frame: Frame, last: Meant<Expr>) -> Result<Meant<Expr>
     match frame {
         Frame::Negated => meant::neg(alloc, last),
         Frame::Left { left, operator, at } => meant::operated(alloc, operator, at, left, last),
-        _ => Ok(last),
+        other => Ok(instead(other, last)),
     }
 }
 
@@ -143,7 +143,7 @@ fn close_empty(stack: &mut Stack<Frame>) -> Result<Mode, Stop>
                 count: 0,
             },
         ) => Ok(call(&name, at, 0, items)),
-        _ => Err(Stop::Stuck),
+        other => stuck(other),
     }
 }
 
@@ -177,7 +177,7 @@ fn close(stack: &mut Stack<Frame>, last: Meant<Expr>) -> Result<Mode, Stop>
     ensures { spec.Turns (spec.close (stack.old, last)) result stack.new }
 {
     let Some(frame) = stack.pop() else {
-        return Err(Stop::Stuck);
+        return stuck(last);
     };
     match frame {
         Frame::Group { items, count } => grouped(items, count, last),
@@ -187,7 +187,7 @@ fn close(stack: &mut Stack<Frame>, last: Meant<Expr>) -> Result<Mode, Stop>
             items,
             count,
         } => called(name, at, count, items, last),
-        other => stuck(other),
+        other => stuck(instead(last, other)),
     }
 }
 
@@ -232,7 +232,7 @@ fn separated(frame: Frame, last: Meant<Expr>) -> Result<Frame, Stop>
             items,
             count,
         } => more_called(name, at, items, count, last),
-        other => stuck(other),
+        other => stuck(instead(last, other)),
     }
 }
 
@@ -246,7 +246,7 @@ fn separate(stack: &mut Stack<Frame>, last: Meant<Expr>) -> Result<Mode, Stop>
             stack.push(frame)?;
             Ok(Mode::Operand)
         }
-        None => Err(Stop::Stuck),
+        None => stuck(last),
     }
 }
 
@@ -263,11 +263,11 @@ fn close_predicate(stack: &mut Stack<Frame>, last: Meant<Expr>) -> Result<Mode, 
     ensures { spec.Turns (spec.close_predicate (stack.old, last)) result stack.new }
 {
     let Some(frame) = stack.pop() else {
-        return Err(Stop::Stuck);
+        return stuck(last);
     };
     match frame {
         Frame::Predicate(walk) => filtered(walk, last),
-        other => stuck(other),
+        other => stuck(instead(last, other)),
     }
 }
 
@@ -281,7 +281,7 @@ fn wait(
     ensures { spec.Turns (spec.wait operator at (stack.old, left)) result stack.new }
 {
     if is_beside(operator, stack) {
-        return Err(Stop::Stuck);
+        return stuck(left);
     }
     stack.push(Frame::Left { left, operator, at })?;
     Ok(Mode::Operand)
@@ -345,7 +345,7 @@ pub fn complete(
             let last = gather(alloc, least(behind), stack, operand)?;
             end(behind, placed.at, stack, last)
         }
-        None => Err(Stop::Stuck),
+        None => stuck(operand),
     }
 }
 

@@ -11,7 +11,7 @@ use crate::meant::Meant;
 use crate::operand::{complete, first};
 use crate::stack::Stack;
 use crate::state::{Begun, Frame, Mode, Named, Owner, Walk};
-use crate::stop::{Stop, stuck};
+use crate::stop::{Stop, instead, stuck};
 use crate::token::{Placed, Token, Written};
 use crate::words::{attribute_named, attribute_within, element_named, element_within, type_of};
 use std::alloc::Global;
@@ -143,11 +143,11 @@ fn alternate(stack: &mut Stack<Frame>, last: Meant<Alternative>) -> Result<Mode,
     ensures { spec.Turns (spec.alternated stack.old last) result stack.new }
 {
     let Some(frame) = stack.pop() else {
-        return Err(Stop::Stuck);
+        return stuck(last);
     };
     let all = match frame {
         Frame::Alternatives(all) => meant::and_also(all, last)?,
-        other => return stuck(other),
+        other => return stuck(instead(last, other)),
     };
     stack.push(Frame::Alternatives(all))?;
     Ok(Mode::Alternative)
@@ -172,7 +172,7 @@ fn linked(walk: Walk, link: Link) -> Result<Mode, Stop>
     ensures { spec.Takes (spec.linked walk link) result }
 {
     if walk.is_attribute {
-        return Err(Stop::Stuck);
+        return stuck(walk);
     }
     let steps = all_steps(walk)?;
     Ok(Mode::Step(Begun {

@@ -123,7 +123,7 @@ pub fn end_of_expression(
     if stack.is_empty() {
         Ok(whole)
     } else {
-        Err(Stop::Stuck)
+        stuck(whole)
     }
 }
 

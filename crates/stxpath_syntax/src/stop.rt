@@ -20,6 +20,15 @@ impl From<Memory> for Stop {
     }
 }
 
+/// A value in place of another, which is let go of. A tree is let go of here rather than where it stands: that all of it goes is
+/// long to show of a tree, and here it is shown once for every type.
+pub fn instead<T: Drop, U>(rest: T, value: U) -> U
+    ensures { result ≡ value }
+{
+    drop(rest);
+    value
+}
+
 /// Lets go of what no reading goes on with.
 pub fn stuck<T: Drop, U>(rest: T) -> Result<U, Stop>
     ensures { result ≡ Fails Stop.Stuck }
