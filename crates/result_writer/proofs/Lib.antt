@@ -13,3 +13,4 @@ mod Tabling
 mod Texts
 mod Together
 mod Trees
+mod Valuing

@@ -6,7 +6,7 @@ use Rattle.std.specs.Ordering.{nat_cmp, ordering_then}
 use Rattle.std.specs.declared.cmp.Ordering.{Ordering}
 use Rattle.stx_base.specs.declared.name.Attr.{Attr}
 use Rattle.stx_base.specs.declared.name.Name.{Name}
-use Rattle.result_writer.specs.Target.{with_attribute}
+use Rattle.result_writer.specs.Target.{same_name, with_attribute}
 use Rattle.result_writer.specs.declared.attributes.Attributes.TheInside.{Inside}
 
 -- the expanded name is spelled with these bytes
@@ -25,6 +25,11 @@ by_bytes p q = ordering_then (slice_cmp nat_cmp (string_bytes p.0) (string_bytes
 -- the attributes behind the first few are found
 pub record IsIndexed (s : Inside) : Type 0 where
   pub places : (q : _) → get by_bytes s.places q ≡ place_of 16 (drop 16 (map (λ a. a.name) s.list)) (string_bytes q.0) (string_bytes q.1)
+
+-- the value of the attribute of the name, where there is one
+abbrev pub value_of : List Attr → Name → Option (List ℕ)
+value_of [] name = None
+value_of (a ∷ attrs) name = if same_name a.name name then Some a.value else value_of attrs name
 
 -- the first attribute of the name stands at this place
 abbrev pub IsFirst : List Attr → Name → ℕ → Type 0

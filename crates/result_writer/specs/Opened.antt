@@ -2,9 +2,11 @@
 use Rattle.std.specs.Prelude.{◌≡◌, ℕ, ◌+◌, ◌-◌, Bool, false, true, List, [], ◌∷◌, ◌++◌, Option, Some, None, length, take, drop, reverse}
 use Rattle.std.specs.List.{list_all}
 use Rattle.stx_base.specs.declared.name.Binding.{Binding}
+use Rattle.stx_base.specs.declared.name.Name.{Name}
 use Rattle.stx_base.specs.declared.part.Part.{Part}
 use Rattle.stx_base.specs.declared.part.Part.TheVariants as part
 use Rattle.result_writer.specs.Allowed.{is_good_name}
+use Rattle.result_writer.specs.Attributes.{value_of}
 use Rattle.result_writer.specs.Steady.{given, keep_bindings}
 use Rattle.result_writer.specs.Tag.{dressed}
 use Rattle.result_writer.specs.Target.{Element, Left, Target, in_force}
@@ -65,6 +67,11 @@ abbrev pub declared_in : Option Dressed → List Binding
 declared_in None = []
 declared_in (Some d) = d.declared
 
+-- the value of an attribute that was put already, where its tag is held back
+abbrev pub held_value : Option HeldTag → Name → Option (List ℕ)
+held_value None name = None
+held_value (Some tag) name = value_of tag.attrs name
+
 -- The tag that a part settles, as it is written.
 
 abbrev pub settled_tag : List Element → Option HeldTag → Option SettledTag
@@ -75,6 +82,12 @@ settled_tag outer (Some tag) = Some (record { name = tag.name; attrs = tag.attrs
 abbrev pub settled_by : Left → Part → Option SettledTag
 settled_by l (part.Attribute name value) = None
 settled_by l p = settled_tag l.elements l.held
+
+-- a part, unless it is a start or an attribute, which are settled with their tag
+abbrev pub beside_tags : Part → Option Part
+beside_tags (part.Start name scope) = None
+beside_tags (part.Attribute name value) = None
+beside_tags p = Some p
 
 -- what settling leaves
 pub record Settles (old : Around) (d : Option Dressed) (new : Around) : Type 0 where

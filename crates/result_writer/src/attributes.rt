@@ -2,8 +2,9 @@
 
 ghost use Rattle.std.specs.Prelude.{◌≡◌, ◌<◌, ◌≤◌, true, ◌++◌, ◌∷◌, [], ℕ, false, IfOk, MatchOption, OnOk, OnErr, drop, encode_utf8_all, length, map, slice_get, slice_set, string_bytes};
 ghost use Rattle.std.specs.List.{list_any};
+ghost use Rattle.std.specs.Option.{option_copied};
 ghost use Rattle.stx_base.specs.declared.name.Attr.{Attr};
-ghost use Rattle.result_writer.specs.Attributes.{place_of, IsFirst};
+ghost use Rattle.result_writer.specs.Attributes.{place_of, value_of, IsFirst};
 ghost use Rattle.result_writer.specs.Target.{same_name, with_attribute, AreDistinct};
 
 use crate::words::same_name;
@@ -65,6 +66,16 @@ impl Attributes {
         match self.place(&name)? {
             Some(at) => self.replace(at, value),
             None => self.append(Attr { name, value }),
+        }
+    }
+
+    /// The value of the attribute of the name.
+    pub fn value(&self, name: &Name) -> Result<Option<&Text>, Memory>
+        ensures { IfOk result (λ value. option_copied value ≡ value_of self.now name.now) }
+    {
+        match self.place(name)? {
+            None => Ok(None),
+            Some(at) => Ok(Some(&self.list.as_slice()[at].value)),
         }
     }
 

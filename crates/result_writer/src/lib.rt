@@ -19,5 +19,6 @@ mod writer;
 
 pub use allowed::holds_cdata_text;
 pub use fault::{ResultFault, WriteStop};
-pub use opened::{Opened, SettledTag};
+pub use opened::{Opened, Settled, SettledTag};
+pub use tag::attribute_prefixes;
 pub use writer::{Writer, write};

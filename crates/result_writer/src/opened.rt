@@ -8,7 +8,7 @@ ghost use Rattle.stx_base.specs.Character.{is_cdata_text};
 ghost use Rattle.stx_base.specs.Course.{Begins};
 ghost use Rattle.result_writer.specs.Nodes as nodes;
 ghost use Rattle.result_writer.specs.Nodes.{attribute_part};
-ghost use Rattle.result_writer.specs.Opened.{declared_in, dressing, held, settled_by, settled_tag, SameAround, Settles};
+ghost use Rattle.result_writer.specs.Opened.{beside_tags, declared_in, dressing, held, held_value, settled_by, settled_tag, SameAround, Settles};
 ghost use Rattle.result_writer.specs.Steady.{keep_bindings};
 ghost use Rattle.result_writer.specs.Target as spec;
 ghost use Rattle.result_writer.specs.Target.{behind, cdata_text, comment_text, data_text, depth, dressed_in, end_text, fresh, holds_cdata_text, innermost, instruction_text, is_closed, left_by, tag_text, with_attribute, IsCause, TakesAtOnce};
@@ -43,6 +43,15 @@ pub struct SettledTag {
     pub attrs: List<Attr>,
     /// What the tag declares, in the order of the prefixes.
     pub declared: List<Binding>,
+}
+
+/// What is known whole once a part is taken.
+#[derive(Debug, Drop)]
+pub struct Settled {
+    /// The start tag before the part, where it was held back until then.
+    pub tag: Option<SettledTag>,
+    /// The part itself, unless it belongs to a tag that is still held back.
+    pub part: Option<Part>,
 }
 
 /// What is open around the next part.
@@ -216,40 +225,51 @@ impl Opened {
         Ok(())
     }
 
-    /// Takes a part, and hands out the tag that was held back and is settled by it. After a refusal all is unchanged.
-    pub fn accept_settling(&mut self, part: &Part) -> Result<Option<SettledTag>, WriteStop>
-        requires { holds_cdata_text part.now ≡ true }
-        ensures taken { OnOk result (spec.fault self.old.limit self.old.left part.now ≡ None) }
-        ensures fault { IfErr result (IsCause (spec.fault self.old.limit self.old.left part.now)) }
-        ensures ok { OnOk result (self.new ≡ behind self.old part.now) }
+    /// Takes a part that has no fault, which isn't judged again, and hands out what of it and of the parts before is settled. After
+    /// a refusal the part is dropped, and all else is unchanged.
+    pub fn take_settling(&mut self, part: Part) -> Result<Settled, Memory>
+        requires { spec.fault self.old.limit self.old.left part ≡ None }
+        ensures ok { OnOk result (self.new ≡ behind self.old part) }
+        ensures tag { IfOk result (λ settled. settled.tag ≡ settled_by self.old.left part) }
+        ensures part { IfOk result (λ settled. settled.part ≡ beside_tags part) }
         ensures err { OnErr result (self.new ≡ self.old) }
-        ensures settled { IfOk result (λ tag. tag ≡ settled_by self.old.left part.now) }
     {
-        if let Some(fault) = self.fault(part) {
-            return Err(WriteStop::Fault(fault));
-        }
         match part {
             Part::Start { name, scope } => {
-                let name = name.copy(self.alloc)?;
-                let other = self.other_scope(scope)?;
+                let other = self.unless_last(scope);
                 let tag = self.settle_tag()?;
                 self.hold(name, other);
-                Ok(tag)
+                Ok(Settled { tag, part: None })
             }
             Part::Attribute { name, value } => {
-                let name = name.copy(self.alloc)?;
-                let value = value.copy(self.alloc)?;
                 self.add_attribute(name, value)?;
-                Ok(None)
+                Ok(Settled {
+                    tag: None,
+                    part: None,
+                })
             }
-            Part::End { .. } => {
+            Part::End { name } => {
                 let tag = self.settle_tag()?;
                 let _ended = self.end();
-                Ok(tag)
+                let part = Some(Part::End { name });
+                Ok(Settled { tag, part })
             }
-            Part::Chars { .. } | Part::CData { .. } | Part::Comment { .. } | Part::Pi { .. } => {
-                Ok(self.settle_tag()?)
+            leaf => {
+                let tag = self.settle_tag()?;
+                let part = Some(leaf);
+                Ok(Settled { tag, part })
             }
+        }
+    }
+
+    /// The value of an attribute that was put already, where its tag is held back.
+    pub fn held_value(&self, name: &Name) -> Result<Option<&Text>, Memory>
+        ensures { IfOk result (λ value. option_copied value ≡ held_value self.now.left.held name.now) }
+    {
+        if self.around.holds {
+            self.around.tag.attrs.value(name)
+        } else {
+            Ok(None)
         }
     }
 

@@ -3,6 +3,7 @@
 ghost use Rattle.std.specs.Prelude.{◌≡◌, ◌++◌, codes, true, IfOk, OnOk};
 ghost use Rattle.stx_base.specs.Course.{Begins};
 ghost use Rattle.result_writer.specs.Steady.{given, keep_bindings, own_prefixes, undressed};
+ghost use Rattle.result_writer.specs.Table.{prefixes, with_element};
 ghost use Rattle.result_writer.specs.Tag.{attribute, attributes, declaration, dressed, end_tag, open_tag, qname, quoted};
 
 use crate::attributes::Attributes;
@@ -50,6 +51,15 @@ pub fn dress(
         let made = dress_by_table(alloc, in_force, tag)?;
         Ok(Some(made))
     }
+}
+
+/// The prefixes that the attributes of an element's tag are written with.
+pub fn attribute_prefixes(alloc: Global, name: &Name, attrs: &[Attr]) -> Result<List<Text>, Memory>
+    ensures { IfOk result (λ made. made ≡ prefixes (with_element name.now) attrs.now) }
+{
+    let mut table = List::new(alloc);
+    enter(alloc, &mut table, &name.prefix, &name.uri)?;
+    enter_attributes(alloc, &mut table, attrs)
 }
 
 #[inline(never)]
