@@ -97,8 +97,8 @@ module _ (reads : Reads) (files : List (Option File)) where
     given_ok here at href l (Some None) e less h = tt
     given_ok here at href l (Some (Some file)) e less h =
         let s = sizes_at files (length l.sheet.files) file e in
-        let n = length-append l.sheet.files (file.name ∷ []) in
-        let one : length (l.sheet.files ++ file.name ∷ []) ≡ suc (length l.sheet.files) = omega (arith, n) in
+        let n = length-append l.sheet.files (href ∷ []) in
+        let one : length (l.sheet.files ++ href ∷ []) ≡ suc (length l.sheet.files) = omega (arith, n) in
         let m = ap (sizes_from files) one in
         (tt, omega (arith, s, m), λ r p. h r (omega (arith, p, s, m)))
 

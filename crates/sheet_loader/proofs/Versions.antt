@@ -52,10 +52,10 @@ module _ (docs : Documents) where
 module _ (reads : Reads) (limits : Limits) (docs : Documents) (name : List ℕ) (says : AllSayOne limits docs) where
   same_file : (o : Opened) (most : ℕ) → Told docs o → file_within language reads limits docs name most o ≡ file_within old_language reads limits docs name most o
   same_file o most t = of_bytes o.bytes refl where
-    of_bytes : (b : Option (List ℕ)) → o.bytes ≡ b → option_map (λ bytes. first_bytes language reads limits docs name o.name bytes most) b ≡ option_map (λ bytes. first_bytes old_language reads limits docs name o.name bytes most) b
+    of_bytes : (b : Option (List ℕ)) → o.bytes ≡ b → option_map (λ bytes. first_bytes language reads limits docs name bytes most) b ≡ option_map (λ bytes. first_bytes old_language reads limits docs name bytes most) b
     of_bytes None e = refl
     of_bytes (Some bytes) e =
-        ap (λ (v : Version). Some (record { name = o.name; version = v; nodes = nodes_within limits bytes most; limit = limit_within bytes most }))
+        ap (λ (v : Version). Some (record { version = v; nodes = nodes_within limits bytes most; limit = limit_within bytes most }))
         (same_version (root_attrs (nodes_within limits bytes most)) (says o.name bytes most (t ∙ e)))
 
   same_files : (opened : List Opened) → AllTold docs opened → map (file_of language reads limits docs name) opened ≡ map (file_of old_language reads limits docs name) opened

@@ -140,6 +140,22 @@ abbrev pub is_with_param : Kind → Bool
 is_with_param WithParam = true
 is_with_param other = false
 
+abbrev pub is_template : Kind → Bool
+is_template Template = true
+is_template other = false
+
+abbrev pub is_procedure : Kind → Bool
+is_procedure Procedure = true
+is_procedure other = false
+
+abbrev pub is_buffer : Kind → Bool
+is_buffer Buffer = true
+is_buffer other = false
+
+abbrev pub is_variable : Kind → Bool
+is_variable Variable = true
+is_variable other = false
+
 abbrev pub is_include : Kind → Bool
 is_include Include = true
 is_include other = false

@@ -92,9 +92,8 @@ wants numbers name other = false
 
 module _ (among : Language) (reads : Reads) (limits : Limits) (docs : Documents) (name : List ℕ) where
   -- a file with its first bytes alone, unless there are no more
-  abbrev pub first_bytes : (name bytes : List ℕ) → (most : ℕ) → File
-  first_bytes own bytes most = record {
-    name = own;
+  abbrev pub first_bytes : (bytes : List ℕ) → (most : ℕ) → File
+  first_bytes bytes most = record {
     version = version_of among (nodes_within limits bytes most);
     nodes = nodes_within limits bytes most;
     limit = limit_within bytes most;
@@ -102,7 +101,7 @@ module _ (among : Language) (reads : Reads) (limits : Limits) (docs : Documents)
 
   -- a file, of which no more than so many bytes may be read
   abbrev pub file_within : (most : ℕ) → Opened → Option File
-  file_within most o = option_map (λ bytes. first_bytes o.name bytes most) o.bytes
+  file_within most o = option_map (λ bytes. first_bytes bytes most) o.bytes
 
   abbrev pub file_of : Opened → Option File
   file_of o = file_within (share limits o) o

@@ -18,11 +18,11 @@ nothing name = record {
   references = [];
 }
 
-abbrev pub at_start : File → Context
-at_start file = record {
+abbrev pub at_start : (name : List ℕ) → File → Context
+at_start name file = record {
   file = 0;
   limit = file.limit;
-  reading = (0, file.name) ∷ [];
+  reading = (0, name) ∷ [];
   version = file.version;
   scope = [];
   inside = Document false;
@@ -55,7 +55,7 @@ module _ (reads : Reads) where
   sheet_of name [] = Say name (Halt (Wants [] name))
   sheet_of name (None ∷ files) = Say name (Halt (Refused (record { file = 0; offset = 0 }) code.NoDocument))
   sheet_of name (Some file ∷ files) =
-      Say name (Ask (Nodes (at_start file) [] file.nodes (nothing name)) (λ r. whole r (first_lost r.loading.sheet r.loading.references)))
+      Say name (Ask (Nodes (at_start name file) [] file.nodes (nothing name)) (λ r. whole r (first_lost r.loading.sheet r.loading.references)))
 
   -- the names that are opened, in order, and the sheet or how it ends; no call of the reading is nested deeper than there are nodes
   abbrev pub outcome : (name : List ℕ) → List (Option File) → Answer Listed (List ℕ) Ending

@@ -1,5 +1,5 @@
 -- The reading of a sheet's files: their nodes in document order, up to the first fault.
-use Rattle.std.specs.Prelude.{ℕ, ◌-◌, Ok, Bool, true, false, ◌&&◌, not, ◌==◌, List, [], ◌∷◌, ◌++◌, map, length, slice_get, Option, Some, None, is_some, codes, if◌then◌else◌}
+use Rattle.std.specs.Prelude.{ℕ, ◌-◌, Ok, Bool, true, false, ◌&&◌, ◌||◌, not, ◌==◌, List, [], ◌∷◌, ◌++◌, map, length, slice_get, Option, Some, None, is_some, codes, if◌then◌else◌}
 use Rattle.std.specs.List.{list_all, flat_map}
 use Rattle.std.specs.Option.{option_map_or}
 use Rattle.stx_base.specs.Character.{is_space}
@@ -24,7 +24,7 @@ use Rattle.sheet_model.specs.declared.sheet.Template.{Template}
 use Rattle.sheet_model.specs.declared.sheet.Variable.{Variable}
 use Rattle.xml_events.specs.Tree.{Forest, Chars, CData, Comment, Pi, Element, End, Cut, Single, Nested, Stage, Waiting}
 use Rattle.sheet_loader.specs.Elements as element
-use Rattle.sheet_loader.specs.Elements.{Kind, Inside, Document, Declarations, Start_of_body, Body, Characters, Parts, Nothing, kind_named, inside_of, is_own, is_include, makes_group, allows_literals, allows_text, keeps_space}
+use Rattle.sheet_loader.specs.Elements.{Kind, Inside, Document, Declarations, Start_of_body, Body, Characters, Parts, Nothing, kind_named, inside_of, is_own, is_buffer, is_include, is_param, is_procedure, is_template, is_variable, makes_group, allows_literals, allows_text, keeps_space}
 use Rattle.sheet_loader.specs.Judging.{is_declared_here, is_stx, is_transform_named, locals_at, scope_at, values, fault_of}
 use Rattle.sheet_loader.specs.Making.{Values, value_at, as_name, as_expression, as_priority, as_word, is_yes, pass_or, visibility_of, name, pattern, body, params, parts, branches, item, variable}
 use Rattle.sheet_loader.specs.Reading.{File, Wants, Loading, Context, Item, Instruction, Text, Parts as parts_item, Listed, Job, Nodes, Does, place, refused, cut}
@@ -78,8 +78,8 @@ begun here at kind v l =
 
 -- what a declaration adds to the lists of the sheet once its element is read
 
-abbrev pub templates_made : Context → (at : ℕ) → Kind → Values → List Item → List Template
-templates_made here at element.Template v inner = record {
+abbrev pub template_at : Context → (at : ℕ) → Values → List Item → Template
+template_at here at v inner = record {
   group = here.group;
   pattern = pattern (codes "match") v;
   priority = as_priority (value_at (codes "priority") v);
@@ -89,27 +89,27 @@ templates_made here at element.Template v inner = record {
   params = params inner;
   body = body inner;
   at = place here at;
-} ∷ []
-templates_made here at other v inner = []
+}
+
+abbrev pub procedure_at : Context → (at : ℕ) → Values → List Item → Procedure
+procedure_at here at v inner = record { group = here.group; name = name v; params = params inner; body = body inner; at = place here at }
+
+abbrev pub buffer_at : Context → (at : ℕ) → Values → List Item → Buffer
+buffer_at here at v inner = record { group = here.group; name = name v; content = parts inner; at = place here at }
+
+abbrev pub templates_made : Context → (at : ℕ) → Kind → Values → List Item → List Template
+templates_made here at kind v inner = if is_template kind then template_at here at v inner ∷ [] else []
 
 abbrev pub procedures_made : Context → (at : ℕ) → Kind → Values → List Item → List Procedure
-procedures_made here at element.Procedure v inner = record {
-  group = here.group;
-  name = name v;
-  params = params inner;
-  body = body inner;
-  at = place here at;
-} ∷ []
-procedures_made here at other v inner = []
+procedures_made here at kind v inner = if is_procedure kind then procedure_at here at v inner ∷ [] else []
 
 abbrev pub buffers_made : Context → (at : ℕ) → Kind → Values → List Item → List Buffer
-buffers_made here at element.Buffer v inner = record { group = here.group; name = name v; content = parts inner; at = place here at } ∷ []
-buffers_made here at other v inner = []
+buffers_made here at kind v inner = if is_buffer kind then buffer_at here at v inner ∷ [] else []
 
+-- a parameter of the sheet stands among its variables
 abbrev pub variables_made : Context → (at : ℕ) → Kind → Values → List Variable
-variables_made here at element.Variable v = variable here.group false (place here at) v ∷ []
-variables_made here at element.Param v = variable here.group true (place here at) v ∷ []
-variables_made here at other v = []
+variables_made here at kind v =
+    if is_param kind || is_variable kind then variable here.group (is_param kind) (place here at) v ∷ [] else []
 
 abbrev pub ended : Context → (at : ℕ) → Kind → Values → Listed → Loading
 ended here at kind v inner = record inner.loading {
@@ -151,11 +151,11 @@ within here before kind e v groups = record here {
 }
 
 -- what is in force in a file that is included, of which nothing is read yet
-abbrev pub in_file : Context → (number : ℕ) → File → Context
-in_file here number file = record here {
+abbrev pub in_file : Context → (number : ℕ) → (name : List ℕ) → File → Context
+in_file here number name file = record here {
   file = number;
   limit = file.limit;
-  reading = (number, file.name) ∷ here.reading;
+  reading = (number, name) ∷ here.reading;
   version = file.version;
   scope = [];
   inside = Document true;
@@ -169,7 +169,7 @@ module _ (reads : Reads) (files : List (Option File)) where
   file_given here at number None href l = Halt (Wants (map (λ f. f.0) here.reading) href)
   file_given here at number (Some None) href l = refused here at code.NoDocument
   file_given here at number (Some (Some file)) href l =
-      Ask (Nodes (in_file here number file) [] file.nodes (record l { sheet = record l.sheet { files = l.sheet.files ++ file.name ∷ [] } })) Ret
+      Ask (Nodes (in_file here number href file) [] file.nodes (record l { sheet = record l.sheet { files = l.sheet.files ++ href ∷ [] } })) Ret
 
   abbrev pub file_of : Context → (at : ℕ) → (href : List ℕ) → Loading → Does Listed
   file_of here at href l =

@@ -21,7 +21,6 @@ use Rattle.sheet_loader.specs.Versions.{Version}
 
 -- A file as it was read: its nodes, its version, and where the limit on sheets came, if it did.
 pub record File : Type 0 where
-  pub name : List ℕ
   pub version : Version
   pub nodes : Forest
   pub limit : Option ℕ

@@ -54,15 +54,15 @@ what (Over names (Wants numbers name)) = Opens names name
 what (Over names Unfinished) = More names
 what (Unknown names) = More names
 
-abbrev pub file_of : (List ℕ × Forest) → Option File
-file_of f = Some (record { name = f.0; version = version_of language f.1; nodes = f.1; limit = None })
+abbrev pub file_of : Forest → Option File
+file_of f = Some (record { version = version_of language f; nodes = f; limit = None })
 
-abbrev pub files_come : List (List ℕ × Forest) → What → Type 0
+abbrev pub files_come : List Forest → What → Type 0
 files_come files w = (reads : Reads) → what (outcome reads (codes "s") (map file_of files)) ≡ w
 
 -- one file
 abbrev pub comes : Forest → What → Type 0
-comes nodes w = files_come ((codes "s", nodes) ∷ []) w
+comes nodes w = files_come (nodes ∷ []) w
 
 abbrev pub fault : (offset : ℕ) → SheetCode → What
 fault offset why = Fault (codes "s" ∷ []) 0 offset why
@@ -147,15 +147,15 @@ Includes =
     comes (one (include 76 (codes "s") end)) (fault 76 code.IncludeLoop)
     × comes (one (include 76 (codes "t") end)) (Opens (codes "s" ∷ codes "t" ∷ []) (codes "t"))
     × ((reads : Reads)
-    → what (outcome reads (codes "s") (file_of (codes "s", one (include 76 (codes "t") end)) ∷ None ∷ []))
+    → what (outcome reads (codes "s") (file_of (one (include 76 (codes "t") end)) ∷ None ∷ []))
     ≡ Fault (codes "s" ∷ codes "t" ∷ []) 0 76 code.NoDocument)
 
 -- a parameter of an included file has no place
 abbrev pub Included : Type 0
 Included =
-    files_come ((codes "s", one (include 76 (codes "t") end)) ∷ (codes "t", one (named 76 (codes "param") (codes "p") end end)) ∷ [])
+    files_come (one (include 76 (codes "t") end) ∷ one (named 76 (codes "param") (codes "p") end end) ∷ [])
     (Fault (codes "s" ∷ codes "t" ∷ []) 1 76 code.Misplaced)
-    × files_come ((codes "s", one (include 76 (codes "t") (include 105 (codes "t") end))) ∷ (codes "t", one end) ∷ (codes "t", one end) ∷ [])
+    × files_come (one (include 76 (codes "t") (include 105 (codes "t") end)) ∷ one end ∷ one end ∷ [])
     (Accepted (codes "s" ∷ codes "t" ∷ codes "t" ∷ []))
 
 -- of an element nothing is known before its first child or its end
