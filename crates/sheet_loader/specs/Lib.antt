@@ -10,6 +10,7 @@ pub mod Reading
 pub mod References
 pub mod Referring
 pub mod Rows
+pub mod Standing
 pub mod Tags
 pub mod Values
 pub mod Versions

@@ -2,6 +2,7 @@
 
 ghost use Rattle.sheet_loader.specs.Laws.{ComesToOne, LoadsAsBefore};
 ghost use Rattle.sheet_loader.specs.Rows.{Again, Empty, Included, Includes, Kinds, Lost, Missing, NoBranch, NoElement, NoName, NoTransform, OtherVersion, OutOfPlace, Sections, SpaceInPlace, TextOutOfPlace, UnknownBeforeMissing, Waits};
+ghost use Rattle.sheet_loader.specs.Standing.{GivenStands};
 
 /// Each set of files comes to one answer: a sheet, or how its reading ends without one, with the names that were opened.
 pub fn one_answer()
@@ -11,6 +12,11 @@ pub fn one_answer()
 /// Sheets of version 1.0 are read as they were before there was version 1.1.
 pub fn versions()
     ensures { LoadsAsBefore }
+{}
+
+/// In a sheet that is given the groups are a tree, each number of a group or of a file names one, and the files are those that were opened.
+pub fn standing()
+    ensures { GivenStands }
 {}
 
 /// What small sheets come to.
