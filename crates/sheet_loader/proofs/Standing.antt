@@ -6,7 +6,7 @@ use Rattle.std.proofs.lemmas.List.Elements.{All-append, All-cons, All-nil}
 use Rattle.std.specs.List.{All, list_all}
 use Rattle.std.specs.Option.{option_map_or}
 use Rattle.stx_base.specs.Character.{is_space}
-use Rattle.stx_base.specs.Course.{Ret, Halt, Say, Ask, and_then, Answer, Given, Over, Unknown, Gives, value, run}
+use Rattle.stx_base.specs.Course.{Ret, Ask, and_then}
 use Rattle.stx_base.specs.declared.fault.Place.{Place}
 use Rattle.stx_base.specs.declared.fault.SheetCode.{SheetCode}
 use Rattle.stx_base.specs.declared.fault.SheetCode.TheVariants as code
@@ -22,11 +22,11 @@ use Rattle.sheet_model.specs.declared.sheet.Variable.{Variable}
 use Rattle.sheet_loader.proofs.Keeping.{Holds, Keeps, append_nil, comes_with, keeps_then}
 use Rattle.sheet_loader.specs.Elements as element
 use Rattle.sheet_loader.specs.Elements.{Kind, Inside, Document, Declarations, Start_of_body, Body, Branches, With_params, Characters, Parts, Nothing, inside_of, is_buffer, is_include, is_own, is_param, is_procedure, is_template, is_variable, makes_group, kind_named, allows_literals, allows_text, keeps_space}
-use Rattle.sheet_loader.specs.Judging.{fault_of, is_declared_here, is_stx, is_transform_named, locals_at, scope_at, values}
-use Rattle.sheet_loader.specs.Load.{nothing, at_start, whole, sheet_of}
+use Rattle.sheet_loader.specs.Judging.{fault_of, is_declared_here, is_stx, is_transform_named, scope_at, values}
+use Rattle.sheet_loader.specs.Load.{nothing, whole, sheet_of}
 use Rattle.sheet_loader.specs.Making.{Values, as_word, branches, item, value_at, variable}
-use Rattle.sheet_loader.specs.Read.{begun, buffer_at, buffers_made, closed, code_of_job, copied, element_of, ended, file_given, file_of, good, has_select, in_file, included, inner_group, is_choose, judged, known, listed, literal, literal_judged, made, nodes, procedure_at, procedures_made, root_group, template_at, templates, templates_made, text_item, text_of, variables_made, when_known, with_group, with_root, within}
-use Rattle.sheet_loader.specs.Reading.{File, Ending, Loading, Context, Item, Listed, Job, Nodes, Does, cut, ends_at, place, refused}
+use Rattle.sheet_loader.specs.Read.{begun, buffer_at, closed, code_of_job, copied, element_of, ended, file_given, file_of, good, has_select, included, inner_group, is_choose, judged, known, listed, literal, literal_judged, made, nodes, procedure_at, root_group, template_at, templates, text_item, text_of, when_known, with_group, with_root, within}
+use Rattle.sheet_loader.specs.Reading.{File, Loading, Context, Item, Listed, Job, Nodes, Does, cut, ends_at, place, refused}
 use Rattle.sheet_loader.specs.References.{first_lost, Reference}
 use Rattle.sheet_loader.specs.Referring.{references}
 use Rattle.sheet_loader.specs.Standing.{GivenStands, HasNoElement, IsDocument, Stands}
@@ -94,9 +94,11 @@ more_behind k (o ∷ os) g p e l h (suc n) x q =
 
 tree_more : (groups : List Group) (g : Group) (p : ℕ) → AreATree groups → g.parent ≡ Some p → p < length groups → AreATree (groups ++ g ∷ [])
 tree_more [] g p h e l = absurd h
-tree_more (root ∷ others) g p h e l =
-    (h.0, λ n x q. behind_more (1 + n) (n + 1) x.parent (omega arith)
-    (more_behind 1 others g p e (omega arith) (λ m y r. behind_more (m + 1) (1 + m) y.parent (omega arith) (h.1 m y r)) n x q))
+tree_more (root ∷ others) g p h e l = (
+  h.0,
+  λ n x q. behind_more (1 + n) (n + 1) x.parent (omega arith)
+      (more_behind 1 others g p e (omega arith) (λ m y r. behind_more (m + 1) (1 + m) y.parent (omega arith) (h.1 m y r)) n x q),
+)
 
 tree_some : (groups : List Group) → AreATree groups → 0 < length groups
 tree_some [] h = absurd h
@@ -207,10 +209,10 @@ begun_stands here at kind v l (own o g z f r) =
     subst (λ b. Begun here l.sheet (if b then with_root here at v l else if makes_group kind then with_group here at v l else l).sheet) (sym o) (root_begun here at v l z f r)
 begun_stands here at kind v l (inner o g f h) =
     subst (λ b. Begun here l.sheet (if b then with_root here at v l else if makes_group kind then with_group here at v l else l).sheet) (sym o) (of_group (makes_group kind))
-    where
-      of_group : (b : Bool) → Begun here l.sheet (if b then with_group here at v l else l).sheet
-      of_group true = group_begun here at v l g f h
-      of_group false = record { stands = h; files = refl; groups = omega arith }
+  where
+    of_group : (b : Bool) → Begun here l.sheet (if b then with_group here at v l else l).sheet
+    of_group true = group_begun here at v l g f h
+    of_group false = record { stands = h; files = refl; groups = omega arith }
 
 -- one more entry, if there is one
 all_if : {A : Type 0} (P : A → Type 0) (b : Bool) (x : A) (xs : List A) → P x → All P xs → All P (xs ++ (if b then x ∷ [] else []))
@@ -283,11 +285,12 @@ module _ (reads : Reads) (files : List (Option File)) where
         let more : Sheet = record l.sheet { files = l.sheet.files ++ href ∷ [] } in
         let n = length-append l.sheet.files (href ∷ []) in
         let wide : Stands more = stands_by more k.tree
-            (files_wider (length l.sheet.files) (length more.files) l.sheet.groups (omega (arith, n)) k.groups)
-            (rest_wider (length l.sheet.groups) (length l.sheet.files) (length l.sheet.groups) (length more.files) l.sheet.templates l.sheet.procedures l.sheet.buffers l.sheet.variables (omega arith) (omega (arith, n)) (rest_of l.sheet k)) in
-        let there : From s (os ++ href ∷ []) more = from_then s l.sheet more os (href ∷ []) a (record { files = refl; groups = omega arith }) in
-        (inside (inner refl g (omega (arith, n)) wide) wide refl
-        , λ ps r p. h ((os ++ href ∷ []) ++ ps) r (from_then s more r.loading.sheet (os ++ href ∷ []) ps there p.0) p.0.groups p.1)
+        (files_wider (length l.sheet.files) (length more.files) l.sheet.groups (omega (arith, n)) k.groups)
+        (rest_wider (length l.sheet.groups) (length l.sheet.files) (length l.sheet.groups) (length more.files) l.sheet.templates l.sheet.procedures l.sheet.buffers l.sheet.variables (omega arith) (omega (arith, n)) (rest_of l.sheet k)) in
+        let there : From s (os ++ href ∷ []) more = from_then s l.sheet more os (href ∷ []) a (record { files = refl; groups = omega arith }) in (
+          inside (inner refl g (omega (arith, n)) wide) wide refl,
+          λ ps r p. h ((os ++ href ∷ []) ++ ps) r (from_then s more r.loading.sheet (os ++ href ∷ []) ps there p.0) p.0.groups p.1,
+        )
 
     included_ok : (here : Context) (at : ℕ) (kind : Kind) (v : Values) (s : Sheet) (l : Loading) (os : List (List ℕ)) → here.group < length l.sheet.groups → Stands l.sheet → From s os l.sheet → ((ps : List (List ℕ)) (r : Listed) → From s ps r.loading.sheet → length l.sheet.groups ≤ length r.loading.sheet.groups → Stands r.loading.sheet → P ps r) → Ok P os (included reads files here at kind v l)
     included_ok here at kind v s l os g k a h =
@@ -317,14 +320,15 @@ module _ (reads : Reads) (files : List (Option File)) where
         let f = start_file here l.sheet st in
         let n = more_files l.sheet r.loading.sheet os from in
         let deeper : Start (within here before kind e v (length r.loading.sheet.groups)) r.loading.sheet =
-            inner (inner_lists here.inside kind (has_select v)) (within_group (makes_group kind) here.group (length r.loading.sheet.groups) g) (omega (arith, f, n)) stands in
-        (inside deeper stands (inner_lists here.inside kind (has_select v))
-        , λ ps s p.
-        let all = from_then l.sheet r.loading.sheet s.loading.sheet os ps from p.0 in
-        let m = more_files l.sheet s.loading.sheet (os ++ ps) all in
-        closed_ok P here e.offset kind (scope_at here e) v s (os ++ ps)
-        (h (os ++ ps) (made here e.offset kind (scope_at here e) v s) (made_from here e.offset kind (scope_at here e) v s l.sheet (os ++ ps) all)
-        (made_stands here e.offset kind (scope_at here e) v s (start_group here l.sheet s.loading.sheet st all.groups p.1) (omega (arith, f, m)) p.1)))))
+        inner (inner_lists here.inside kind (has_select v)) (within_group (makes_group kind) here.group (length r.loading.sheet.groups) g) (omega (arith, f, n)) stands in (
+          inside deeper stands (inner_lists here.inside kind (has_select v)),
+          λ ps s p.
+              let all = from_then l.sheet r.loading.sheet s.loading.sheet os ps from p.0 in
+              let m = more_files l.sheet s.loading.sheet (os ++ ps) all in
+              closed_ok P here e.offset kind (scope_at here e) v s (os ++ ps)
+              (h (os ++ ps) (made here e.offset kind (scope_at here e) v s) (made_from here e.offset kind (scope_at here e) v s l.sheet (os ++ ps) all)
+              (made_stands here e.offset kind (scope_at here e) v s (start_group here l.sheet s.loading.sheet st all.groups p.1) (omega (arith, f, m)) p.1)),
+        )))
 
     judged_ok : (here : Context) (before : List Item) (e : Element) (kids : Forest) (kind : Kind) (o : Option SheetCode) (l : Loading) → Start here l.sheet → On P l.sheet → Ok P [] (judged reads files here before e kids kind o l)
     judged_ok here before e kids kind (Some why) l st h = tt
@@ -450,9 +454,10 @@ sheet_ok reads name file others d =
       procedures = All-nil (λ (p : Procedure). In 0 0 p.group p.at);
       buffers = All-nil (λ (b : Buffer). In 0 0 b.group b.at);
       variables = All-nil (λ (v : Variable). In 0 0 v.group v.at);
-    } in
-    (first (own refl refl refl (omega arith) none) refl d
-    , λ os r p. whole_ok reads (Some file ∷ others) (name ∷ os) r (first_lost r.loading.sheet r.loading.references) (p.1, p.0.files))
+    } in (
+      first (own refl refl refl (omega arith) none) refl d,
+      λ os r p. whole_ok reads (Some file ∷ others) (name ∷ os) r (first_lost r.loading.sheet r.loading.references) (p.1, p.0.files),
+    )
 
 pub given_stands : GivenStands
 given_stands reads name file others names r d g =

@@ -1,5 +1,5 @@
 -- That the numbers of a sheet name entries.
-use Rattle.std.specs.Prelude.{◌≡◌, ℕ, List, [], ◌∷◌, Option, Some, All}
+use Rattle.std.specs.Prelude.{◌≡◌, ℕ, List, ◌∷◌, Option, Some, All}
 use Rattle.stx_base.specs.Course.{Gives}
 use Rattle.xml_events.specs.Tree.{Forest, End, Cut, Single, Nested}
 use Rattle.sheet_model.specs.Sound.{AreATree, IsInFile, StandsIn, VariablesStand}
