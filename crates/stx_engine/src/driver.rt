@@ -106,6 +106,7 @@ fn drive<H: Host>(alloc: Global, engine: Engine, host: &mut H) -> Outcome
     let mut pumped = engine.pump(Piece::Start, &mut settled);
     loop {
         if let Err(refused) = write(host, Lane::Out, settled.as_slice()) {
+            drop(engine);
             return failure(
                 alloc,
                 HostFault::Write,
@@ -123,7 +124,10 @@ fn drive<H: Host>(alloc: Global, engine: Engine, host: &mut H) -> Outcome
                 engine.pump(Piece::Bytes(&room[..got]), &mut settled)
             }
             Got::End => engine.pump(Piece::End, &mut settled),
-            Got::Failed => return failure(alloc, HostFault::Read, read),
+            Got::Failed => {
+                drop(engine);
+                return failure(alloc, HostFault::Read, read);
+            }
         };
     }
 }
