@@ -1,0 +1,9 @@
+//! Bodies as flat code, so that a run never walks lists.
+#![tactic(auto)]
+
+mod bodies;
+mod code;
+mod emit;
+mod inner;
+
+pub use code::{Code, Compiled, Op, compile};
