@@ -3,7 +3,7 @@
 
 ghost use Rattle.std.specs.Prelude.{◌≡◌};
 
-use crate::lexemes::{Drains, answer, tell, tell_at_end, tell_fault};
+use crate::lexemes::{Drains, answer, tell, tell_at_end, tell_fault, tell_over};
 use crate::reading::Reads;
 use rows::{Row, Trouble};
 use std::alloc::Global;
@@ -46,12 +46,26 @@ impl Drains for Ends {
         for _ in 0..u64::MAX {
             if let Some(offset) = taken(lexer, name) {
                 tell_end(offset, out)?;
-            } else if let Some(over) = tell_step(&answer(lexer, spare), out)? {
+            } else if let Some(over) = tell_answer(lexer, out, spare)? {
                 return Ok(over);
             }
         }
         Ok(true)
     }
+}
+
+/// Tells the next answer. None where another may be asked for, else whether the lexer is over.
+fn tell_answer(
+    lexer: &mut Lexer,
+    out: &mut String,
+    spare: &mut Spare,
+) -> Result<Option<bool>, Trouble>
+    ensures { lexer.new.ended ≡ lexer.old.ended }
+{
+    let step = answer(lexer, spare);
+    let told = tell_step(&step, out);
+    drop(step);
+    told
 }
 
 fn taken(lexer: &mut Lexer, name: &str) -> Option<u64>
@@ -77,17 +91,18 @@ fn tell_lexeme(lexeme: &Lexeme, out: &mut String) -> Result<(), Trouble> {
     Ok(())
 }
 
-/// Tells an answer. None where another may be asked for, else whether the lexer is over.
 fn tell_step(step: &Step, out: &mut String) -> Result<Option<bool>, Trouble> {
     match step {
         Step::Lexeme(lexeme) => {
             tell_lexeme(lexeme, out)?;
-            return Ok(None);
+            Ok(None)
         }
-        Step::Need => return Ok(Some(false)),
-        Step::End => out.push_str("end")?,
-        Step::Bad(fault) => tell_fault(*fault, out)?,
-        Step::Memory => return Err(Trouble::Memory),
+        Step::Need => Ok(Some(false)),
+        Step::End => tell_over(out),
+        Step::Bad(fault) => {
+            tell_fault(*fault, out)?;
+            Ok(Some(true))
+        }
+        Step::Memory => Err(Trouble::Memory),
     }
-    Ok(Some(true))
 }

@@ -9,7 +9,7 @@ use crate::reading::Reads;
 use rows::{Row, Trouble, tell_name};
 use std::alloc::Global;
 use std::fmt::Write;
-use stx_base::{Attr, Binding, First, Limits, List, Name, Spare};
+use stx_base::{Attr, Binding, First, Limits, List, Name, Spare, Text};
 use xml_events::{Event, EventReader, Pull};
 
 pub struct Events;
@@ -40,6 +40,20 @@ impl Telling {
         }
         Ok(())
     }
+
+    /// Hands on what was told, where all of it was.
+    fn end(self, told: Result<(), Trouble>, out: &mut String) -> Result<(), Trouble> {
+        let handed = match told {
+            Ok(()) => hand_on(self.text.as_str(), out),
+            Err(trouble) => Err(trouble),
+        };
+        drop(self);
+        handed
+    }
+}
+
+fn hand_on(text: &str, out: &mut String) -> Result<(), Trouble> {
+    Ok(out.push_str(text)?)
 }
 
 impl Reads for Events {
@@ -52,10 +66,9 @@ impl Reads for Events {
     ) -> Result<(), Trouble> {
         let mut reader = begun_for(alloc, row)?;
         let mut telling = Telling::new(alloc, row);
-        tell_pieces(&mut reader, pieces, marked, &mut telling)?;
-        telling.over()?;
-        out.push_str(telling.text.as_str())?;
-        Ok(())
+        let told = tell_document(&mut reader, pieces, marked, &mut telling);
+        drop(reader);
+        telling.end(told, out)
     }
 
     fn tell_again(
@@ -66,10 +79,22 @@ impl Reads for Events {
     ) -> Result<(), Trouble> {
         let mut reader = begun_for(alloc, row)?;
         let mut telling = Telling::new(alloc, row);
-        tell_document_again(&mut reader, document, &mut telling)?;
-        out.push_str(telling.text.as_str())?;
-        Ok(())
+        let told = tell_document_again(&mut reader, document, &mut telling);
+        drop(reader);
+        telling.end(told, out)
     }
+}
+
+fn tell_document(
+    reader: &mut EventReader,
+    pieces: &[&[u8]],
+    marked: bool,
+    out: &mut Telling,
+) -> Result<(), Trouble>
+    requires { reader.old.lexer.ended ≡ false }
+{
+    tell_pieces(reader, pieces, marked, out)?;
+    out.over()
 }
 
 fn tell_pieces(
@@ -144,10 +169,13 @@ fn take(reader: &mut EventReader, piece: &[u8], out: &mut Telling) -> Result<boo
 fn end(reader: &mut EventReader, out: &mut Telling) -> Result<(), Trouble> {
     reader.finish();
     drain(reader, out)?;
-    match answer(reader, &mut out.spare) {
-        Pull::End | Pull::Bad(_) => Ok(()),
-        Pull::Event(_) | Pull::Need | Pull::Memory => Ok(out.text.push_str(", and more")?),
+    let pull = answer(reader, &mut out.spare);
+    let is_over = matches!(pull, Pull::End | Pull::Bad(_));
+    drop(pull);
+    if is_over {
+        return Ok(());
     }
+    Ok(out.text.push_str(", and more")?)
 }
 
 /// Whether the reader is over.
@@ -155,27 +183,40 @@ fn drain(reader: &mut EventReader, out: &mut Telling) -> Result<bool, Trouble>
     ensures { reader.new.lexer.ended ≡ reader.old.lexer.ended }
 {
     for _ in 0..u64::MAX {
-        match answer(reader, &mut out.spare) {
-            Pull::Event(event) => tell_event(event, out)?,
-            Pull::Need => return Ok(false),
-            Pull::End => return Ok(true),
-            Pull::Bad(fault) => {
-                tell_fault(fault, &mut out.text)?;
-                return Ok(true);
-            }
-            Pull::Memory => return Err(Trouble::Memory),
+        let pull = answer(reader, &mut out.spare);
+        if let Some(over) = tell_pull(pull, out)? {
+            return Ok(over);
         }
     }
     Ok(true)
 }
 
-fn tell_event(event: Event, out: &mut Telling) -> Result<(), Trouble> {
-    if !out.brief {
-        tell(&event, &mut out.text)?;
+/// Tells an answer. None where another may be asked for, else whether the reader is over.
+fn tell_pull(pull: Pull, out: &mut Telling) -> Result<Option<bool>, Trouble> {
+    match pull {
+        Pull::Event(event) => tell_event(event, out),
+        Pull::Need => Ok(Some(false)),
+        Pull::End => Ok(Some(true)),
+        Pull::Bad(fault) => {
+            tell_fault(fault, &mut out.text)?;
+            Ok(Some(true))
+        }
+        Pull::Memory => Err(Trouble::Memory),
     }
+}
+
+fn tell_event(event: Event, out: &mut Telling) -> Result<Option<bool>, Trouble> {
+    let told = if out.brief {
+        Ok(())
+    } else {
+        tell(&event, &mut out.text)
+    };
     out.events = out.events.saturating_add(1);
     event.give_back(&mut out.spare);
-    Ok(())
+    match told {
+        Ok(()) => Ok(None),
+        Err(trouble) => Err(trouble),
+    }
 }
 
 fn tell(event: &Event, out: &mut String) -> Result<(), Trouble> {
@@ -189,20 +230,33 @@ fn tell(event: &Event, out: &mut String) -> Result<(), Trouble> {
         } => {
             write!(out, "{offset}<")?;
             tell_tag(name, attrs, decls, out)?;
-            tell_first(first, out)?;
+            tell_first(first, out)
         }
-        Event::End { offset } => write!(out, "{offset}</> ")?,
-        Event::Chars { offset, text } => write!(out, "{offset}[{}] ", text.as_str())?,
-        Event::CData { offset, text } => write!(out, "{offset}cdata[{}] ", text.as_str())?,
-        Event::Comment { offset, text } => write!(out, "{offset}comment[{}] ", text.as_str())?,
+        Event::End { offset } => Ok(write!(out, "{offset}</> ")?),
+        Event::Chars { offset, text } => tell_text(*offset, "", text, out),
+        Event::CData { offset, text } => tell_text(*offset, "cdata", text, out),
+        Event::Comment { offset, text } => tell_text(*offset, "comment", text, out),
         Event::Pi {
             offset,
             target,
             text,
-        } => write!(out, "{offset}pi[{}|{}] ", target.as_str(), text.as_str())?,
-        Event::DocumentEnd { offset } => write!(out, "{offset}end")?,
+        } => tell_instruction(*offset, target, text, out),
+        Event::DocumentEnd { offset } => Ok(write!(out, "{offset}end")?),
     }
-    Ok(())
+}
+
+fn tell_text(offset: u64, kind: &str, text: &Text, out: &mut String) -> Result<(), Trouble> {
+    Ok(write!(out, "{offset}{kind}[{}] ", text.as_str())?)
+}
+
+fn tell_instruction(
+    offset: u64,
+    target: &Text,
+    text: &Text,
+    out: &mut String,
+) -> Result<(), Trouble> {
+    let target = target.as_str();
+    Ok(write!(out, "{offset}pi[{target}|{}] ", text.as_str())?)
 }
 
 fn tell_tag(
@@ -225,9 +279,8 @@ fn tell_tag(
 
 fn tell_first(first: &First, out: &mut String) -> Result<(), Trouble> {
     match first {
-        First::Nothing => out.push_str(">- ")?,
-        First::Other => out.push_str(">* ")?,
-        First::Chars(text) => write!(out, ">'{}' ", text.as_str())?,
+        First::Nothing => Ok(out.push_str(">- ")?),
+        First::Other => Ok(out.push_str(">* ")?),
+        First::Chars(text) => Ok(write!(out, ">'{}' ", text.as_str())?),
     }
-    Ok(())
 }

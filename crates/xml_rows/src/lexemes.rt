@@ -4,8 +4,8 @@ use crate::reading::Reads;
 use rows::{Row, Trouble};
 use std::alloc::Global;
 use std::fmt::Write;
-use stx_base::{Limits, Spare, XmlFault};
-use xml_tokens::{Body, Ending, Lexer, RawAttr, Step, lex};
+use stx_base::{Limits, List, Spare, Text, XmlFault};
+use xml_tokens::{Body, Ending, Lexeme, Lexer, RawAttr, Run, Step, lex};
 
 /// Tells lexemes in one of the ways that there are.
 pub trait Drains {
@@ -69,16 +69,32 @@ pub fn tell<D: Drains>(
 ) -> Result<(), Trouble> {
     let mut lexer = begun(alloc, row.limits()?);
     let mut spare = Spare::new(alloc);
+    let told = tell_pieces::<D>(&mut lexer, row, pieces, marked, out, &mut spare);
+    drop(lexer);
+    drop(spare);
+    told
+}
+
+fn tell_pieces<D: Drains>(
+    lexer: &mut Lexer,
+    row: &Row,
+    pieces: &[&[u8]],
+    marked: bool,
+    out: &mut String,
+    spare: &mut Spare,
+) -> Result<(), Trouble>
+    requires { lexer.old.ended ≡ false }
+{
     for piece in pieces {
-        if take::<D>(&mut lexer, row, piece, out, &mut spare)? {
+        if take::<D>(lexer, row, piece, out, spare)? {
             return Ok(());
         }
         if marked {
             out.push_str("? ")?;
         }
     }
-    finish(&mut lexer);
-    D::drain(&mut lexer, row, out, &mut spare)?;
+    finish(lexer);
+    D::drain(lexer, row, out, spare)?;
     Ok(())
 }
 
@@ -119,32 +135,61 @@ impl Reads for Lexemes {
     ) -> Result<(), Trouble> {
         let mut lexer = begun(alloc, row.limits()?);
         let mut spare = Spare::new(alloc);
-        take::<Lexemes>(&mut lexer, row, document, out, &mut spare)?;
-        out.push_str("; ")?;
-        take::<Lexemes>(&mut lexer, row, b"", out, &mut spare)?;
-        out.push_str("; ")?;
-        take::<Lexemes>(&mut lexer, row, b"<a/>", out, &mut spare)?;
-        out.push_str("; ")?;
-        finish(&mut lexer);
-        Lexemes::drain(&mut lexer, row, out, &mut spare)?;
-        Ok(())
+        let told = tell_document_again(&mut lexer, row, document, out, &mut spare);
+        drop(lexer);
+        drop(spare);
+        told
     }
+}
+
+fn tell_document_again(
+    lexer: &mut Lexer,
+    row: &Row,
+    document: &[u8],
+    out: &mut String,
+    spare: &mut Spare,
+) -> Result<(), Trouble>
+    requires { lexer.old.ended ≡ false }
+{
+    take::<Lexemes>(lexer, row, document, out, spare)?;
+    out.push_str("; ")?;
+    take::<Lexemes>(lexer, row, b"", out, spare)?;
+    out.push_str("; ")?;
+    take::<Lexemes>(lexer, row, b"<a/>", out, spare)?;
+    out.push_str("; ")?;
+    finish(lexer);
+    Lexemes::drain(lexer, row, out, spare)?;
+    Ok(())
 }
 
 /// Tells an answer. None where another may be asked for, else whether the lexer is over.
 fn tell_step(step: Step, out: &mut String, spare: &mut Spare) -> Result<Option<bool>, Trouble> {
     match step {
         Step::Lexeme(lexeme) => {
-            write!(out, "{}", lexeme.offset)?;
-            tell_body(&lexeme.body, out)?;
+            let told = tell_lexeme(&lexeme, out);
             give_back(lexeme.body, spare);
-            return Ok(None);
+            match told {
+                Ok(()) => Ok(None),
+                Err(trouble) => Err(trouble),
+            }
         }
-        Step::Need => return Ok(Some(false)),
-        Step::End => out.push_str("end")?,
-        Step::Bad(fault) => tell_fault(fault, out)?,
-        Step::Memory => return Err(Trouble::Memory),
+        Step::Need => Ok(Some(false)),
+        Step::End => tell_over(out),
+        Step::Bad(fault) => {
+            tell_fault(fault, out)?;
+            Ok(Some(true))
+        }
+        Step::Memory => Err(Trouble::Memory),
     }
+}
+
+fn tell_lexeme(lexeme: &Lexeme, out: &mut String) -> Result<(), Trouble> {
+    write!(out, "{}", lexeme.offset)?;
+    tell_body(&lexeme.body, out)
+}
+
+pub fn tell_over(out: &mut String) -> Result<Option<bool>, Trouble> {
+    out.push_str("end")?;
     Ok(Some(true))
 }
 
@@ -157,11 +202,26 @@ pub fn tell_at_end<D: Drains>(
 ) -> Result<(), Trouble> {
     let mut lexer = begun(alloc, row.limits()?);
     let mut spare = Spare::new(alloc);
-    feed(&mut lexer, document)?;
-    finish(&mut lexer);
-    D::drain(&mut lexer, row, out, &mut spare)?;
+    let told = tell_last::<D>(&mut lexer, row, document, out, &mut spare);
+    drop(lexer);
+    drop(spare);
+    told
+}
+
+fn tell_last<D: Drains>(
+    lexer: &mut Lexer,
+    row: &Row,
+    document: &[u8],
+    out: &mut String,
+    spare: &mut Spare,
+) -> Result<(), Trouble>
+    requires { lexer.old.ended ≡ false }
+{
+    feed(lexer, document)?;
+    finish(lexer);
+    D::drain(lexer, row, out, spare)?;
     out.push_str("; ")?;
-    D::drain(&mut lexer, row, out, &mut spare)?;
+    D::drain(lexer, row, out, spare)?;
     Ok(())
 }
 
@@ -197,32 +257,62 @@ fn tell_body(body: &Body, out: &mut String) -> Result<(), Trouble> {
     match body {
         Body::Chars { text, blank } => {
             let mark = if *blank { "~" } else { "" };
-            write!(out, "[{}{mark}] ", text.as_str())?;
+            Ok(write!(out, "[{}{mark}] ", text.as_str())?)
         }
-        Body::End { name } => write!(out, "</{}> ", name.as_str())?,
-        Body::CData { text } => write!(out, "cdata[{}] ", text.as_str())?,
-        Body::Comment { text } => write!(out, "comment[{}] ", text.as_str())?,
-        Body::Pi { target, text } => write!(out, "pi[{}|{}] ", target.as_str(), text.as_str())?,
-        Body::Doctype => out.push_str("doctype ")?,
-        Body::Declaration => out.push_str("declaration ")?,
-        Body::Start { name, attrs, empty } => {
-            write!(out, "<{}", name.as_str())?;
-            for attr in attrs.as_slice() {
-                write!(out, " {}='{}'", attr.name.as_str(), attr.value.as_str())?;
-            }
-            out.push_str(if *empty { "/> " } else { "> " })?;
-        }
+        Body::End { name } => Ok(write!(out, "</{}> ", name.as_str())?),
+        Body::CData { text } => tell_text("cdata", text, out),
+        Body::Comment { text } => tell_text("comment", text, out),
+        Body::Pi { target, text } => tell_instruction(target, text, out),
+        Body::Doctype => Ok(out.push_str("doctype ")?),
+        Body::Declaration => Ok(out.push_str("declaration ")?),
+        Body::Start { name, attrs, empty } => tell_start(name, attrs, *empty, out),
     }
-    Ok(())
+}
+
+fn tell_text(kind: &str, text: &Text, out: &mut String) -> Result<(), Trouble> {
+    Ok(write!(out, "{kind}[{}] ", text.as_str())?)
+}
+
+fn tell_instruction(target: &Text, text: &Text, out: &mut String) -> Result<(), Trouble> {
+    Ok(write!(out, "pi[{}|{}] ", target.as_str(), text.as_str())?)
+}
+
+fn tell_start(
+    name: &Text,
+    attrs: &List<RawAttr>,
+    empty: bool,
+    out: &mut String,
+) -> Result<(), Trouble> {
+    write!(out, "<{}", name.as_str())?;
+    for attr in attrs.as_slice() {
+        write!(out, " {}='{}'", attr.name.as_str(), attr.value.as_str())?;
+    }
+    Ok(out.push_str(if empty { "/> " } else { "> " })?)
 }
 
 /// How many lexemes a document has, cut into pieces of one byte, and what ends them.
 pub fn tell_run(alloc: Global, row: &Row, out: &mut String) -> Result<(), Trouble> {
+    let limits = row.limits()?;
+    let run = run_of(alloc, limits, row.bytes(alloc)?.as_slice())?;
+    let told = tell_ending(&run, out);
+    drop(run);
+    told
+}
+
+fn run_of(alloc: Global, limits: Limits, document: &[u8]) -> Result<Run, Trouble> {
+    let pieces = bytes_apart(alloc, document)?;
+    Ok(lex(alloc, limits, &pieces)?)
+}
+
+fn bytes_apart(alloc: Global, document: &[u8]) -> Result<Vec<Vec<u8>>, Trouble> {
     let mut pieces = Vec::new(alloc);
-    for byte in &row.bytes(alloc)? {
+    for byte in document {
         pieces.push(Vec::from_slice(alloc, &[*byte])?)?;
     }
-    let run = lex(alloc, row.limits()?, &pieces)?;
+    Ok(pieces)
+}
+
+fn tell_ending(run: &Run, out: &mut String) -> Result<(), Trouble> {
     write!(out, "{} ", run.lexemes.len())?;
     match run.ending {
         Ending::End => Ok(out.push_str("end")?),

@@ -340,24 +340,54 @@ impl Writing {
         self.put(handed, put_of(alloc, part)?)
     }
 
-    fn finished(self) -> Result<Told, Trouble> {
+    /// Puts parts one after another. One that is refused changes nothing, so those behind it are put as if it weren't there.
+    fn put_all(&mut self, alloc: Global, handed: Handed, parts: &str) -> Result<(), Trouble> {
+        for part in parts.split(" | ") {
+            self.put_written(alloc, handed, part)?;
+        }
+        self.end()
+    }
+
+    fn end(&mut self) -> Result<(), Trouble> {
+        let answer = finished(&mut self.writer);
+        self.told.end(answer)
+    }
+
+    /// The same, with a bar behind the bytes of each part.
+    fn put_apart(&mut self, alloc: Global, parts: &str) -> Result<(), Trouble> {
+        self.told.bytes.extend_from_slice(b"<?head?>")?;
+        for part in parts.split(" | ") {
+            self.put_written(alloc, Handed::Lent, part)?;
+            self.told.bytes.push(b'|')?;
+        }
+        self.end()
+    }
+
+    /// What was told, where all of it was.
+    fn told(self, put: Result<(), Trouble>) -> Result<Told, Trouble> {
         let Writing {
-            mut writer,
-            spare: _spare,
-            mut told,
+            writer,
+            spare,
+            told,
         } = self;
-        told.end(finished(&mut writer))?;
-        Ok(told)
+        drop(writer);
+        drop(spare);
+        kept(put, told)
     }
 }
 
-/// The parts are put one after another. One that is refused changes nothing, so those behind it are put as if it weren't there.
+/// What was made, where it was made to its end.
+fn kept<T: Drop>(done: Result<(), Trouble>, made: T) -> Result<T, Trouble> {
+    match done {
+        Ok(()) => Ok(made),
+        Err(trouble) => Err(trouble),
+    }
+}
+
 fn written(alloc: Global, row: &Row, handed: Handed) -> Result<Told, Trouble> {
     let mut writing = Writing::new(alloc, row)?;
-    for part in row.given.split(" | ") {
-        writing.put_written(alloc, handed, part)?;
-    }
-    writing.finished()
+    let put = writing.put_all(alloc, handed, row.given);
+    writing.told(put)
 }
 
 fn accept(alloc: Global, opened: &mut Opened, part: &str, told: &mut Told) -> Result<(), Trouble> {
@@ -365,23 +395,40 @@ fn accept(alloc: Global, opened: &mut Opened, part: &str, told: &mut Told) -> Re
         return Ok(());
     }
     let part = part_of(alloc, part)?;
-    if !holds_cdata_text(&part) {
+    let done = accept_part(opened, &part, told);
+    drop(part);
+    done
+}
+
+fn accept_part(opened: &mut Opened, part: &Part, told: &mut Told) -> Result<(), Trouble> {
+    if !holds_cdata_text(part) {
         return Err(Trouble::Row("a text that no CDATA section has"));
     }
-    told.answer(opened.accept(&part))
+    told.answer(opened.accept(part))
 }
 
 /// The same without bytes.
 fn accepted(alloc: Global, row: &Row) -> Result<Told, Trouble> {
     let mut opened = Opened::new(alloc, row.limits()?.elements);
     let mut told = Told::new(alloc);
-    for part in row.given.split(" | ") {
-        accept(alloc, &mut opened, part, &mut told)?;
+    let done = accept_all(alloc, &mut opened, row.given, &mut told);
+    drop(opened);
+    kept(done, told)
+}
+
+fn accept_all(
+    alloc: Global,
+    opened: &mut Opened,
+    parts: &str,
+    told: &mut Told,
+) -> Result<(), Trouble> {
+    for part in parts.split(" | ") {
+        accept(alloc, opened, part, told)?;
     }
-    if !opened.closed() {
-        told.fault(ResultFault::UnclosedResult)?;
+    if opened.closed() {
+        return Ok(());
     }
-    Ok(told)
+    told.fault(ResultFault::UnclosedResult)
 }
 
 /// What comes of the parts in a way to hand them over.
@@ -422,12 +469,8 @@ fn tell_other(
 /// The bytes that each part adds, with a bar behind them. They are appended to what is there.
 pub fn tell_settled(alloc: Global, row: &Row, out: &mut String) -> Result<(), Trouble> {
     let mut writing = Writing::new(alloc, row)?;
-    writing.told.bytes.extend_from_slice(b"<?head?>")?;
-    for part in row.given.split(" | ") {
-        writing.put_written(alloc, Handed::Lent, part)?;
-        writing.told.bytes.push(b'|')?;
-    }
-    let told = writing.finished()?;
+    let put = writing.put_apart(alloc, row.given);
+    let told = writing.told(put)?;
     Ok(out.push_str(told.text(alloc)?.as_str())?)
 }
 
@@ -463,25 +506,40 @@ fn put_at_once(
 /// back, and not before the first one.
 pub fn tell_at_once(alloc: Global, row: &Row, out: &mut String) -> Result<(), Trouble> {
     let mut writer = begun(alloc, row)?;
-    if writer.takes_at_once(attributes_of(alloc, row.given)?.as_slice()) {
+    let mut told = Told::new(alloc);
+    let done = tell_attributes(alloc, row.given, &mut writer, &mut told, out);
+    drop(writer);
+    let told = kept(done, told)?;
+    Ok(out.push_str(told.text(alloc)?.as_str())?)
+}
+
+fn tell_attributes(
+    alloc: Global,
+    written: &str,
+    writer: &mut Writer,
+    told: &mut Told,
+    out: &mut String,
+) -> Result<(), Trouble> {
+    if takes(writer, &attributes_of(alloc, written)?) {
         out.push_str("at once before a start, ")?;
     }
-    let mut told = Told::new(alloc);
+    start(alloc, writer, told)?;
+    put_at_once(alloc, writer, attributes_of(alloc, written)?, told)
+}
+
+fn takes(writer: &Writer, attrs: &List<Attr>) -> bool {
+    writer.takes_at_once(attrs.as_slice())
+}
+
+/// Starts an element.
+fn start(alloc: Global, writer: &mut Writer, told: &mut Told) -> Result<(), Trouble> {
     let name = Name {
         uri: Text::new(alloc),
         local: Text::of(alloc, "e")?,
         prefix: Text::new(alloc),
     };
-    let put = put_start(&mut writer, name, &List::new(alloc), &mut told.bytes);
-    told.answer(put)?;
-    put_at_once(
-        alloc,
-        &mut writer,
-        attributes_of(alloc, row.given)?,
-        &mut told,
-    )?;
-    out.push_str(told.text(alloc)?.as_str())?;
-    Ok(())
+    let put = put_start(writer, name, &List::new(alloc), &mut told.bytes);
+    told.answer(put)
 }
 
 /// What is written of one text.

@@ -1,5 +1,5 @@
 use Rattle.std.proofs.Common.{◌≡◌, false}
-use Rattle.xml_rows.proofs.lexemes.tell.Given as goal
+use Rattle.xml_rows.proofs.lexemes.tell_pieces.Given as goal
 
 abbrev pub invariant-loop-piece : goal.invariant-loop-piece
 invariant-loop-piece g l = l.lexer.ended ≡ false
