@@ -1,4 +1,5 @@
 pub mod Ending
 pub mod Keeping
+pub mod Resuming
 pub mod Standing
 pub mod Versions

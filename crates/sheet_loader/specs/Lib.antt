@@ -9,6 +9,7 @@ pub mod Read
 pub mod Reading
 pub mod References
 pub mod Referring
+pub mod Resuming
 pub mod Rows
 pub mod Standing
 pub mod Tags

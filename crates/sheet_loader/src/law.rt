@@ -1,8 +1,12 @@
 //! Laws of the definitions, as contracts.
 
+ghost use Rattle.std.specs.Prelude.{List, Option};
 ghost use Rattle.sheet_loader.specs.Laws.{ComesToOne, LoadsAsBefore};
+ghost use Rattle.sheet_loader.specs.Reading.{File};
+ghost use Rattle.sheet_loader.specs.Resuming.{Begins, CutsList, EndsList, OpensElement, OpensFile, OpensLiteral, OpensPart, PassesOver, TakesElement, TakesText};
 ghost use Rattle.sheet_loader.specs.Rows.{Again, Empty, Included, Includes, Kinds, Lost, Missing, NoBranch, NoElement, NoName, NoTransform, OtherVersion, OutOfPlace, Sections, SpaceInPlace, TextOutOfPlace, UnknownBeforeMissing, Waits};
 ghost use Rattle.sheet_loader.specs.Standing.{GivenStands};
+ghost use Rattle.sheet_loader.specs.Values.{Reads};
 
 /// Each set of files comes to one answer: a sheet, or how its reading ends without one, with the names that were opened.
 pub fn one_answer()
@@ -17,6 +21,20 @@ pub fn versions()
 /// In a sheet that is given the groups are a tree, each number of a group or of a file names one, and the files are those that were opened.
 pub fn standing()
     ensures { GivenStands }
+{}
+
+/// Each thing that comes is done by going on with what is open.
+pub fn resuming()
+    ensures ends { (reads : Reads) (files : List (Option File)) → EndsList reads files }
+    ensures cuts { (reads : Reads) (files : List (Option File)) → CutsList reads files }
+    ensures passes_over { (reads : Reads) (files : List (Option File)) → PassesOver reads files }
+    ensures text { (reads : Reads) (files : List (Option File)) → TakesText reads files }
+    ensures element { (reads : Reads) (files : List (Option File)) → TakesElement reads files }
+    ensures opens_element { (reads : Reads) (files : List (Option File)) → OpensElement reads files }
+    ensures opens_file { (reads : Reads) (files : List (Option File)) → OpensFile reads files }
+    ensures opens_literal { (reads : Reads) (files : List (Option File)) → OpensLiteral reads files }
+    ensures opens_part { (reads : Reads) (files : List (Option File)) → OpensPart reads files }
+    ensures begins { Begins }
 {}
 
 /// What small sheets come to.
