@@ -1,5 +1,6 @@
 pub mod Ending
 pub mod Keeping
+pub mod Readers
 pub mod Resuming
 pub mod Standing
 pub mod Versions

@@ -3,6 +3,8 @@ use Rattle.std.specs.Prelude.{◌≡◌, ℕ, List, codes, Option, Some, None}
 use Rattle.stx_base.specs.Course.{Answer, Given, Over, Unknown, Gives, Ends}
 use Rattle.stx_base.specs.declared.limits.Limits.{Limits}
 use Rattle.stx_base.specs.declared.name.Attr.{Attr}
+use Rattle.stx_base.specs.declared.name.Binding.{Binding}
+use Rattle.stxpath_syntax.specs.declared.dialect.Dialect.{Dialect}
 use Rattle.sheet_loader.specs.Files.{Documents, load, nodes_within, old_load}
 use Rattle.sheet_loader.specs.Load.{outcome, sheet_of}
 use Rattle.sheet_loader.specs.Read.{code_of_job}
@@ -40,3 +42,12 @@ LoadsAsBefore =
     (reads : Reads) (limits : Limits) (docs : Documents) (name : List ℕ)
     → AllSayOne limits docs
     → load reads limits docs name ≡ old_load reads limits docs name
+
+-- Texts of the path language are read in one way: there is such a record of readings, and all of them agree.
+abbrev pub ReadsInOneWay : Type 0
+ReadsInOneWay =
+    Reads
+    × ((a b : Reads) (dialect : Dialect) (scope : List Binding) (text : List ℕ)
+    → (a.expression dialect scope text ≡ b.expression dialect scope text)
+    × (a.pattern dialect scope text ≡ b.pattern dialect scope text)
+    × (a.template dialect scope text ≡ b.template dialect scope text))

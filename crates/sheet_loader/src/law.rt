@@ -1,12 +1,17 @@
 //! Laws of the definitions, as contracts.
 
 ghost use Rattle.std.specs.Prelude.{List, Option};
-ghost use Rattle.sheet_loader.specs.Laws.{ComesToOne, LoadsAsBefore};
+ghost use Rattle.sheet_loader.specs.Laws.{ComesToOne, LoadsAsBefore, ReadsInOneWay};
 ghost use Rattle.sheet_loader.specs.Reading.{File};
 ghost use Rattle.sheet_loader.specs.Resuming.{Begins, CutsList, EndsList, OpensElement, OpensFile, OpensLiteral, OpensPart, PassesOver, TakesElement, TakesText};
 ghost use Rattle.sheet_loader.specs.Rows.{Again, Empty, Included, Includes, Kinds, Lost, Missing, NoBranch, NoElement, NoName, NoTransform, OtherVersion, OutOfPlace, Sections, SpaceInPlace, TextOutOfPlace, UnknownBeforeMissing, Waits};
 ghost use Rattle.sheet_loader.specs.Standing.{GivenStands};
 ghost use Rattle.sheet_loader.specs.Values.{Reads};
+
+/// Texts of the path language are read in one way, which the definitions of sheets are given.
+pub fn readings()
+    ensures { ReadsInOneWay }
+{}
 
 /// Each set of files comes to one answer: a sheet, or how its reading ends without one, with the names that were opened.
 pub fn one_answer()
