@@ -1,3 +1,4 @@
+pub mod Content
 pub mod Ending
 pub mod Keeping
 pub mod Readers

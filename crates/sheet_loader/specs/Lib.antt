@@ -1,4 +1,5 @@
 pub mod Attributes
+pub mod Content
 pub mod Elements
 pub mod Files
 pub mod Judging

@@ -1,6 +1,7 @@
 //! Laws of the definitions, as contracts.
 
 ghost use Rattle.std.specs.Prelude.{List, Option};
+ghost use Rattle.sheet_loader.specs.Content.{WritesNodes};
 ghost use Rattle.sheet_loader.specs.Laws.{ComesToOne, LoadsAsBefore, ReadsInOneWay};
 ghost use Rattle.sheet_loader.specs.Reading.{File};
 ghost use Rattle.sheet_loader.specs.Resuming.{Begins, CutsList, EndsList, OpensElement, OpensFile, OpensLiteral, OpensPart, PassesOver, TakesElement, TakesText};
@@ -26,6 +27,11 @@ pub fn versions()
 /// In a sheet that is given the groups are a tree, each number of a group or of a file names one, and the files are those that were opened.
 pub fn standing()
     ensures { GivenStands }
+{}
+
+/// A buffer begins with the nodes of its element, written as they are.
+pub fn content()
+    ensures { WritesNodes }
 {}
 
 /// Each thing that comes is done by going on with what is open.
