@@ -1,5 +1,6 @@
 pub mod Content
 pub mod Ending
+pub mod Items
 pub mod Keeping
 pub mod Readers
 pub mod Resuming

@@ -1,13 +1,9 @@
 -- That the numbers of a sheet name entries.
-use Rattle.std.specs.Prelude.{◌≡◌, ℕ, List, ◌∷◌, Option, Some, All}
+use Rattle.std.specs.Prelude.{◌≡◌, ℕ, List, ◌∷◌, Option, Some}
 use Rattle.stx_base.specs.Course.{Gives}
 use Rattle.xml_events.specs.Tree.{Forest, End, Cut, Single, Nested}
-use Rattle.sheet_model.specs.Sound.{AreATree, IsInFile, StandsIn, VariablesStand}
-use Rattle.sheet_model.specs.declared.sheet.Buffer.{Buffer}
-use Rattle.sheet_model.specs.declared.sheet.Group.{Group}
-use Rattle.sheet_model.specs.declared.sheet.Procedure.{Procedure}
+use Rattle.sheet_model.specs.Sound.{AreATree, NumbersNameEntries}
 use Rattle.sheet_model.specs.declared.sheet.Sheet.{Sheet}
-use Rattle.sheet_model.specs.declared.sheet.Template.{Template}
 use Rattle.sheet_loader.specs.Load.{sheet_of}
 use Rattle.sheet_loader.specs.Read.{code_of_job}
 use Rattle.sheet_loader.specs.Reading.{File, Listed}
@@ -27,14 +23,10 @@ IsDocument (Cut why) = Unit {0}
 IsDocument (Single mark leaf next) = IsDocument next
 IsDocument (Nested stage e kids next) = HasNoElement next
 
--- The groups are a tree, and each number of a group or of a file names one.
+-- the groups are a tree, and each number in the sheet names an entry
 pub record Stands (s : Sheet) : Type 0 where
   pub tree : AreATree s.groups
-  pub groups : All (λ (g : Group). IsInFile s g.at) s.groups
-  pub templates : All (λ (t : Template). StandsIn s t.group t.at) s.templates
-  pub procedures : All (λ (p : Procedure). StandsIn s p.group p.at) s.procedures
-  pub buffers : All (λ (b : Buffer). StandsIn s b.group b.at) s.buffers
-  pub variables : VariablesStand s s.variables
+  pub numbers : NumbersNameEntries s
 
 -- A sheet that is given stands, and its files are the names that were opened, in order.
 abbrev pub GivenStands : Type 0

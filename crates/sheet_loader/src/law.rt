@@ -24,7 +24,7 @@ pub fn versions()
     ensures { LoadsAsBefore }
 {}
 
-/// In a sheet that is given the groups are a tree, each number of a group or of a file names one, and the files are those that were opened.
+/// In a sheet that is given the groups are a tree, each number in it names an entry, and the files are those that were opened.
 pub fn standing()
     ensures { GivenStands }
 {}
