@@ -1,0 +1,4 @@
+pub mod Finding
+pub mod Laws
+pub mod Said
+pub mod Words
