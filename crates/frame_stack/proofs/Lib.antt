@@ -2,3 +2,4 @@ pub mod Counting
 pub mod Shaped
 pub mod Standing
 pub mod Setting
+pub mod Kept

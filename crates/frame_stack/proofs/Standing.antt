@@ -1,6 +1,6 @@
 -- Frames with what is kept beside them.
 use Rattle.std.proofs.Common.{◌≡◌, ◌≢◌, ℕ, zero, suc, ◌+◌, ◌≤◌, ◌<◌, Bool, true, false, nat_eq, List, [], ◌∷◌, ◌++◌, length, get_or, take, Some, None, refl, ap, sym, ◌∙◌, subst, append_assoc, arith}
-use Rattle.std.specs.Prelude.{map, slice_get}
+use Rattle.std.specs.Prelude.{map, slice_get, slice_set, OnOk, OnErr, Result, Ok, Err}
 use Rattle.std.specs.Option.{option_map, option_map_or}
 use Rattle.std.proofs.Math.ListN.{set}
 use Rattle.std.proofs.lemmas.Bool.{eqb-true}
@@ -8,6 +8,7 @@ use Rattle.std.proofs.lemmas.List.{append-nil, length-map, map-append}
 use Rattle.std.proofs.lemmas.Option.{slice_get-get_or, slice_get-map}
 use Rattle.frame_stack.specs.declared.counted.Entry.{Entry}
 use Rattle.frame_stack.specs.declared.frame.Frame.{Frame}
+use Rattle.frame_stack.specs.Change.{changed}
 use Rattle.frame_stack.specs.Counted.{AreCounted, AreCountedOn, IsCounted, frames_of}
 use Rattle.frame_stack.specs.Frame.{instance_of, is_instance, is_list, level_of, opens_list, shape}
 use Rattle.frame_stack.specs.Level.{instances}
@@ -160,3 +161,34 @@ pub replaced_counted : (es : List Entry) (place : ℕ) (e : Entry) (f g : Frame)
 replaced_counted es place e f g frames same lt is put shapes h =
     replaced_on [] es place e g (found es place e frames same lt is)
     (ap shape put ∙ shapes e.frame (frame_found es place e frames same lt is)) h
+
+-- a change of the frame at a place that keeps its shape
+
+pub changed_counted : (f : Frame → Frame) → ((x : Frame) → shape (f x) ≡ shape x) → (es : List Entry) (place : ℕ) (e : Entry) (g : Frame) (frames : List Frame)
+    → frames_of es ≡ frames → place < length frames → e ≡ get_or es place e → g ≡ f e.frame
+    → AreCounted es → AreCounted (set es place (record e { frame = g }))
+changed_counted f keeps es place e g frames same lt is put h =
+    replaced_counted es place e (f e.frame) g frames same lt is put
+    (λ old at. let there = frame_found es place e frames same lt is in let own : e.frame ≡ old = cc in keeps e.frame ∙ ap shape own) h
+
+pub changed_frames : (f : Frame → Frame) → (es : List Entry) (place : ℕ) (e : Entry) (g : Frame) (frames : List Frame)
+    → frames_of es ≡ frames → place < length frames → e ≡ get_or es place e → g ≡ f e.frame
+    → frames_of (set es place (record e { frame = g })) ≡ changed f place frames
+changed_frames f es place e g frames same lt is put =
+    frames-set es place (record e { frame = g })
+    ∙ ap (λ x. set (frames_of es) place x) put
+    ∙ ap (λ fs. set fs place (f e.frame)) same
+    ∙ sym (ap (λ o. option_map_or (λ x. slice_set frames place (f x)) o frames) (frame_found es place e frames same lt is))
+
+-- one that may be refused, and then there is none
+pub tried_counted : {T E : Type 0} → (r : Result T E) (f : Frame → Frame) → ((x : Frame) → shape (f x) ≡ shape x)
+    → (es : List Entry) (place : ℕ) (e : Entry) (g : Frame) (frames : List Frame)
+    → frames_of es ≡ frames → place < length frames → e ≡ get_or es place e → OnOk r (g ≡ f e.frame) → OnErr r (g ≡ e.frame)
+    → AreCounted es → AreCounted (set es place (record e { frame = g }))
+tried_counted (Ok x) f keeps es place e g frames same lt is done refused h = changed_counted f keeps es place e g frames same lt is done h
+tried_counted (Err x) f keeps es place e g frames same lt is done refused h =
+    changed_counted (λ y. y) (λ y. refl) es place e g frames same lt is refused h
+
+pub on_ok : {T E P Q : Type 0} → (r : Result T E) → (P → Q) → OnOk r P → OnOk r Q
+on_ok (Ok x) f p = f p
+on_ok (Err x) f p = tt

@@ -1,3 +1,4 @@
+pub mod Change
 pub mod Counted
 pub mod Frame
 pub mod Laws

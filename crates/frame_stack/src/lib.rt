@@ -1,6 +1,7 @@
 //! The frames of a run on one explicit stack, and how many instances each level has.
 #![tactic(auto)]
 
+mod change;
 mod counted;
 mod fault;
 mod frame;

@@ -1,13 +1,17 @@
-ghost use Rattle.std.specs.Prelude.{◌≡◌, ℕ, ◌-◌, ◌<◌, [], ◌∷◌, ◌++◌, length, MatchOption, IfErr, OnOk, OnErr, Some, slice_get, slice_set};
+ghost use Rattle.std.specs.Prelude.{◌≡◌, ℕ, ◌-◌, ◌<◌, ◌≤◌, [], ◌∷◌, ◌++◌, length, take, MatchOption, IfErr, OnOk, OnErr, Some, slice_get, slice_set};
 ghost use Rattle.std.specs.Option.{option_copied};
 ghost use Rattle.frame_stack.specs.Frame.{instance_of, shape};
+ghost use Rattle.frame_stack.specs.Change.{changed, locals_of, with_depth, with_locals, with_next, with_pc, with_spent, with_turn};
 ghost use Rattle.frame_stack.specs.Level.{instances};
+ghost use Rattle.frame_stack.specs.Locals.{local, with_value};
 
 use crate::counted::{Entry, counted};
 use crate::fault::FrameFault;
 use crate::frame::Frame;
 use std::alloc::Global;
 use std::marker::Model;
+use stx_base::{List, Memory, Name};
+use stxpath_values::Atom;
 
 /// The frames of a run, the innermost last. The instances of a level are its templates' and procedures' bodies; two frames
 /// are of one level where they have the same number and no list that is open by itself, of a source or of attributes, stands
@@ -102,5 +106,80 @@ impl Frames {
         ensures old { slice_get self.old.frames place ≡ Some result }
     {
         std::mem::replace(&mut self.entries[place].frame, frame)
+    }
+
+    /// Gives the body at a place another next operation. Allocates nothing.
+    pub fn set_pc(&mut self, place: usize, next: u32)
+        requires { place < length self.old.frames }
+        ensures { self.new ≡ with_frames (changed (with_pc next) place self.old.frames) self.old }
+    {
+        let frame = &mut self.entries[place].frame;
+        frame.set_pc(next);
+    }
+
+    /// Says whether the children of the node of the template's body at a place are processed or skipped. Allocates nothing.
+    pub fn set_spent(&mut self, place: usize, gone: bool)
+        requires { place < length self.old.frames }
+        ensures { self.new ≡ with_frames (changed (with_spent gone) place self.old.frames) self.old }
+    {
+        let frame = &mut self.entries[place].frame;
+        frame.set_spent(gone);
+    }
+
+    /// Says how many items the loop at a place has bound. Allocates nothing.
+    pub fn set_turn(&mut self, place: usize, bound: u32)
+        requires { place < length self.old.frames }
+        ensures { self.new ≡ with_frames (changed (with_turn bound) place self.old.frames) self.old }
+    {
+        let frame = &mut self.entries[place].frame;
+        frame.set_turn(bound);
+    }
+
+    /// Says what comes next in the list at a place, which is open by itself. Allocates nothing.
+    pub fn set_next(&mut self, place: usize, number: usize)
+        requires { place < length self.old.frames }
+        ensures { self.new ≡ with_frames (changed (with_next number) place self.old.frames) self.old }
+    {
+        let frame = &mut self.entries[place].frame;
+        frame.set_next(number);
+    }
+
+    /// Says how many of the nodes that are skipped are open. Allocates nothing.
+    pub fn set_depth(&mut self, place: usize, nodes: u32)
+        requires { place < length self.old.frames }
+        ensures { self.new ≡ with_frames (changed (with_depth nodes) place self.old.frames) self.old }
+    {
+        let frame = &mut self.entries[place].frame;
+        frame.set_depth(nodes);
+    }
+
+    /// Appends a local to those of the body at a place. After a refusal nothing has changed.
+    pub fn push_local(&mut self, place: usize, name: Name, value: List<Atom>) -> Result<(), Memory>
+        requires { place < length self.old.frames }
+        ensures ok { OnOk result (self.new ≡ with_frames (changed (with_locals (λ locals. locals ++ local name value ∷ [])) place self.old.frames) self.old) }
+        ensures err { OnErr result (self.new ≡ self.old) }
+    {
+        let frame = &mut self.entries[place].frame;
+        frame.push_local(name, value)
+    }
+
+    /// Gives a local of the body at a place another value. Allocates nothing.
+    pub fn set_local(&mut self, place: usize, index: usize, value: List<Atom>)
+        requires place { place < length self.old.frames }
+        requires index { (frame : Frame) → slice_get self.old.frames place ≡ Some frame → index < length (locals_of frame) }
+        ensures { self.new ≡ with_frames (changed (with_locals (with_value index value)) place self.old.frames) self.old }
+    {
+        let frame = &mut self.entries[place].frame;
+        frame.set_local(index, value);
+    }
+
+    /// Keeps the first `len` locals of the body at a place. Allocates nothing.
+    pub fn cut_locals(&mut self, place: usize, len: usize)
+        requires place { place < length self.old.frames }
+        requires len { (frame : Frame) → slice_get self.old.frames place ≡ Some frame → len ≤ length (locals_of frame) }
+        ensures { self.new ≡ with_frames (changed (with_locals (take len)) place self.old.frames) self.old }
+    {
+        let frame = &mut self.entries[place].frame;
+        frame.cut_locals(len);
     }
 }
