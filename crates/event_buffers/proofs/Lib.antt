@@ -1,0 +1,10 @@
+mod Contents
+mod Copies
+mod Declaring
+mod Forests
+mod Growing
+mod Joining
+mod Layers
+mod Laying
+mod Parts
+mod Sections

@@ -1,0 +1,10 @@
+pub mod Buffers
+pub mod Declaring
+pub mod Forest
+pub mod Inside
+pub mod Kept
+pub mod Layer
+pub mod Laws
+pub mod Sections
+pub mod Told
+pub mod Weight
