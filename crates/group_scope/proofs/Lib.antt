@@ -1,0 +1,17 @@
+mod Turns
+mod Ordering
+mod Among
+mod Best
+mod Scanning
+mod Passing
+mod Pushing
+mod Finding
+mod Last
+mod Lasting
+mod Homing
+mod Outward
+mod Exact
+mod Gathering
+mod Sorting
+mod Filled
+mod Lawful

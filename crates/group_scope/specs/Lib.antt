@@ -1,0 +1,10 @@
+pub mod Rank
+pub mod Choice
+pub mod Words
+pub mod Entries
+pub mod Homes
+pub mod Rows
+pub mod Filling
+pub mod Scopes
+pub mod Asking
+pub mod Laws

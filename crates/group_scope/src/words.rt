@@ -1,0 +1,134 @@
+//! Numbers for the texts that the tests of a sheet name.
+
+ghost use Rattle.std.specs.Prelude.{◌≡◌};
+ghost use Rattle.node_stack.specs.Open.{node_of};
+ghost use Rattle.node_stack.specs.Path.{kind_of};
+ghost use Rattle.group_scope.specs.Words as spec;
+
+use crate::key::Test;
+use indexmap::IndexSet;
+use node_stack::NodeView;
+use std::alloc::Global;
+use stx_base::{Memory, Name, NodeTest, Text};
+
+/// The texts that tests name, each once.
+#[derive(Drop)]
+pub struct Words {
+    texts: IndexSet<String>,
+}
+
+impl Words {
+    pub fn new(alloc: Global) -> Words {
+        Words {
+            texts: IndexSet::new(alloc),
+        }
+    }
+
+    /// Takes up the texts of a test.
+    pub fn note(&mut self, alloc: Global, test: &NodeTest) -> Result<(), Memory> {
+        match test {
+            NodeTest::Name(name) | NodeTest::AttrName(name) => self.note_name(alloc, name),
+            NodeTest::Prefix(binding) | NodeTest::AttrPrefix(binding) => {
+                self.note_text(alloc, &binding.uri)
+            }
+            NodeTest::Pi(target) => self.note_text(alloc, target),
+            _ => Ok(()),
+        }
+    }
+
+    fn note_name(&mut self, alloc: Global, name: &Name) -> Result<(), Memory> {
+        self.note_text(alloc, &name.uri)?;
+        self.note_text(alloc, &name.local)
+    }
+
+    fn note_text(&mut self, alloc: Global, text: &Text) -> Result<(), Memory> {
+        if self.number(text).is_none() {
+            let text = String::from_str(alloc, text.as_str())?;
+            self.texts.insert(text)?;
+        }
+        Ok(())
+    }
+
+    fn number(&self, text: &Text) -> Option<usize>
+        ensures { result ≡ spec.number self.now text.now }
+    {
+        self.texts.get_index_of(text.as_str())
+    }
+
+    /// A test by the numbers of its texts.
+    pub fn numbered(&self, test: &NodeTest) -> Test
+        ensures { result ≡ spec.numbered self.now test.now }
+    {
+        match test {
+            NodeTest::Document => Test::Document,
+            NodeTest::Name(name) => Test::Name(self.number(&name.uri), self.number(&name.local)),
+            NodeTest::Prefix(binding) => Test::Prefix(self.number(&binding.uri)),
+            NodeTest::AnyElement => Test::AnyElement,
+            NodeTest::AnyNode => Test::AnyNode,
+            NodeTest::Chars => Test::Chars,
+            NodeTest::CData => Test::CData,
+            NodeTest::Comment => Test::Comment,
+            NodeTest::AnyPi => Test::AnyPi,
+            NodeTest::Pi(target) => Test::Pi(self.number(target)),
+            NodeTest::AttrName(name) => {
+                Test::AttrName(self.number(&name.uri), self.number(&name.local))
+            }
+            NodeTest::AttrPrefix(binding) => Test::AttrPrefix(self.number(&binding.uri)),
+            NodeTest::AnyAttr => Test::AnyAttr,
+        }
+    }
+
+    /// The tests that a node can pass.
+    pub fn asked(&self, node: NodeView<'_>) -> [Option<Test>; 4]
+        ensures { result ≡ spec.asked self.now (kind_of (node_of node.entry)) }
+    {
+        match node {
+            NodeView::Document => [Some(Test::Document), None, None, None],
+            NodeView::Element { name, .. } => self.of_element(name),
+            NodeView::Chars(_) => [Some(Test::Chars), Some(Test::AnyNode), None, None],
+            NodeView::CData(_) => [
+                Some(Test::CData),
+                Some(Test::Chars),
+                Some(Test::AnyNode),
+                None,
+            ],
+            NodeView::Comment(_) => [Some(Test::Comment), Some(Test::AnyNode), None, None],
+            NodeView::Pi { target, .. } => {
+                let target = self.number(target);
+                [
+                    Some(Test::Pi(target)),
+                    Some(Test::AnyPi),
+                    Some(Test::AnyNode),
+                    None,
+                ]
+            }
+            NodeView::Attribute(attr) => self.of_attribute(&attr.name),
+        }
+    }
+
+    fn of_element(&self, name: &Name) -> [Option<Test>; 4]
+        ensures { result ≡ spec.of_element self.now name.now }
+    {
+        let uri = self.number(&name.uri);
+        let local = self.number(&name.local);
+        [
+            Some(Test::Name(uri, local)),
+            Some(Test::Prefix(uri)),
+            Some(Test::AnyElement),
+            Some(Test::AnyNode),
+        ]
+    }
+
+    fn of_attribute(&self, name: &Name) -> [Option<Test>; 4]
+        ensures { result ≡ spec.of_attribute self.now name.now }
+    {
+        let uri = self.number(&name.uri);
+        let local = self.number(&name.local);
+        [
+            Some(Test::AttrName(uri, local)),
+            Some(Test::AttrPrefix(uri)),
+            Some(Test::AnyAttr),
+            None,
+        ]
+    }
+}
