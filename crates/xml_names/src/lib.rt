@@ -10,5 +10,6 @@ mod scopes;
 mod twins;
 mod words;
 
+pub use parts::{Parts, is_qname, parts_of};
 pub use resolved::{NameFault, Resolved};
 pub use scopes::Scopes;
