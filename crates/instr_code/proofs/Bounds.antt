@@ -10,6 +10,7 @@ use Rattle.instr_code.specs.Layout.{branches, list_piece, piece_of, pieces}
 use Rattle.instr_code.specs.Piece.{Piece, dropped, in_order}
 use Rattle.instr_code.specs.declared.inner.Inner.{Inner}
 use Rattle.instr_code.specs.declared.inner.Inner.TheVariants as inside
+use Rattle.instr_code.proofs.Counts.{piece-count}
 use Rattle.instr_code.proofs.Forms.{children_are, unrolled}
 use Rattle.instr_code.proofs.Turns.{count-append, count_of, size-append, size_of}
 use Rattle.sheet_model.specs.Body.{bodies, body_nesting, children, in_order as all_within, instructions}
@@ -29,26 +30,14 @@ short : (n : ℕ) → (dropped n).size ≤ 1
 short zero = omega arith
 short (suc n) = omega arith
 
-unnumbered : (n : ℕ) → (dropped n).numbers ≡ 0
-unnumbered zero = refl
-unnumbered (suc n) = refl
-
 list-size : (own : ℕ) (list : List Instr) → (list_piece own list).size ≤ size_of list + 1
 list-size own list = omega (arith, short ((in_order (pieces list)).locals + own))
-
-list-count : (own : ℕ) (list : List Instr) → (list_piece own list).numbers ≡ count_of list
-list-count own list = omega (arith, unnumbered ((in_order (pieces list)).locals + own))
 
 branches-bound : (i a o p : ℕ) (lists : List (List Instr))
     → (branches i a o p (map (list_piece 0) lists)).size ≤ 3 * length lists + size_of (joined lists)
 branches-bound i a o p [] = omega arith
 branches-bound i a o p (l ∷ ls) =
     omega (arith, list-size 0 l, size-append l (joined ls), branches-bound i (suc a) o (p + (list_piece 0 l).size + 2) ls)
-
-branches-count : (i a o p : ℕ) (lists : List (List Instr)) → (branches i a o p (map (list_piece 0) lists)).numbers ≡ count_of (joined lists)
-branches-count i a o p [] = refl
-branches-count i a o p (l ∷ ls) =
-    omega (arith, list-count 0 l, count-append l (joined ls), branches-count i (suc a) o (p + (list_piece 0 l).size + 2) ls)
 
 abbrev branches_of : Inner → ℕ
 branches_of (inside.Choices bodies other) = length bodies
@@ -62,15 +51,6 @@ inner-bound (inside.Choice body other) = omega (arith, list-size 0 body, list-si
 inner-bound (inside.Choices bodies other) = omega (arith, list-size 0 other, size-append (joined bodies) other, branches-bound 0 0 2 3 bodies)
 inner-bound (inside.While body) = omega (arith, list-size 0 body)
 inner-bound (inside.ForEach body) = omega (arith, list-size 1 body)
-
-inner-count : (x : Inner) → (inner_ops x 0 0).numbers ≡ count_of (listed x)
-inner-count inside.Nothing = refl
-inner-count inside.Local = refl
-inner-count (inside.Round body) = omega (arith, list-count 0 body)
-inner-count (inside.Choice body other) = omega (arith, list-count 0 body, list-count 0 other, count-append body other)
-inner-count (inside.Choices bodies other) = omega (arith, list-count 0 other, count-append (joined bodies) other, branches-count 0 0 2 3 bodies)
-inner-count (inside.While body) = omega (arith, list-count 0 body)
-inner-count (inside.ForEach body) = omega (arith, list-count 1 body)
 
 branches-listed : (x : Instr-F Instr When) → branches_of (inner_layer x) ≤ listed_in x
 branches-listed (Instr-F.ValueOf select separator at) = omega arith
@@ -105,11 +85,6 @@ piece-bound : (i : Instr) → (piece_of i).size ≤ 4 + 3 * own_entries (out-Ins
 piece-bound i =
     let size : (piece_of i).size ≡ (inner_ops (inner_of i) 0 0).size = ap (λ (x : Piece). x.size) (unrolled i) in
     omega (arith, size, inner-bound (inner_of i), branches-listed (out-Instr i), ap size_of (children_are i))
-
-piece-count : (i : Instr) → (piece_of i).numbers ≡ count_of (children i) + 1
-piece-count i =
-    let numbers : (piece_of i).numbers ≡ (inner_ops (inner_of i) 0 0).numbers + 1 = ap (λ (x : Piece). x.numbers) (unrolled i) in
-    omega (arith, numbers, inner-count (inner_of i), ap count_of (children_are i))
 
 entries_parted : (n : ℕ) (i : Instr) (body : List Instr)
     → sum_by instruction_entries (all_within (suc n) (i ∷ body))

@@ -1,8 +1,20 @@
-mod Pieces
+pub mod Pieces
 mod Putting
 mod Laying
-mod Forms
-mod Turns
-mod Bounds
+pub mod Forms
+pub mod Turns
+pub mod Counts
+pub mod Bounds
 mod PuttingBodies
 mod Compiling
+pub mod Sized
+mod Acts
+mod Lengths
+pub mod Counting
+pub mod Standing
+mod Opening
+mod Stepping
+mod Forward
+mod Backward
+mod Seats
+mod Wholes

@@ -4,3 +4,7 @@ pub mod Layout
 pub mod Code
 pub mod Emitting
 pub mod Bodies
+pub mod Steps
+pub mod Acts
+pub mod Running
+pub mod Laws

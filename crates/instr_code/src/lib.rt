@@ -5,5 +5,6 @@ mod bodies;
 mod code;
 mod emit;
 mod inner;
+pub mod law;
 
 pub use code::{Code, Compiled, Op, compile};
