@@ -1,0 +1,4 @@
+mod Conditions
+mod Finding
+mod Outermost
+mod Rising

@@ -1,0 +1,4 @@
+pub mod Ends
+pub mod Standing
+pub mod Looking
+pub mod Laws
