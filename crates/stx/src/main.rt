@@ -1,4 +1,4 @@
-//! Applies a sheet to the document on standard input: `stx SHEET < document`.
+//! Applies a sheet to the document on standard input: `stx SHEET [NAME=VALUE]... < document`. `README.md` has the options.
 #![tactic(auto)]
 
 use std::env::Env;

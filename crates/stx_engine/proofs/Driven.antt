@@ -20,7 +20,8 @@ use Rattle.stx_host.proofs.CopiedSoFar.{and_nothing_more, fits_of, given_of, mai
 use Rattle.stx_host.proofs.Stretches.{between_joins, between_read, between_writes, between_fault, nothing_between, main_read-append, main_read-writes, main_reads_one, main_reads_writes}
 use Rattle.result_writer.specs.declared.fault.ResultFault.{ResultFault}
 use Rattle.stx_engine.specs.Answer.{code_of, outcome_of, result_of, run_on}
-use Rattle.stx_engine.specs.Driving.{CountsBy, Drives, EndOnce, EndsAs, FailedAt, FailsBy, IsSettledAt, RefusesSome, SameCounts, counted, main_gots}
+use Rattle.stx_engine.specs.Driving.{CountsBy, Drives, EndOnce, EndsAs, FailedAt, FailsBy, IsSettledAt, RefusesSome, SameCounts, main_gots}
+use Rattle.stx_engine.specs.RunEnd.{counted}
 use Rattle.stx_engine.specs.Engine.{Appends, IsWaiting, Means, Pumps, StoppedBy, more, more_of}
 use Rattle.stx_engine.specs.Loading.{is_doc_read, opens}
 use Rattle.stx_engine.specs.More.{Given, ahead}
@@ -31,10 +32,10 @@ use Rattle.stx_engine.specs.declared.engine.Engine.{Engine}
 use Rattle.stx_engine.specs.declared.engine.Piece.TheVariants.{Start, End}
 use Rattle.stx_engine.specs.declared.engine.Pumped.{Pumped}
 use Rattle.stx_engine.specs.declared.engine.Pumped.TheVariants as pumped
-use Rattle.stx_engine.specs.declared.outcome.HostFault.{HostFault}
-use Rattle.stx_engine.specs.declared.outcome.HostFault.TheVariants as fault
-use Rattle.stx_engine.specs.declared.outcome.Outcome.{Outcome}
-use Rattle.stx_engine.specs.declared.outcome.Outcome.TheVariants.{Done, Run, Usage, Sheet, Xml, Host, Memory}
+use Rattle.fault_report.specs.declared.outcome.HostFault.{HostFault}
+use Rattle.fault_report.specs.declared.outcome.HostFault.TheVariants as fault
+use Rattle.fault_report.specs.declared.outcome.Outcome.{Outcome}
+use Rattle.fault_report.specs.declared.outcome.Outcome.TheVariants.{Done, Run, Usage, Sheet, Xml, Host, Fuel, Memory}
 use Rattle.stx_engine.specs.declared.pass.Pass.{Pass}
 use Rattle.stx_engine.proofs.Loading.{counts_join}
 use Rattle.stx_engine.proofs.Prefixes.{begins_after, begins_front}
@@ -109,7 +110,7 @@ take-front n room rest fits = take-append-le n (take n room) rest (omega (arith,
 pub counted_more : (m n : ℕ) → counted (counted m + n) ≡ counted (m + n)
 counted_more m n = omega arith
 
-wrote-counts : (now new : Outside) (lens bytes : List ℕ) → new ≡ wrote now Out lens bytes → SameCounts now new
+pub wrote-counts : (now new : Outside) (lens bytes : List ℕ) → new ≡ wrote now Out lens bytes → SameCounts now new
 wrote-counts now new lens bytes is = record { doc = ap (λ o. o.doc_faults) is; main = ap (λ o. o.main_faults) is; out = ap (λ o. o.out_faults) is; note = ap (λ o. o.note_faults) is }
 
 read-counts : (now new : Outside) (n : ℕ) → Reads now 0 (Got' n) new → SameCounts now new
@@ -135,7 +136,7 @@ module _ (start : Engine) (main : List ℕ) where
   ahead_twice xs ys g = ap (λ l. record g { bytes = l }) (sym (append_assoc xs ys g.bytes))
 
   -- after a piece: what was to come of it came, where `front` came before, and the piece gives the whole
-  goes-piece : (given : List ℕ → Bool → Given) (new : Engine) (n : ℕ) (front appended : List ℕ) (p : Pumped)
+  pub goes-piece : (given : List ℕ → Bool → Given) (new : Engine) (n : ℕ) (front appended : List ℕ) (p : Pumped)
       → ((bytes : List ℕ) (ended : Bool) → p ≡ pumped.Main → more_of start Start (take n main ++ bytes) ended ≡ ahead front (given bytes ended))
       → (rest : List ℕ) (at_end : Bool) → whole ≡ ahead front (given rest at_end)
       → Appends given start.sheet new appended p → Goes new n (front ++ appended) p
@@ -145,6 +146,7 @@ module _ (start : Engine) (main : List ℕ) where
   goes-piece given new n front appended pumped.Stopped step rest at_end all a = by_outcome new.outcome a where
     by_outcome : (o : Option Outcome) → StoppedBy start.sheet o appended given → StoppedBy start.sheet o (front ++ appended) (λ bytes ended. whole)
     by_outcome (Some (Xml file fault)) s = (s.0, λ bytes ended. all ∙ ap (ahead front) (s.1 rest at_end))
+    by_outcome (Some (Fuel file offset)) s = absurd s
     by_outcome (Some (Run file code offset)) s = (s.0, s.1, s.2, s.3, λ bytes ended. all ∙ ap (ahead front) (s.4 rest at_end))
     by_outcome (Some Memory) s = λ bytes ended. subst (λ g. Begins (front ++ appended) g.bytes) (sym all) (begins_after front appended (given rest at_end).bytes (s rest at_end))
     by_outcome (Some Done) s = absurd s
@@ -154,7 +156,7 @@ module _ (start : Engine) (main : List ℕ) where
     by_outcome None s = absurd s
 
   -- what was appended is a beginning
-  goes-begins : (e : Engine) (n : ℕ) (appended : List ℕ) (p : Pumped) → Goes e n appended p → Begins appended whole.bytes
+  pub goes-begins : (e : Engine) (n : ℕ) (appended : List ℕ) (p : Pumped) → Goes e n appended p → Begins appended whole.bytes
   goes-begins e n appended pumped.Main goes = (
     (more e (drop n main) true).bytes,
     sym (ap (λ g. g.bytes) (goes (drop n main) true)) ∙ ap (λ l. (more_of start Start l true).bytes) (take-append-drop n main),
@@ -163,6 +165,7 @@ module _ (start : Engine) (main : List ℕ) where
   goes-begins e n appended pumped.Stopped goes = by_outcome e.outcome goes where
     by_outcome : (o : Option Outcome) → StoppedBy start.sheet o appended (λ bytes ended. whole) → Begins appended whole.bytes
     by_outcome (Some (Xml file fault)) s = ([], append-nil appended ∙ sym (ap (λ g. g.bytes) (s.1 main true)))
+    by_outcome (Some (Fuel file offset)) s = absurd s
     by_outcome (Some (Run file code offset)) s = ([], append-nil appended ∙ sym (ap (λ g. g.bytes) (s.4 main true)))
     by_outcome (Some Memory) s = s main true
     by_outcome (Some Done) s = absurd s
@@ -184,19 +187,19 @@ module _ (limits : Limits) (pass : Pass) (start : Engine) where
 
   -- how an engine ended, by what it wants: a part is refused only where the run on some document ends so; and where more is
   -- wanted, some bytes were handed in
-  abbrev IsStop : Option Outcome → Type 0
+  abbrev pub IsStop : Option Outcome → Type 0
   IsStop (Some (Xml file fault)) = Unit {0}
   IsStop (Some (Run file code offset)) = (bytes : List ℕ) × (ended : Bool) × (fault : ResultFault) × ((more_of start Start bytes ended).ending ≡ Refused fault)
   IsStop (Some Memory) = Unit {0}
   IsStop outcome = ⊥
 
-  abbrev StopsBy : Pumped → Engine → Type 0
+  abbrev pub StopsBy : Pumped → Engine → Type 0
   StopsBy pumped.Main e = (front : List ℕ) × ((bytes : List ℕ) (ended : Bool) → (more_of start Start (front ++ bytes) ended).ending ≡ (more e bytes ended).ending)
   StopsBy pumped.Done e = e.outcome ≡ Some Done
   StopsBy pumped.Stopped e = IsStop e.outcome
 
   -- after a piece: `front` was handed in, and what was to come of the piece ends as some document does
-  stops-by : (given : List ℕ → Bool → Given) (new : Engine) (appended : List ℕ) (p : Pumped) (front : List ℕ)
+  pub stops-by : (given : List ℕ → Bool → Given) (new : Engine) (appended : List ℕ) (p : Pumped) (front : List ℕ)
       → (p ≡ pumped.Main → (bytes : List ℕ) (ended : Bool) → (more_of start Start (front ++ bytes) ended).ending ≡ (given bytes ended).ending)
       → (document : List ℕ) (ended : Bool) (rest : List ℕ) (at_end : Bool) → (more_of start Start document ended).ending ≡ (given rest at_end).ending
       → Appends given start.sheet new appended p → StopsBy p new
@@ -205,6 +208,7 @@ module _ (limits : Limits) (pass : Pass) (start : Engine) where
   stops-by given new appended pumped.Stopped front step document ended rest at_end all a = by_outcome new.outcome a where
     by_outcome : (o : Option Outcome) → StoppedBy start.sheet o appended given → IsStop o
     by_outcome (Some (Xml file fault)) s = tt
+    by_outcome (Some (Fuel file offset)) s = absurd s
     by_outcome (Some (Run file code offset)) s = (document, ended, s.0, all ∙ ap (λ g. g.ending) (s.4 rest at_end))
     by_outcome (Some Memory) s = tt
     by_outcome (Some Done) s = absurd s
@@ -231,7 +235,7 @@ module _ (limits : Limits) (pass : Pass) (start : Engine) where
     pub told : (main : List ℕ) → old.to_come 0 ≡ Some main → Going main acts ended out next e p
 
   module _ (means : Means limits pass start) where
-    result_is : (bytes : List ℕ) (ended : Bool) → result_of (run_on limits pass bytes ended) ≡ (more_of start Start bytes ended).bytes
+    pub result_is : (bytes : List ℕ) (ended : Bool) → result_of (run_on limits pass bytes ended) ≡ (more_of start Start bytes ended).bytes
     result_is bytes ended = sym (ap (λ l. head ++ l) (means bytes ended).0)
 
     -- more is wanted, and all that is settled was written
@@ -405,7 +409,7 @@ module _ (limits : Limits) (pass : Pass) (start : Engine) where
       pub undone : o ≡ Done → ⊥
       pub refused : RefusesSome limits pass o
 
-    fails-by : (f : HostFault) (offset : ℕ) (old new : Outside) (acts : List Act) (out : List ℕ) → new.note_faults ≡ old.note_faults → Fails old new acts out (Host (codes "-") f offset)
+    pub fails-by : (f : HostFault) (offset : ℕ) (old new : Outside) (acts : List Act) (out : List ℕ) → new.note_faults ≡ old.note_faults → Fails old new acts out (Host (codes "-") f offset)
         → (o : Outcome) → FailsBy f offset o → Fails old new acts out o
     fails-by f offset old new acts out note facts Memory told = record { counts = note; failed = tt; ends = λ main. tt; undone = λ is. cc; refused = tt }
     fails-by f offset old new acts out note facts Done e = subst (Fails old new acts out) (sym e) facts
@@ -413,10 +417,11 @@ module _ (limits : Limits) (pass : Pass) (start : Engine) where
     fails-by f offset old new acts out note facts (Sheet fault) e = subst (Fails old new acts out) (sym e) facts
     fails-by f offset old new acts out note facts (Run file code at) e = subst (Fails old new acts out) (sym e) facts
     fails-by f offset old new acts out note facts (Xml file fault) e = subst (Fails old new acts out) (sym e) facts
+    fails-by f offset old new acts out note facts (Fuel file at) e = subst (Fails old new acts out) (sym e) facts
     fails-by f offset old new acts out note facts (Host file g at) e = subst (Fails old new acts out) (sym e) facts
 
     -- what is written of the result is a beginning of it
-    begins-result : (main : List ℕ) (n : ℕ) (appended : List ℕ) (e : Engine) (p : Pumped) → Goes start main e n appended p → Begins appended (result_of (run_on limits pass main true))
+    pub begins-result : (main : List ℕ) (n : ℕ) (appended : List ℕ) (e : Engine) (p : Pumped) → Goes start main e n appended p → Begins appended (result_of (run_on limits pass main true))
     begins-result main n appended e p goes = subst (Begins appended) (sym (result_is main true)) (goes-begins start main e n appended p goes)
 
     -- a write failed
@@ -508,86 +513,100 @@ module _ (limits : Limits) (pass : Pass) (start : Engine) where
         }
 
     -- what is known of an outcome
-    abbrev Known : (old now : Outside) → List Act → (out : List ℕ) → Outcome → Type 0
+    abbrev pub Known : (old now : Outside) → List Act → (out : List ℕ) → Outcome → Type 0
     Known old now acts out o = CountsBy o old now × FailedAt o acts out × RefusesSome limits pass o
 
-    -- the engine is done, or was stopped
-    pub ends : (old now : Outside) (e : Engine) (read written : ℕ) (p : Pumped) (o : Outcome) → Driving old now e [] read written p → (p ≡ pumped.Main → ⊥) → o ≡ unwrap_or e.outcome Memory
-        → Drives limits pass start.sheet old now o
-    ends old now e read written p o d last is = record {
-      acts = d.acts;
-      out = d.out;
-      between = d.between;
-      opened = d.opened;
-      no_doc_read = d.no_doc_read;
-      ended = d.ended;
-      once = d.once;
-      ids = d.ids;
-      counts = subst (λ x. CountsBy x old now) (sym is) (by_stop p d.stop last).0;
-      failed = subst (λ x. FailedAt x d.acts d.out) (sym is) (by_stop p d.stop last).1;
-      refused = subst (RefusesSome limits pass) (sym is) (by_stop p d.stop last).2;
-      told = λ main told.
-          let so_far = d.told main told in
-          let goes : Goes start main e (main_read d.acts) d.out p = subst (λ l. Goes start main e (main_read d.acts) l p) (append-nil d.out) so_far.goes in
-          record {
-            reads = so_far.reads;
-            prefix = begins-result main (main_read d.acts) d.out e p goes;
-            ends = subst (EndsAs limits pass start.sheet main d.out) (sym is) (by_end main p goes last);
-            all = λ done. let at_end = so_far.done (is_done p d.stop last (sym is ∙ done)) in (at_end, so_far.all at_end);
-          };
-    } where
-      undone : (x : Option Outcome) → IsStop x → unwrap_or x Memory ≡ Done → ⊥
-      undone (Some (Xml file fault)) s done = cc
-      undone (Some (Run file code offset)) s done = cc
-      undone (Some Memory) s done = cc
-      undone (Some Done) s done = absurd s
-      undone (Some Usage) s done = absurd s
-      undone (Some (Sheet fault)) s done = absurd s
-      undone (Some (Host file fault offset)) s done = absurd s
-      undone None s done = absurd s
+    undone : (x : Option Outcome) → IsStop x → unwrap_or x Memory ≡ Done → ⊥
+    undone (Some (Xml file fault)) s done = cc
+    undone (Some (Fuel file offset)) s done = absurd s
+    undone (Some (Run file code offset)) s done = cc
+    undone (Some Memory) s done = cc
+    undone (Some Done) s done = absurd s
+    undone (Some Usage) s done = absurd s
+    undone (Some (Sheet fault)) s done = absurd s
+    undone (Some (Host file fault offset)) s done = absurd s
+    undone None s done = absurd s
 
-      is_done : (p : Pumped) → StopsBy p e → (p ≡ pumped.Main → ⊥) → unwrap_or e.outcome Memory ≡ Done → p ≡ pumped.Done
+    -- where nothing more is wanted, an engine
+    module _ (e : Engine) where
+      pub is_done : (p : Pumped) → StopsBy p e → (p ≡ pumped.Main → ⊥) → unwrap_or e.outcome Memory ≡ Done → p ≡ pumped.Done
       is_done pumped.Main s other done = absurd (other refl)
       is_done pumped.Done s other done = refl
       is_done pumped.Stopped s other done = absurd (undone e.outcome s done)
 
-      by_outcome : (o : Option Outcome) → IsStop o → Known old now d.acts d.out (unwrap_or o Memory)
-      by_outcome (Some (Xml file fault)) s = (d.counts, tt, tt)
-      by_outcome (Some (Run file code offset)) s = (d.counts, tt, (s.0, s.1, s.2, sym (means s.0 s.1).1 ∙ s.3))
-      by_outcome (Some Memory) s = (d.counts.note, tt, tt)
-      by_outcome (Some Done) s = absurd s
-      by_outcome (Some Usage) s = absurd s
-      by_outcome (Some (Sheet fault)) s = absurd s
-      by_outcome (Some (Host file fault offset)) s = absurd s
-      by_outcome None s = absurd s
+      -- what is known of its outcome
+      pub known : (old now : Outside) (acts : List Act) (out : List ℕ) → SameCounts old now → (p : Pumped) → StopsBy p e → (p ≡ pumped.Main → ⊥) → Known old now acts out (unwrap_or e.outcome Memory)
+      known old now acts out counts p stop last = by_stop p stop last where
+        by_outcome : (o : Option Outcome) → IsStop o → Known old now acts out (unwrap_or o Memory)
+        by_outcome (Some (Xml file fault)) s = (counts, tt, tt)
+        by_outcome (Some (Fuel file offset)) s = absurd s
+        by_outcome (Some (Run file code offset)) s = (counts, tt, (s.0, s.1, s.2, sym (means s.0 s.1).1 ∙ s.3))
+        by_outcome (Some Memory) s = (counts.note, tt, tt)
+        by_outcome (Some Done) s = absurd s
+        by_outcome (Some Usage) s = absurd s
+        by_outcome (Some (Sheet fault)) s = absurd s
+        by_outcome (Some (Host file fault offset)) s = absurd s
+        by_outcome None s = absurd s
 
-      by_stop : (p : Pumped) → StopsBy p e → (p ≡ pumped.Main → ⊥) → Known old now d.acts d.out (unwrap_or e.outcome Memory)
-      by_stop pumped.Main s other = absurd (other refl)
-      by_stop pumped.Done s other = subst (λ x. Known old now d.acts d.out (unwrap_or x Memory)) (sym s) (d.counts, tt, tt)
-      by_stop pumped.Stopped s other = by_outcome e.outcome s
+        by_stop : (p : Pumped) → StopsBy p e → (p ≡ pumped.Main → ⊥) → Known old now acts out (unwrap_or e.outcome Memory)
+        by_stop pumped.Main s other = absurd (other refl)
+        by_stop pumped.Done s other = subst (λ x. Known old now acts out (unwrap_or x Memory)) (sym s) (counts, tt, tt)
+        by_stop pumped.Stopped s other = by_outcome e.outcome s
 
-      -- all that the document gives was written
-      wrote_all : (main : List ℕ) (ending : Ending) → more_of start Start main true ≡ record { bytes = d.out; ending = ending } → (o : Outcome) → o ≡ outcome_of start.sheet ending
-          → (d.out ≡ result_of (run_on limits pass main true)) × (o ≡ outcome_of start.sheet (run_on limits pass main true).ending)
-      wrote_all main ending all o e =
-          (sym (result_is main true ∙ ap (λ g. g.bytes) all), e ∙ ap (outcome_of start.sheet) (sym (ap (λ g. g.ending) all) ∙ (means main true).1))
+      -- all of the result was written
+      pub ends-so : (main : List ℕ) (n : ℕ) (out : List ℕ) (p : Pumped) → Goes start main e n out p → (p ≡ pumped.Main → ⊥) → EndsAs limits pass start.sheet main out (unwrap_or e.outcome Memory)
+      ends-so main n out p goes last = by_end p goes last where
+        -- all that the document gives was written
+        wrote_all : (ending : Ending) → more_of start Start main true ≡ record { bytes = out; ending = ending } → (o : Outcome) → o ≡ outcome_of start.sheet ending
+            → (out ≡ result_of (run_on limits pass main true)) × (o ≡ outcome_of start.sheet (run_on limits pass main true).ending)
+        wrote_all ending all o e =
+            (sym (result_is main true ∙ ap (λ g. g.bytes) all), e ∙ ap (outcome_of start.sheet) (sym (ap (λ g. g.ending) all) ∙ (means main true).1))
 
-      by_stopped : (main : List ℕ) (o : Option Outcome) → StoppedBy start.sheet o d.out (λ bytes ended. more_of start Start main true) → EndsAs limits pass start.sheet main d.out (unwrap_or o Memory)
-      by_stopped main (Some (Xml file fault)) s = wrote_all main (Unready (Bad fault)) (s.1 main true) (Xml file fault) (ap (λ f. Xml f fault) s.0)
-      by_stopped main (Some (Run file code offset)) s =
-          wrote_all main (Refused s.0) (s.4 main true) (Run file code offset)
-          (ap (λ f. Run f code offset) s.1 ∙ ap (λ x. Run start.sheet x offset) s.2 ∙ ap (λ n. Run start.sheet (code_of s.0) n) s.3)
-      by_stopped main (Some Memory) s = tt
-      by_stopped main (Some Done) s = absurd s
-      by_stopped main (Some Usage) s = absurd s
-      by_stopped main (Some (Sheet fault)) s = absurd s
-      by_stopped main (Some (Host file fault offset)) s = absurd s
-      by_stopped main None s = absurd s
+        by_stopped : (o : Option Outcome) → StoppedBy start.sheet o out (λ bytes ended. more_of start Start main true) → EndsAs limits pass start.sheet main out (unwrap_or o Memory)
+        by_stopped (Some (Xml file fault)) s = wrote_all (Unready (Bad fault)) (s.1 main true) (Xml file fault) (ap (λ f. Xml f fault) s.0)
+        by_stopped (Some (Fuel file offset)) s = absurd s
+        by_stopped (Some (Run file code offset)) s =
+            wrote_all (Refused s.0) (s.4 main true) (Run file code offset)
+            (ap (λ f. Run f code offset) s.1 ∙ ap (λ x. Run start.sheet x offset) s.2 ∙ ap (λ n. Run start.sheet (code_of s.0) n) s.3)
+        by_stopped (Some Memory) s = tt
+        by_stopped (Some Done) s = absurd s
+        by_stopped (Some Usage) s = absurd s
+        by_stopped (Some (Sheet fault)) s = absurd s
+        by_stopped (Some (Host file fault offset)) s = absurd s
+        by_stopped None s = absurd s
 
-      by_end : (main : List ℕ) (p : Pumped) → Goes start main e (main_read d.acts) d.out p → (p ≡ pumped.Main → ⊥) → EndsAs limits pass start.sheet main d.out (unwrap_or e.outcome Memory)
-      by_end main pumped.Main goes other = absurd (other refl)
-      by_end main pumped.Done goes other = subst (λ x. EndsAs limits pass start.sheet main d.out (unwrap_or x Memory)) (sym goes.0) (wrote_all main Complete goes.1 Done refl)
-      by_end main pumped.Stopped goes other = by_stopped main e.outcome goes
+        by_end : (p : Pumped) → Goes start main e n out p → (p ≡ pumped.Main → ⊥) → EndsAs limits pass start.sheet main out (unwrap_or e.outcome Memory)
+        by_end pumped.Main goes other = absurd (other refl)
+        by_end pumped.Done goes other = subst (λ x. EndsAs limits pass start.sheet main out (unwrap_or x Memory)) (sym goes.0) (wrote_all Complete goes.1 Done refl)
+        by_end pumped.Stopped goes other = by_stopped e.outcome goes
+
+    -- the engine is done, or was stopped
+    pub ends : (old now : Outside) (e : Engine) (read written : ℕ) (p : Pumped) (o : Outcome) → Driving old now e [] read written p → (p ≡ pumped.Main → ⊥) → o ≡ unwrap_or e.outcome Memory
+        → Drives limits pass start.sheet old now o
+    ends old now e read written p o d last is =
+        let at_end = known e old now d.acts d.out d.counts p d.stop last in
+        record {
+          acts = d.acts;
+          out = d.out;
+          between = d.between;
+          opened = d.opened;
+          no_doc_read = d.no_doc_read;
+          ended = d.ended;
+          once = d.once;
+          ids = d.ids;
+          counts = subst (λ x. CountsBy x old now) (sym is) at_end.0;
+          failed = subst (λ x. FailedAt x d.acts d.out) (sym is) at_end.1;
+          refused = subst (RefusesSome limits pass) (sym is) at_end.2;
+          told = λ main told.
+              let so_far = d.told main told in
+              let goes : Goes start main e (main_read d.acts) d.out p = subst (λ l. Goes start main e (main_read d.acts) l p) (append-nil d.out) so_far.goes in
+              record {
+                reads = so_far.reads;
+                prefix = begins-result main (main_read d.acts) d.out e p goes;
+                ends = subst (EndsAs limits pass start.sheet main d.out) (sym is) (ends-so e main (main_read d.acts) d.out p goes last);
+                all = λ done. let over = so_far.done (is_done e p d.stop last (sym is ∙ done)) in (over, so_far.all over);
+              };
+        }
 
 -- an engine that wants more waits
 pub waits_where : (given : List ℕ → Bool → Given) (sheet : List ℕ) (new : Engine) (before now : List ℕ) (p : Pumped) → Pumps given sheet new before now p → p ≡ pumped.Main → IsWaiting new

@@ -1,8 +1,13 @@
 -- What a run gives of a document's first bytes stays so.
 use Rattle.std.proofs.Common.{◌≡◌, ◌≢◌, ◌⊎◌, ℕ, true, false, List, [], ◌∷◌, ◌++◌, Option, Some, None, inl, inr, refl, sym, ap, subst, ◌∙◌, append_assoc, append-nil}
 use Rattle.std.specs.Option.{option_and_then}
+use Rattle.std.proofs.lemmas.Option.{none-some, same_Some}
 use Rattle.stx_base.specs.Course.{Begins}
-use Rattle.stx_base.specs.StandardLimits.{standard_limits}
+use Rattle.stx_base.specs.declared.limits.Limits.{Limits}
+use Rattle.command_words.specs.Words.{command_of}
+use Rattle.command_words.specs.declared.command.Command.{Command}
+use Rattle.command_words.specs.declared.command.Mode.{Mode}
+use Rattle.command_words.specs.declared.command.Mode.TheVariants.{Run as Plain, Check, Sample}
 use Rattle.stx_host.specs.Outside.{document}
 use Rattle.stx_host.specs.declared.act.Doc.{Doc}
 use Rattle.stx_base.specs.declared.name.Binding.{Binding}
@@ -12,7 +17,7 @@ use Rattle.result_writer.specs.declared.fault.ResultFault.{ResultFault}
 use Rattle.xml_events.specs.Document.{doc, stage_by}
 use Rattle.xml_events.specs.Growing.{DocumentsGrow, Grows}
 use Rattle.xml_events.specs.Tree.{Why, Need, Bad, Forest, End, Cut, Single, Nested}
-use Rattle.stx_engine.specs.Answer.{run_answer, run_of, settled, sheet_answer, sheet_named, words_answer}
+use Rattle.stx_engine.specs.Answer.{Plan, mode_answer, plan_by, plan_of, run_answer, run_of, settled, sheet_answer, words_answer}
 use Rattle.stx_engine.specs.Growing.{AnswerStays, BytesStay, OverStays, RunStays, SettledStays}
 use Rattle.stx_engine.specs.Meaning.{Unready, end_parts, leaf_parts, outcome, start_parts}
 use Rattle.stx_engine.specs.Output.{head, output}
@@ -148,18 +153,30 @@ module _ (grow : DocumentsGrow) where
   run-stays limits p bytes more ended =
       over-stays limits.elements p (doc limits false bytes false) (doc limits false (bytes ++ more) ended) (grow limits false false bytes more ended)
 
-  by_pass : (name : List ℕ) (o : Option Pass) (p : Pass) (bytes more : List ℕ) → o ≡ Some p → Begins (settled standard_limits p bytes) (run_answer name o (bytes ++ more)).out
-  by_pass name o p bytes more e =
-      subst (λ q. Begins (settled standard_limits p bytes) (run_answer name q (bytes ++ more)).out) (sym e) (bytes-stay standard_limits p bytes more true)
+  by_mode : (m : Mode) (c : Command) (o : Option Pass) (plan : Plan) (bytes more : List ℕ) → c.mode ≡ m → plan_by m c.limits o ≡ Some plan
+      → Begins (settled plan.limits plan.pass bytes) (run_answer c o (bytes ++ more)).out
+  by_mode Plain c None plan bytes more is e = absurd (none-some plan e)
+  by_mode Plain c (Some pass) plan bytes more is e =
+      let given : Plan = record { limits = c.limits; pass = pass } in
+      subst (λ (q : Plan). Begins (settled q.limits q.pass bytes) (run_answer c (Some pass) (bytes ++ more)).out) (same_Some given plan e)
+      (subst (λ m. Begins (settled c.limits pass bytes) (mode_answer m c.limits c.sheet pass (bytes ++ more)).out) (sym is) (bytes-stay c.limits pass bytes more true))
+  by_mode Check c o plan bytes more is e = absurd (none-some plan e)
+  by_mode (Sample records) c o plan bytes more is e = absurd (none-some plan e)
 
-  by_sheet : (name : List ℕ) (sheet : Option (List ℕ)) (p : Pass) (bytes more : List ℕ) → option_and_then pass_of sheet ≡ Some p → Begins (settled standard_limits p bytes) (sheet_answer name sheet (bytes ++ more)).out
-  by_sheet name None p bytes more e = absurd cc
-  by_sheet name (Some sheet) p bytes more e = by_pass name (pass_of sheet) p bytes more e
+  none_planned : (m : Mode) (limits : Limits) (plan : Plan) → plan_by m limits None ≡ Some plan → ⊥
+  none_planned Plain limits plan e = none-some plan e
+  none_planned Check limits plan e = none-some plan e
+  none_planned (Sample records) limits plan e = none-some plan e
 
-  by_words : (docs : List Doc) (named : Option (List ℕ)) (p : Pass) (bytes more : List ℕ) → option_and_then pass_of (option_and_then (document docs) named) ≡ Some p
-      → Begins (settled standard_limits p bytes) (words_answer named docs (bytes ++ more)).out
-  by_words docs None p bytes more e = absurd cc
-  by_words docs (Some name) p bytes more e = by_sheet name (document docs name) p bytes more e
+  by_sheet : (c : Command) (sheet : Option (List ℕ)) (plan : Plan) (bytes more : List ℕ) → plan_by c.mode c.limits (option_and_then pass_of sheet) ≡ Some plan
+      → Begins (settled plan.limits plan.pass bytes) (sheet_answer c sheet (bytes ++ more)).out
+  by_sheet c None plan bytes more e = absurd (none_planned c.mode c.limits plan e)
+  by_sheet c (Some sheet) plan bytes more e = by_mode c.mode c (pass_of sheet) plan bytes more refl e
+
+  by_words : (docs : List Doc) (named : Option Command) (plan : Plan) (bytes more : List ℕ) → option_and_then (plan_of docs) named ≡ Some plan
+      → Begins (settled plan.limits plan.pass bytes) (words_answer named docs (bytes ++ more)).out
+  by_words docs None plan bytes more e = absurd (none-some plan e)
+  by_words docs (Some c) plan bytes more e = by_sheet c (document docs c.sheet) plan bytes more e
 
   pub answer-stays : AnswerStays
-  answer-stays words docs p bytes more e = by_words docs (sheet_named words) p bytes more e
+  answer-stays words docs plan bytes more e = by_words docs (command_of words) plan bytes more e

@@ -17,13 +17,16 @@ use Rattle.stx_host.proofs.Stretches.{between_joins, between_writes, between_fau
 use Rattle.stx_engine.specs.Answer.{answer, sheet_named}
 use Rattle.stx_engine.specs.Driving.{CountsBy, EndOnce, SameCounts, UnlessFailed, main_gots}
 use Rattle.stx_engine.specs.Headline.{AsksSettled, DecidesSheet, GivesAnswer, IsFailure, IsStatus, NotesAfterFailure, NotesFailure, OpensFirst, ReadsToEnd, RefusesUnnamed, RoseFor, SomeGreater, SomeRose, Tells}
-use Rattle.stx_engine.specs.Line.{line_of, status_of}
+use Rattle.fault_report.specs.Line.{line_of, status_of}
 use Rattle.stx_engine.specs.Loading.{ReadsUndecided, opens, read_of, read_of_opened}
 use Rattle.stx_engine.specs.Running.{Asks, FailedIn, IsAnswered, RefusesWords, Reports, Runs, RunsTold, TakesParts, unwritten_status}
-use Rattle.stx_engine.specs.declared.outcome.HostFault.{HostFault}
-use Rattle.stx_engine.specs.declared.outcome.HostFault.TheVariants as fault
-use Rattle.stx_engine.specs.declared.outcome.Outcome.{Outcome}
-use Rattle.stx_engine.specs.declared.outcome.Outcome.TheVariants.{Done, Run, Usage, Sheet, Xml, Host, Memory}
+use Rattle.fault_report.specs.declared.outcome.HostFault.{HostFault}
+use Rattle.fault_report.specs.declared.outcome.HostFault.TheVariants as fault
+use Rattle.fault_report.specs.declared.outcome.Outcome.{Outcome}
+use Rattle.fault_report.specs.declared.outcome.Outcome.TheVariants.{Done, Run, Usage, Sheet, Xml, Host, Fuel, Memory}
+use Rattle.stx_engine.specs.RunEnd.{line_in, outcome_in}
+use Rattle.stx_engine.specs.declared.run_end.RunEnd.{RunEnd}
+use Rattle.stx_engine.specs.declared.run_end.RunEnd.TheVariants.{Told, Sampled}
 use Rattle.stx_engine.proofs.Driven.{no_doc_read-writes, once-writes, opens-append, opens-writes}
 use Rattle.stx_engine.proofs.Loading.{map_some, undecided-then}
 use Rattle.stx_engine.proofs.Prefixes.{begins_all}
@@ -39,23 +42,24 @@ note_same Usage old new by = by.note
 note_same (Sheet reason) old new by = by.note
 note_same (Run file code offset) old new by = by.note
 note_same (Xml file fault) old new by = by.note
+note_same (Fuel file offset) old new by = by.note
 
 -- want of memory may come at the end of any run
-pub ran-wanting-line : (words : List (List ℕ)) (old new : Outside) (o : Outcome) → Runs words old new o → Runs words old new Memory
-ran-wanting-line words old new o r = record {
+pub ran-wanting-line : (words : List (List ℕ)) (old new : Outside) (end : RunEnd) → Runs words old new end → Runs words old new (Told Memory)
+ran-wanting-line words old new end r = record {
   acts = r.acts;
   out = r.out;
   between = r.between;
   ended = r.ended;
   once = r.once;
   ids = r.ids;
-  counts = note_same o old new r.counts;
+  counts = note_same (outcome_in end) old new r.counts;
   failed = tt;
   refuses = tt;
   takes = tt;
   told = λ docs main documents told.
       let t = r.told docs main documents told in
-      record { reads = t.reads; prefix = t.prefix; ends = tt; sheet = t.sheet; opened = (t.opened.0, t.opened.1, t.opened.2, tt); all = λ is. cc };
+      record { reads = t.reads; prefix = t.prefix; ends = tt; sheet = t.sheet; opened = (t.opened.0, t.opened.1, t.opened.2, tt); all = λ asks is. cc };
 }
 
 -- the line, or its first bytes, on `Note`
@@ -148,6 +152,7 @@ failed-then words Usage acts lens out f = f
 failed-then words (Sheet reason) acts lens out f = f
 failed-then words (Run file code offset) acts lens out f = f
 failed-then words (Xml file fault) acts lens out f = f
+failed-then words (Fuel file offset) acts lens out f = f
 
 -- no outcome that the host or want of memory brings
 abbrev IsOwn : Outcome → Type 0
@@ -163,14 +168,18 @@ answered Usage own P p = p
 answered (Sheet reason) own P p = p
 answered (Run file code offset) own P p = p
 answered (Xml file fault) own P p = p
+answered (Fuel file offset) own P p = p
 
 -- an outcome is a failure, or the answer's
 abbrev IsEither : (failure : Type 0) → Outcome → Type 0
 IsEither failure o = failure ⊎ IsOwn o
 
-module _ (words : List (List ℕ)) (old mid new : Outside) (o : Outcome) (r : Runs words old mid o) (result : ℕ) (reports : Reports mid (line_of o) (status_of o) new result) where
-  abbrev line : Reported mid new (line_of o) (status_of o) result
-  line = reported mid new (line_of o) (status_of o) result reports
+module _ (words : List (List ℕ)) (old mid new : Outside) (end : RunEnd) (r : Runs words old mid end) (result : ℕ) (reports : Reports mid (line_in end) (status_of (outcome_in end)) new result) where
+  abbrev o : Outcome
+  o = outcome_in end
+
+  abbrev line : Reported mid new (line_in end) (status_of (outcome_in end)) result
+  line = reported mid new (line_in end) (status_of (outcome_in end)) result reports
 
   abbrev acts : List Act
   acts = r.acts ++ writes Note line.lens
@@ -193,6 +202,7 @@ module _ (words : List (List ℕ)) (old mid new : Outside) (o : Outcome) (r : Ru
   either (Sheet reason) by failed = inr tt
   either (Run file code offset) by failed = inr tt
   either (Xml file fault) by failed = inr tt
+  either (Fuel file offset) by failed = inr tt
 
   is_either : IsEither (IsFailure words old new acts r.out o) o
   is_either = either o r.counts r.failed
@@ -213,6 +223,7 @@ module _ (words : List (List ℕ)) (old mid new : Outside) (o : Outcome) (r : Ru
   failure_status (Sheet reason) failure is = absurd failure
   failure_status (Run file code offset) failure is = absurd failure
   failure_status (Xml file fault) failure is = absurd failure
+  failure_status (Fuel file offset) failure is = absurd failure
 
   -- where no count rose, the host didn't fail
   failure_rose : (x : Outcome) → IsFailure words old new acts r.out x → (SomeRose old new → ⊥) → status_of x ≡ 7
@@ -223,9 +234,10 @@ module _ (words : List (List ℕ)) (old mid new : Outside) (o : Outcome) (r : Ru
   failure_rose (Sheet reason) failure none = absurd failure
   failure_rose (Run file code offset) failure none = absurd failure
   failure_rose (Xml file fault) failure none = absurd failure
+  failure_rose (Fuel file offset) failure none = absurd failure
 
   module _ (docs : List Doc) (main : List ℕ) (tells : Tells old docs main) where
-    told : RunsTold words docs main r.acts r.ended r.out o
+    told : RunsTold words docs main r.acts r.ended r.out end
     told = r.told docs main tells.documents tells.main_document
 
     log_is : since old.log new.log ≡ acts
@@ -242,7 +254,7 @@ module _ (words : List (List ℕ)) (old mid new : Outside) (o : Outcome) (r : Ru
       | inl whole ↦ elim is_either [
         | inl failure ↦ absurd (memory (whole.1 ∙ failure_rose o failure none))
         | inr own ↦
-            let is = answered o own (IsAnswered r.out o (answer words docs main)) told.ends in
+            let is = answered o own (IsAnswered r.out end (answer words docs main)) told.ends in
             (out_is ∙ is.output, note_is ∙ whole.0 ∙ is.line, whole.1 ∙ is.code)
       ]
       | inr cut ↦ absurd (none (inr (inr (inr (note_rose cut.2)))))
@@ -266,15 +278,16 @@ module _ (words : List (List ℕ)) (old mid new : Outside) (o : Outcome) (r : Ru
     zero_done (Sheet reason) is zero = absurd (elim is [ inl e ↦ grind (arith, e, zero) | inr e ↦ grind (arith, e, zero) ])
     zero_done (Run file code offset) is zero = absurd (elim is [ inl e ↦ grind (arith, e, zero) | inr e ↦ grind (arith, e, zero) ])
     zero_done (Xml file fault) is zero = absurd (elim is [ inl e ↦ grind (arith, e, zero) | inr e ↦ grind (arith, e, zero) ])
+    zero_done (Fuel file offset) is zero = absurd (elim is [ inl e ↦ grind (arith, e, zero) | inr e ↦ grind (arith, e, zero) ])
     zero_done (Host file f offset) is zero = absurd (elim is [ inl e ↦ grind (arith, e, zero) | inr e ↦ grind (arith, e, zero) ])
     zero_done Memory is zero = absurd (elim is [ inl e ↦ grind (arith, e, zero) | inr e ↦ grind (arith, e, zero) ])
 
-    pub reads_to_end : ReadsToEnd old new main result
+    pub reads_to_end : ReadsToEnd old new words main result
     reads_to_end = (
       r.ended,
       subst (λ log. EndOnce r.ended (main_gots log)) (sym log_is) (once-writes r.ended r.acts Note line.lens r.once),
-      λ zero.
-          let all = told.all (zero_done o status_is zero) in
+      λ asks zero.
+          let all = told.all asks (zero_done o status_is zero) in
           (all.0, ap main_read log_is ∙ omega (arith, main_read-append r.acts (writes Note line.lens), main_read-writes Note line.lens, all.1)),
     )
 
@@ -295,6 +308,7 @@ module _ (words : List (List ℕ)) (old mid new : Outside) (o : Outcome) (r : Ru
     all_opened (Sheet reason) (inl failure) P p is five seven = absurd failure
     all_opened (Run file code offset) (inl failure) P p is five seven = absurd failure
     all_opened (Xml file fault) (inl failure) P p is five seven = absurd failure
+    all_opened (Fuel file offset) (inl failure) P p is five seven = absurd failure
 
     pub opens_first : OpensFirst docs (answer words docs main).opened result (since old.log new.log)
     opens_first =
@@ -304,6 +318,11 @@ module _ (words : List (List ℕ)) (old mid new : Outside) (o : Outcome) (r : Ru
           ap opens log_is ∙ opens-append r.acts (writes Note line.lens) ∙ ap (λ l. opens r.acts ++ l) (opens-writes Note line.lens) ∙ append-nil (opens r.acts) ∙ t.2,
           λ five seven. all_opened o is_either (t.0 ≡ (answer words docs main).opened) t.3 (elim line.end [ inl whole ↦ inl whole.1 | inr cut ↦ inr cut.1 ]) five seven,
         )
+
+    -- the line of a failure is its own
+    own_line : (x : RunEnd) → IsFailure words old new acts r.out (outcome_in x) → line_in x ≡ line_of (outcome_in x)
+    own_line (Told outcome) failure = refl
+    own_line (Sampled s) failure = absurd failure
 
     -- the status 5 or 7 of a line that was written whole is a failure's
     by_failure : (x : Outcome) → IsEither (IsFailure words old new acts r.out x) x → result ≡ status_of x → (result ≡ 5) ⊎ (result ≡ 7) → IsFailure words old new acts r.out x
@@ -315,6 +334,7 @@ module _ (words : List (List ℕ)) (old mid new : Outside) (o : Outcome) (r : Ru
     by_failure (Sheet reason) (inr own) is some = absurd (elim some [ inl e ↦ grind (arith, is, e) | inr e ↦ grind (arith, is, e) ])
     by_failure (Run file code offset) (inr own) is some = absurd (elim some [ inl e ↦ grind (arith, is, e) | inr e ↦ grind (arith, is, e) ])
     by_failure (Xml file fault) (inr own) is some = absurd (elim some [ inl e ↦ grind (arith, is, e) | inr e ↦ grind (arith, is, e) ])
+    by_failure (Fuel file offset) (inr own) is some = absurd (elim some [ inl e ↦ grind (arith, is, e) | inr e ↦ grind (arith, is, e) ])
 
     -- an answer's line was cut
     own_status : (x : Outcome) → IsOwn x → (result ≡ status_of x) ⊎ (result ≡ unwritten_status (status_of x)) → (result ≡ 5) ⊎ (result ≡ 7) → result ≡ 5
@@ -323,21 +343,22 @@ module _ (words : List (List ℕ)) (old mid new : Outside) (o : Outcome) (r : Ru
     own_status (Sheet reason) own is some = elim is [ inl e ↦ absurd (elim some [ inl f ↦ grind (arith, e, f) | inr f ↦ grind (arith, e, f) ]) | inr e ↦ e ]
     own_status (Run file code offset) own is some = elim is [ inl e ↦ absurd (elim some [ inl f ↦ grind (arith, e, f) | inr f ↦ grind (arith, e, f) ]) | inr e ↦ e ]
     own_status (Xml file fault) own is some = elim is [ inl e ↦ absurd (elim some [ inl f ↦ grind (arith, e, f) | inr f ↦ grind (arith, e, f) ]) | inr e ↦ e ]
+    own_status (Fuel file offset) own is some = elim is [ inl e ↦ absurd (elim some [ inl f ↦ grind (arith, e, f) | inr f ↦ grind (arith, e, f) ]) | inr e ↦ e ]
     own_status (Host file f offset) own is some = absurd own
     own_status Memory own is some = absurd own
 
     notes : (result ≡ 5) ⊎ (result ≡ 7) → NotesFailure words old new acts r.out line.note result (answer words docs main)
     notes some = record {
       whole = λ kept. elim line.end [
-        | inl whole ↦ (o, by_failure o is_either whole.1 some, sym whole.1, whole.0)
+        | inl whole ↦ let failure = by_failure o is_either whole.1 some in (o, failure, sym whole.1, whole.0 ∙ own_line end failure)
         | inr cut ↦ absurd (kept (note_rose cut.2))
       ];
-      cut = λ rose. by_line (elim line.end [ inl whole ↦ subst (λ note. Begins note (line_of o)) (sym whole.0) (begins_all (line_of o)) | inr cut ↦ cut.0 ]) is_either;
+      cut = λ rose. by_line (elim line.end [ inl whole ↦ subst (λ note. Begins note (line_in end)) (sym whole.0) (begins_all (line_in end)) | inr cut ↦ cut.0 ]) is_either;
     } where
-      by_line : Begins line.note (line_of o) → IsEither (IsFailure words old new acts r.out o) o
+      by_line : Begins line.note (line_in end) → IsEither (IsFailure words old new acts r.out o) o
           → ((result ≡ 5) × Begins line.note (answer words docs main).note) ⊎ ((x : Outcome) × IsFailure words old new acts r.out x × (status_of x ≡ result) × Begins line.note (line_of x))
-      by_line begins (inl failure) = inr (o, failure, failure_status o failure status_is, begins)
-      by_line begins (inr own) = inl (own_status o own status_is some, subst (Begins line.note) (answered o own (IsAnswered r.out o (answer words docs main)) told.ends).line begins)
+      by_line begins (inl failure) = inr (o, failure, failure_status o failure status_is, subst (Begins line.note) (own_line end failure) begins)
+      by_line begins (inr own) = inl (own_status o own status_is some, subst (Begins line.note) (answered o own (IsAnswered r.out end (answer words docs main)) told.ends).line begins)
 
     pub notes_failure : NotesAfterFailure old new words result (answer words docs main)
     notes_failure some =
@@ -355,6 +376,7 @@ module _ (words : List (List ℕ)) (old mid new : Outside) (o : Outcome) (r : Ru
   is_among_statuses (Sheet reason) takes status is = elim is [ inl e ↦ rw e refl | inr e ↦ rw e refl ]
   is_among_statuses (Run file code offset) takes status is = absurd takes
   is_among_statuses (Xml file fault) takes status is = elim is [ inl e ↦ rw e refl | inr e ↦ rw e refl ]
+  is_among_statuses (Fuel file offset) takes status is = absurd takes
 
   -- 5 comes only where a count rose
   five_rose : (x : Outcome) → IsEither (IsFailure words old new acts r.out x) x → result ≡ status_of x → result ≡ 5 → SomeRose old new
@@ -365,6 +387,7 @@ module _ (words : List (List ℕ)) (old mid new : Outside) (o : Outcome) (r : Ru
   five_rose (Sheet reason) e is five = absurd (grind (arith, is, five))
   five_rose (Run file code offset) e is five = absurd (grind (arith, is, five))
   five_rose (Xml file fault) e is five = absurd (grind (arith, is, five))
+  five_rose (Fuel file offset) e is five = absurd (grind (arith, is, five))
   five_rose (Host file f offset) (inr own) is five = absurd own
 
   -- where the line was written and no failure came, no count became greater
@@ -387,8 +410,10 @@ module _ (words : List (List ℕ)) (old mid new : Outside) (o : Outcome) (r : Ru
   greater_five (Sheet reason) by (inr is) h = inl is
   greater_five (Run file code offset) by (inl is) h = absurd (none_greater by is.1 h)
   greater_five (Xml file fault) by (inl is) h = absurd (none_greater by is.1 h)
+  greater_five (Fuel file offset) by (inl is) h = absurd (none_greater by is.1 h)
   greater_five (Run file code offset) by (inr is) h = inl is
   greater_five (Xml file fault) by (inr is) h = inl is
+  greater_five (Fuel file offset) by (inr is) h = inl is
 
   pub is_status : IsStatus old new result
   is_status = record {
@@ -405,6 +430,7 @@ module _ (words : List (List ℕ)) (old mid new : Outside) (o : Outcome) (r : Ru
   two_none (Sheet reason) refuses is two = absurd (grind (arith, is, two))
   two_none (Run file code offset) refuses is two = absurd (grind (arith, is, two))
   two_none (Xml file fault) refuses is two = absurd (grind (arith, is, two))
+  two_none (Fuel file offset) refuses is two = absurd (grind (arith, is, two))
   two_none (Host file f offset) refuses is two = absurd (grind (arith, is, two))
 
   not_none : IsSome (sheet_named words) → sheet_named words ≡ None → ⊥
@@ -417,6 +443,7 @@ module _ (words : List (List ℕ)) (old mid new : Outside) (o : Outcome) (r : Ru
   none_two (Sheet reason) refuses is memory none = absurd (not_none refuses none)
   none_two (Run file code offset) refuses is memory none = absurd (not_none refuses none)
   none_two (Xml file fault) refuses is memory none = absurd (not_none refuses none)
+  none_two (Fuel file offset) refuses is memory none = absurd (not_none refuses none)
   none_two (Host file f offset) refuses is memory none = absurd (not_none refuses none)
 
   pub refuses_unnamed : RefusesUnnamed old new words result

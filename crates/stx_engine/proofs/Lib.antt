@@ -1,3 +1,5 @@
+pub mod Limited
+pub mod Sampled
 pub mod Together
 pub mod Total
 pub mod Passing

@@ -22,12 +22,13 @@ use Rattle.stx_host.proofs.Stretches.{between_joins, between_read, between_close
 use Rattle.stx_host.proofs.ToCome.{eq_self, with_here}
 use Rattle.stx_base.specs.declared.fault.SheetCode.TheVariants as code
 use Rattle.stx_base.specs.declared.fault.SheetFault.{SheetFault}
-use Rattle.stx_engine.specs.Answer.{answered, run_answer, sheet_answer}
+use Rattle.command_words.specs.declared.command.Command.{Command}
+use Rattle.stx_engine.specs.Answer.{mode_answer, answered, run_answer, sheet_answer}
 use Rattle.stx_engine.specs.Driving.{SameCounts, main_gots}
 use Rattle.stx_engine.specs.Loading.{BeginsSheet, FailsAfter, IsLoaded, LoadActs, LoadAnswers, OpensSheet, ReadActs, ReadsUndecided, accepted, is_doc_read, is_write, loaded, opens, read_of, read_of_opened, reads, refusal}
 use Rattle.stx_engine.specs.Sheets.{pass_of}
-use Rattle.stx_engine.specs.declared.outcome.Outcome.{Outcome}
-use Rattle.stx_engine.specs.declared.outcome.Outcome.TheVariants.{Sheet}
+use Rattle.fault_report.specs.declared.outcome.Outcome.{Outcome}
+use Rattle.fault_report.specs.declared.outcome.Outcome.TheVariants.{Sheet}
 use Rattle.stx_engine.specs.declared.pass.Pass.{Pass}
 
 -- what doesn't change over two stretches of time
@@ -336,35 +337,35 @@ by_document docs name file to_come answer known here is answers =
     subst (λ told. LoadAnswers told name answer) (ap (λ o. option_map (λ all. Some all) o) here ∙ told_sheet docs name known)
     (subst (λ n. LoadAnswers (option_map (λ all. Some all) to_come) n answer) is answers)
 
-same_run : (name main : List ℕ) (asked : Option Pass) (pass : Pass) → Ok pass ≡ accepted name asked → run_answer name asked main ≡ run_answer name (Some pass) main
-same_run name main None pass e = cc
-same_run name main (Some other) pass e = let is : other ≡ pass = cc in ap (λ p. run_answer name (Some p) main) is
+same_run : (c : Command) (main : List ℕ) (asked : Option Pass) (pass : Pass) → Ok pass ≡ accepted c.sheet asked → run_answer c asked main ≡ mode_answer c.mode c.limits c.sheet pass main
+same_run c main None pass e = cc
+same_run c main (Some other) pass e = let is : other ≡ pass = cc in ap (λ p. run_answer c (Some p) main) is
 
-run_of_sheet : (name main : List ℕ) (sheet : Option (List ℕ)) (pass : Pass) → Ok pass ≡ loaded name sheet → sheet_answer name sheet main ≡ run_answer name (Some pass) main
-run_of_sheet name main None pass e = cc
-run_of_sheet name main (Some bytes) pass e = same_run name main (pass_of bytes) pass e
+run_of_sheet : (c : Command) (main : List ℕ) (sheet : Option (List ℕ)) (pass : Pass) → Ok pass ≡ loaded c.sheet sheet → sheet_answer c sheet main ≡ mode_answer c.mode c.limits c.sheet pass main
+run_of_sheet c main None pass e = cc
+run_of_sheet c main (Some bytes) pass e = same_run c main (pass_of bytes) pass e
 
 -- what is answered where a sheet was loaded
-pub accepted_answer : (told : Option (List Doc)) (docs : List Doc) (name main : List ℕ) (pass : Pass) → told ≡ Some docs → LoadAnswers (option_map (λ docs. document docs name) told) name (Ok pass)
-    → sheet_answer name (document docs name) main ≡ run_answer name (Some pass) main
-accepted_answer told docs name main pass is answers =
-    let here : IsLoaded (Some (document docs name)) name (Ok pass) = subst (λ o. IsLoaded (option_map (λ docs. document docs name) o) name (Ok pass)) is answers in
-    ap (λ sheet. sheet_answer name sheet main) (sym here.told_of) ∙ run_of_sheet name main here.sheet pass here.gives
+pub accepted_answer : (told : Option (List Doc)) (docs : List Doc) (c : Command) (main : List ℕ) (pass : Pass) → told ≡ Some docs → LoadAnswers (option_map (λ docs. document docs c.sheet) told) c.sheet (Ok pass)
+    → sheet_answer c (document docs c.sheet) main ≡ mode_answer c.mode c.limits c.sheet pass main
+accepted_answer told docs c main pass is answers =
+    let here : IsLoaded (Some (document docs c.sheet)) c.sheet (Ok pass) = subst (λ o. IsLoaded (option_map (λ docs. document docs c.sheet) o) c.sheet (Ok pass)) is answers in
+    ap (λ sheet. sheet_answer c sheet main) (sym here.told_of) ∙ run_of_sheet c main here.sheet pass here.gives
 
-same_fault : (name main : List ℕ) (asked : Option Pass) (fault : SheetFault) → Err (Sheet fault) ≡ accepted name asked → run_answer name asked main ≡ answered (Sheet fault) [] (name ∷ [])
-same_fault name main None fault e = let is : refusal name code.NotBuilt ≡ Sheet fault = cc in ap (λ o. answered o [] (name ∷ [])) is
-same_fault name main (Some pass) fault e = cc
+same_fault : (c : Command) (main : List ℕ) (asked : Option Pass) (fault : SheetFault) → Err (Sheet fault) ≡ accepted c.sheet asked → run_answer c asked main ≡ answered (Sheet fault) [] (c.sheet ∷ [])
+same_fault c main None fault e = let is : refusal c.sheet code.NotBuilt ≡ Sheet fault = cc in ap (λ o. answered o [] (c.sheet ∷ [])) is
+same_fault c main (Some pass) fault e = cc
 
-fault_of_sheet : (name main : List ℕ) (sheet : Option (List ℕ)) (fault : SheetFault) → Err (Sheet fault) ≡ loaded name sheet → sheet_answer name sheet main ≡ answered (Sheet fault) [] (name ∷ [])
-fault_of_sheet name main None fault e = let is : refusal name code.NoDocument ≡ Sheet fault = cc in ap (λ o. answered o [] (name ∷ [])) is
-fault_of_sheet name main (Some bytes) fault e = same_fault name main (pass_of bytes) fault e
+fault_of_sheet : (c : Command) (main : List ℕ) (sheet : Option (List ℕ)) (fault : SheetFault) → Err (Sheet fault) ≡ loaded c.sheet sheet → sheet_answer c sheet main ≡ answered (Sheet fault) [] (c.sheet ∷ [])
+fault_of_sheet c main None fault e = let is : refusal c.sheet code.NoDocument ≡ Sheet fault = cc in ap (λ o. answered o [] (c.sheet ∷ [])) is
+fault_of_sheet c main (Some bytes) fault e = same_fault c main (pass_of bytes) fault e
 
 -- what is answered where it was refused
-pub refused_answer : (told : Option (List Doc)) (docs : List Doc) (name main : List ℕ) (fault : SheetFault) → told ≡ Some docs → LoadAnswers (option_map (λ docs. document docs name) told) name (Err (Sheet fault))
-    → sheet_answer name (document docs name) main ≡ answered (Sheet fault) [] (name ∷ [])
-refused_answer told docs name main fault is answers =
-    let here : IsLoaded (Some (document docs name)) name (Err (Sheet fault)) = subst (λ o. IsLoaded (option_map (λ docs. document docs name) o) name (Err (Sheet fault))) is answers in
-    ap (λ sheet. sheet_answer name sheet main) (sym here.told_of) ∙ fault_of_sheet name main here.sheet fault here.gives
+pub refused_answer : (told : Option (List Doc)) (docs : List Doc) (c : Command) (main : List ℕ) (fault : SheetFault) → told ≡ Some docs → LoadAnswers (option_map (λ docs. document docs c.sheet) told) c.sheet (Err (Sheet fault))
+    → sheet_answer c (document docs c.sheet) main ≡ answered (Sheet fault) [] (c.sheet ∷ [])
+refused_answer told docs c main fault is answers =
+    let here : IsLoaded (Some (document docs c.sheet)) c.sheet (Err (Sheet fault)) = subst (λ o. IsLoaded (option_map (λ docs. document docs c.sheet) o) c.sheet (Err (Sheet fault))) is answers in
+    ap (λ sheet. sheet_answer c sheet main) (sym here.told_of) ∙ fault_of_sheet c main here.sheet fault here.gives
 
 same_pass : (name : List ℕ) (asked : Option Pass) (pass : Pass) → Ok pass ≡ accepted name asked → asked ≡ Some pass
 same_pass name None pass e = cc

@@ -22,9 +22,9 @@ use Rattle.stx_engine.specs.declared.engine.Reading.TheVariants as reading
 use Rattle.stx_engine.specs.declared.engine.Pumped.{Pumped}
 use Rattle.stx_engine.specs.declared.engine.Pumped.TheVariants as pumped
 use Rattle.stx_engine.specs.declared.engine.Reading.{Reading}
-use Rattle.stx_engine.specs.declared.outcome.Outcome.{Outcome}
-use Rattle.stx_engine.specs.declared.outcome.Outcome.TheVariants as out
-use Rattle.stx_engine.specs.declared.outcome.Outcome.TheVariants.{Done, Run, Usage, Sheet, Xml, Host}
+use Rattle.fault_report.specs.declared.outcome.Outcome.{Outcome}
+use Rattle.fault_report.specs.declared.outcome.Outcome.TheVariants as out
+use Rattle.fault_report.specs.declared.outcome.Outcome.TheVariants.{Done, Run, Usage, Sheet, Xml, Host, Fuel}
 use Rattle.stx_engine.specs.Answer.{code_of}
 use Rattle.stx_engine.specs.Engine.{FailsBy, IsGoing, IsWaiting, Pumps, Reads, ReadsBy, StoppedBy, more, more_of}
 use Rattle.stx_engine.specs.Output.{head}
@@ -167,6 +167,7 @@ module _ (was : List ℕ → Bool → Given) (sheet : List ℕ) (e x : Engine) (
     by_outcome (Some (Sheet reason)) k = xml (Sheet reason) k
     by_outcome (Some (Xml file other)) k = xml (Xml file other) k
     by_outcome (Some (Host file failure offset)) k = xml (Host file failure offset) k
+    by_outcome (Some (Fuel file offset)) k = xml (Fuel file offset) k
 
   pub pumps-refused : (fault : ResultFault) → Reads was e before now (Some (reading.Refused fault)) → x.outcome ≡ Some (Run sheet (code_of fault) 0) → Pumps was sheet x before now pumped.Stopped
   pumps-refused fault h o = (h.0, h.1, subst (λ y. StoppedBy sheet y h.0 was) (sym o) (fault, refl, refl, refl, h.2))
@@ -185,6 +186,7 @@ module _ (was also : List ℕ → Bool → Given) (same : (bytes : List ℕ) (en
   stopped-same (Some Usage) appended h = absurd h
   stopped-same (Some (Sheet reason)) appended h = absurd h
   stopped-same (Some (Host file failure offset)) appended h = absurd h
+  stopped-same (Some (Fuel file offset)) appended h = absurd h
 
   pub pumps-same : (e : Engine) (before now : List ℕ) (p : Pumped) → Pumps was sheet e before now p → Pumps also sheet e before now p
   pumps-same e before now pumped.Main h = (h.0, h.1, (h.2.0, λ bytes ended. same bytes ended ∙ h.2.1 bytes ended))

@@ -1,10 +1,10 @@
 -- What reading a main document through an engine does to the outside.
-use Rattle.std.specs.Prelude.{◌≡◌, ℕ, ◌-◌, ◌^◌, ◌<◌, ◌==◌, min, Bool, true, false, if◌then◌else◌, List, [], ◌∷◌, ◌++◌, length, take, sum, Some, codes, Ok, Err}
-use Rattle.std.specs.List.{list_any}
+use Rattle.std.specs.Prelude.{◌≡◌, ℕ, ◌<◌, ◌==◌, Bool, true, false, if◌then◌else◌, List, [], ◌∷◌, ◌++◌, length, take, sum, Option, Some, None, codes, Ok, Err}
+use Rattle.std.specs.List.{concat, list_any}
 use Rattle.std.specs.declared.result.Result.{Result}
 use Rattle.stx_base.specs.Course.{Begins}
 use Rattle.stx_base.specs.declared.limits.Limits.{Limits}
-use Rattle.stx_host.specs.Before.{AtMainReads, Between, Taken, main_read}
+use Rattle.stx_host.specs.Before.{AtMainReads, Between, Taken, is_main_read, main_read}
 use Rattle.stx_host.specs.Outside.{Outside, LaneFault, Rose, wrote}
 use Rattle.stx_host.specs.declared.act.Act.{Act}
 use Rattle.stx_host.specs.declared.act.Act.TheVariants.{Read}
@@ -15,15 +15,13 @@ use Rattle.result_writer.specs.declared.fault.ResultFault.{ResultFault}
 use Rattle.stx_engine.specs.Meaning.{Refused as Refuses, Unready}
 use Rattle.xml_events.specs.Tree.{Need}
 use Rattle.stx_engine.specs.declared.driver.Refused.{Refused}
-use Rattle.stx_engine.specs.declared.outcome.HostFault.{HostFault}
-use Rattle.stx_engine.specs.declared.outcome.HostFault.TheVariants as fault
-use Rattle.stx_engine.specs.declared.outcome.Outcome.{Outcome}
-use Rattle.stx_engine.specs.declared.outcome.Outcome.TheVariants.{Done, Run, Usage, Sheet, Host, Memory}
+use Rattle.fault_report.specs.declared.outcome.HostFault.{HostFault}
+use Rattle.fault_report.specs.declared.outcome.HostFault.TheVariants as fault
+use Rattle.fault_report.specs.declared.outcome.Outcome.{Outcome}
+use Rattle.fault_report.specs.declared.outcome.Outcome.TheVariants.{Done, Run, Usage, Sheet, Host, Fuel, Memory}
 use Rattle.stx_engine.specs.declared.pass.Pass.{Pass}
-
--- a number of bytes, as it is counted: up to the last value of u64
-abbrev pub counted : ℕ → ℕ
-counted n = min n (2 ^ 64 - 1)
+use Rattle.stx_engine.specs.RunEnd.{counted, on_sample, outcome_in, sample_of, summary_of}
+use Rattle.stx_engine.specs.declared.run_end.RunEnd.{RunEnd}
 
 -- all bytes were taken, in some number of writes; or some first ones were, and then a write failed
 abbrev pub WritesOn : (old : Outside) → Lane → List ℕ → Result (Unit {0}) Refused → (new : Outside) → Type 0
@@ -79,10 +77,11 @@ UnlessFailed (Host file fault offset) P = Unit {0}
 UnlessFailed Memory P = Unit {0}
 UnlessFailed outcome P = P
 
--- a part is refused only where the run on some document ends so
+-- a part is refused only where the run on some document ends so, and no fuel is spent
 abbrev pub RefusesSome : Limits → Pass → Outcome → Type 0
 RefusesSome limits pass (Run file code offset) =
     (bytes : List ℕ) × (ended : Bool) × (fault : ResultFault) × ((run_on limits pass bytes ended).ending ≡ Refuses fault)
+RefusesSome limits pass (Fuel file offset) = ⊥
 RefusesSome limits pass outcome = Unit {0}
 
 -- how a run ends that the host and memory let end: all of its result was written
@@ -127,3 +126,29 @@ pub record Drives (limits : Limits) (pass : Pass) (sheet : List ℕ) (old new : 
   pub failed : FailedAt outcome acts out
   pub refused : RefusesSome limits pass outcome
   pub told : (main : List ℕ) → old.to_come 0 ≡ Some main → WritesResult limits pass sheet main acts ended out outcome
+
+-- how a run on the sample ends that the host and memory let end: all of its result was written
+abbrev pub EndsSample : Limits → Pass → (sheet : List ℕ) → (records : ℕ) → (out : List ℕ) → RunEnd → Type 0
+EndsSample limits pass sheet records out end =
+    let run = run_on limits pass (sample_of records) true in
+    UnlessFailed (outcome_in end) ((out ≡ result_of run) × (end ≡ on_sample (summary_of records out) (outcome_of sheet run.ending)))
+
+-- what is left of the sample's pieces, and some first ones of them, joined; none after the last
+abbrev pub TakesPieces : (old new : List (List ℕ)) → Option (List ℕ) → Type 0
+TakesPieces old new None = (old ≡ []) × (new ≡ [])
+TakesPieces old new (Some chunk) = (front : List (List ℕ)) × (0 < length front) × (old ≡ front ++ new) × (chunk ≡ concat front)
+
+-- what a run on the sample did, of which nothing is read, and how it ended
+pub record DrivesSample (limits : Limits) (pass : Pass) (sheet : List ℕ) (records : ℕ) (old new : Outside) (end : RunEnd) : Type 0 where
+  pub acts : List Act
+  pub out : List ℕ
+  pub between : Between old new acts out []
+  pub opened : opens acts ≡ []
+  pub no_doc_read : list_any is_doc_read acts ≡ false
+  pub no_main_read : list_any is_main_read acts ≡ false
+  pub ids : new.open_ids ≡ old.open_ids
+  pub counts : CountsBy (outcome_in end) old new
+  pub failed : FailedAt (outcome_in end) acts out
+  pub refused : RefusesSome limits pass (outcome_in end)
+  pub prefix : Begins out (result_of (run_on limits pass (sample_of records) true))
+  pub ends : EndsSample limits pass sheet records out end

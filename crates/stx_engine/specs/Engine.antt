@@ -19,8 +19,8 @@ use Rattle.stx_engine.specs.declared.engine.Pumped.{Pumped}
 use Rattle.stx_engine.specs.declared.engine.Pumped.TheVariants as pumped
 use Rattle.stx_engine.specs.declared.engine.Reading.{Reading}
 use Rattle.stx_engine.specs.declared.engine.Reading.TheVariants as reading
-use Rattle.stx_engine.specs.declared.outcome.Outcome.{Outcome}
-use Rattle.stx_engine.specs.declared.outcome.Outcome.TheVariants.{Done, Run, Xml, Memory}
+use Rattle.fault_report.specs.declared.outcome.Outcome.{Outcome}
+use Rattle.fault_report.specs.declared.outcome.Outcome.TheVariants.{Done, Run, Xml, Memory}
 use Rattle.stx_engine.specs.declared.pass.Pass.{Pass}
 
 -- the document that goes on may be handed more bytes, or its end

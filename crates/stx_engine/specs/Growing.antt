@@ -1,12 +1,11 @@
 -- What a run gives of a document's first bytes stays so.
 use Rattle.std.specs.Prelude.{◌≡◌, ◌≢◌, ℕ, Bool, false, List, ◌++◌, Some}
 use Rattle.stx_base.specs.Course.{Begins}
-use Rattle.stx_base.specs.StandardLimits.{standard_limits}
 use Rattle.stx_base.specs.declared.limits.Limits.{Limits}
 use Rattle.stx_host.specs.declared.act.Doc.{Doc}
 use Rattle.xml_events.specs.Growing.{Grows}
 use Rattle.xml_events.specs.Tree.{Forest, Need}
-use Rattle.stx_engine.specs.Answer.{answer, asked, result_of, run_of, run_on, settled}
+use Rattle.stx_engine.specs.Answer.{Plan, answer, asked, result_of, run_of, run_on, settled}
 use Rattle.stx_engine.specs.Meaning.{Unready, outcome}
 use Rattle.stx_engine.specs.Output.{output}
 use Rattle.stx_engine.specs.declared.pass.Pass.{Pass}
@@ -39,9 +38,9 @@ RunStays =
     → (run_on limits pass bytes false).ending ≢ Unready Need
     → run_on limits pass (bytes ++ more) ended ≡ run_on limits pass bytes false
 
--- So it is with the program's whole answer.
+-- So it is with the program's whole answer, where a plain run is asked for.
 abbrev pub AnswerStays : Type 0
 AnswerStays =
-    (words : List (List ℕ)) (docs : List Doc) (pass : Pass) (bytes more : List ℕ)
-    → asked words docs ≡ Some pass
-    → Begins (settled standard_limits pass bytes) (answer words docs (bytes ++ more)).out
+    (words : List (List ℕ)) (docs : List Doc) (plan : Plan) (bytes more : List ℕ)
+    → asked words docs ≡ Some plan
+    → Begins (settled plan.limits plan.pass bytes) (answer words docs (bytes ++ more)).out

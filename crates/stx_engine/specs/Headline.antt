@@ -6,15 +6,15 @@ use Rattle.stx_host.specs.Before.{AtMainReads, main_read, since}
 use Rattle.stx_host.specs.Outside.{Outside, Rose, place}
 use Rattle.stx_host.specs.declared.act.Act.{Act}
 use Rattle.stx_host.specs.declared.act.Doc.{Doc}
-use Rattle.stx_engine.specs.Answer.{Answer, sheet_named}
+use Rattle.stx_engine.specs.Answer.{Answer, asks_run, sheet_named}
 use Rattle.stx_engine.specs.Driving.{EndOnce, main_gots}
-use Rattle.stx_engine.specs.Line.{line_of, status_of}
+use Rattle.fault_report.specs.Line.{line_of, status_of}
 use Rattle.stx_engine.specs.Loading.{opens}
 use Rattle.stx_engine.specs.Running.{Asks, FailedIn, ReadsSheet}
-use Rattle.stx_engine.specs.declared.outcome.HostFault.{HostFault}
-use Rattle.stx_engine.specs.declared.outcome.HostFault.TheVariants as fault
-use Rattle.stx_engine.specs.declared.outcome.Outcome.{Outcome}
-use Rattle.stx_engine.specs.declared.outcome.Outcome.TheVariants.{Host, Memory}
+use Rattle.fault_report.specs.declared.outcome.HostFault.{HostFault}
+use Rattle.fault_report.specs.declared.outcome.HostFault.TheVariants as fault
+use Rattle.fault_report.specs.declared.outcome.Outcome.{Outcome}
+use Rattle.fault_report.specs.declared.outcome.Outcome.TheVariants.{Host, Memory}
 
 -- the host tells its documents, its main document, its log and its lanes
 pub record Tells (o : Outside) (docs : List Doc) (main : List ℕ) : Type 0 where
@@ -47,11 +47,12 @@ AsksSettled old new words docs main = AtMainReads (since old.log new.log) (since
 abbrev pub DecidesSheet : (old new : Outside) → (words : List (List ℕ)) → List Doc → Type 0
 DecidesSheet old new words docs = ReadsSheet words docs (since old.log new.log)
 
--- where the status is 0 the main document was read to its end; once its end is known it isn't read any more
-abbrev pub ReadsToEnd : (old new : Outside) → (main : List ℕ) → (status : ℕ) → Type 0
-ReadsToEnd old new main status =
+-- where the status of a run on the main document is 0 it was read to its end; once its end is known it isn't read any more
+abbrev pub ReadsToEnd : (old new : Outside) → (words : List (List ℕ)) → (main : List ℕ) → (status : ℕ) → Type 0
+ReadsToEnd old new words main status =
     let acts = since old.log new.log in
-    (ended : Bool) × EndOnce ended (main_gots acts) × (status ≡ 0 → (ended ≡ true) × (main_read acts ≡ length main))
+    (ended : Bool) × EndOnce ended (main_gots acts)
+    × (asks_run words ≡ true → status ≡ 0 → (ended ≡ true) × (main_read acts ≡ length main))
 
 -- the documents of the first of these names were opened, in order, and no others; all of them where the status is neither
 -- 5 nor 7

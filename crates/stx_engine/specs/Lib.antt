@@ -7,7 +7,6 @@ pub mod Ending
 pub mod Engine
 pub mod Growing
 pub mod Headline
-pub mod Line
 pub mod Loading
 pub mod Meaning
 pub mod More
@@ -15,6 +14,7 @@ pub mod Nesting
 pub mod Opens
 pub mod Output
 pub mod Passed
+pub mod RunEnd
 pub mod Running
 pub mod Scope
 pub mod Sheets

@@ -10,9 +10,9 @@ use Rattle.stx_host.specs.Outside.{Outside, Rose}
 use Rattle.stx_host.specs.declared.act.Act.{Act}
 use Rattle.stx_host.specs.declared.act.Act.TheVariants.{Open, Read, Write}
 use Rattle.stx_engine.specs.Sheets.{pass_of}
-use Rattle.stx_engine.specs.declared.outcome.HostFault.TheVariants.{Doc}
-use Rattle.stx_engine.specs.declared.outcome.Outcome.{Outcome}
-use Rattle.stx_engine.specs.declared.outcome.Outcome.TheVariants.{Sheet, Host, Memory}
+use Rattle.fault_report.specs.declared.outcome.HostFault.TheVariants.{Doc}
+use Rattle.fault_report.specs.declared.outcome.Outcome.{Outcome}
+use Rattle.fault_report.specs.declared.outcome.Outcome.TheVariants.{Sheet, Host, Memory}
 use Rattle.stx_engine.specs.declared.pass.Pass.{Pass}
 
 -- an accepted sheet begins with these bytes

@@ -5,11 +5,11 @@ ghost use Rattle.stx_engine.specs.Answer.{code_of};
 ghost use Rattle.stx_engine.specs.Engine.{Expects, FailsBy, GoesOn, IsEnd, IsGoing, IsWaiting, Means, Pumps, Reads, Wants, more, more_of};
 ghost use Rattle.stx_engine.specs.declared.engine.Pumped.TheVariants as pumped;
 ghost use Rattle.stx_engine.specs.declared.engine.Reading.TheVariants as reading;
-ghost use Rattle.stx_engine.specs.declared.outcome.Outcome.TheVariants as outcome;
+ghost use Rattle.fault_report.specs.declared.outcome.Outcome.TheVariants as outcome;
 
 use crate::copier::{Copier, Turn};
-use crate::outcome::Outcome;
 use crate::pass::Pass;
+use fault_report::Outcome;
 use result_writer::{ResultFault, WriteStop};
 use std::alloc::Global;
 use std::mem;

@@ -6,12 +6,10 @@ mod copier;
 mod driver;
 mod engine;
 pub mod law;
-mod line;
-mod outcome;
 mod pass;
+mod run_end;
 mod scope;
 mod sheet;
-mod words;
 
 pub use driver::transform;
 pub use pass::Pass;

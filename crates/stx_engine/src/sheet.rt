@@ -4,11 +4,11 @@ ghost use Rattle.stx_host.specs.Outside.{IsOpen, document, place};
 ghost use Rattle.stx_host.specs.declared.act.Act.{Act};
 ghost use Rattle.stx_engine.specs.Loading.{BeginsSheet, LoadActs, LoadAnswers, LoadCounts, ReadActs, refusal as refusal_of};
 ghost use Rattle.stx_engine.specs.Sheets.{is_spelled, pass_of as pass_of_sheet};
-ghost use Rattle.stx_engine.specs.declared.outcome.HostFault.TheVariants.{Doc};
-ghost use Rattle.stx_engine.specs.declared.outcome.Outcome.TheVariants.{Host as HostFailed};
+ghost use Rattle.fault_report.specs.declared.outcome.HostFault.TheVariants.{Doc};
+ghost use Rattle.fault_report.specs.declared.outcome.Outcome.TheVariants.{Host as HostFailed};
 
-use crate::outcome::{HostFault, Outcome};
 use crate::pass::Pass;
+use fault_report::{HostFault, Outcome};
 use std::alloc::Global;
 use stx_base::{Copied, Memory, SheetCode, SheetFault, Text};
 use stx_host::{Got, Host, Opened};

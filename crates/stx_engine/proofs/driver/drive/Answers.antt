@@ -2,8 +2,8 @@ use Rattle.std.proofs.Common.{rules, ◌≡◌, ℕ, ◌+◌, ◌∙◌, Bool, L
 use Rattle.std.specs.Prelude.{unwrap_or}
 use Rattle.stx_engine.specs.declared.engine.Piece.TheVariants.{Start, End}
 use Rattle.stx_engine.specs.declared.engine.Pumped.TheVariants as pumped
-use Rattle.stx_engine.specs.declared.outcome.Outcome.TheVariants.{Memory}
-use Rattle.stx_engine.specs.Driving.{counted}
+use Rattle.fault_report.specs.declared.outcome.Outcome.TheVariants.{Memory}
+use Rattle.stx_engine.specs.RunEnd.{counted}
 use Rattle.stx_engine.specs.Engine.{GoesOn, Pumps, more, more_of}
 use Rattle.stx_engine.specs.More.{Given}
 use Rattle.stx_engine.proofs.Driven.{Driving, starts, writes-on, reads-piece, reads-end, write-fails, read-fails, ends, waits_where}

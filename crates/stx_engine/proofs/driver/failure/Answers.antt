@@ -1,7 +1,7 @@
 use Rattle.std.proofs.Common.{ap, ◌∙◌, rules}
 use Rattle.std.specs.Prelude.{codes}
 use Rattle.std.proofs.lemmas.Str.{chars-IsAscii}
-use Rattle.stx_engine.specs.declared.outcome.Outcome.TheVariants.{Host}
+use Rattle.fault_report.specs.declared.outcome.Outcome.TheVariants.{Host}
 use Rattle.stx_engine.proofs.driver.failure.Goals as goal
 
 pub returns-in-Ok : goal.returns-in-Ok

@@ -7,9 +7,9 @@ use Rattle.stx_host.proofs.OpenIds.{given_back}
 use Rattle.stx_host.proofs.Stretches.{between_open}
 use Rattle.stx_host.proofs.ToCome.{with_here}
 use Rattle.stx_engine.specs.Loading.{LoadActs}
-use Rattle.stx_engine.specs.declared.outcome.HostFault.TheVariants.{Doc}
-use Rattle.stx_engine.specs.declared.outcome.Outcome.{Outcome}
-use Rattle.stx_engine.specs.declared.outcome.Outcome.TheVariants.{Host, Memory}
+use Rattle.fault_report.specs.declared.outcome.HostFault.TheVariants.{Doc}
+use Rattle.fault_report.specs.declared.outcome.Outcome.{Outcome}
+use Rattle.fault_report.specs.declared.outcome.Outcome.TheVariants.{Host, Memory}
 use Rattle.stx_engine.proofs.Loading.{by_document, load_acts, no_acts}
 use Rattle.stx_engine.proofs.sheet.load_sheet.Goals as goal
 

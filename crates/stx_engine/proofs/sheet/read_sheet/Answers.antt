@@ -4,7 +4,7 @@ use Rattle.std.specs.Option.{option_map}
 use Rattle.stx_base.specs.declared.fault.SheetCode.TheVariants as code
 use Rattle.stx_engine.specs.Loading.{BeginsSheet, LoadAnswers, ReadActs, accepted, refusal}
 use Rattle.stx_engine.specs.Sheets.{pass_of}
-use Rattle.stx_engine.specs.declared.outcome.Outcome.{Outcome}
+use Rattle.fault_report.specs.declared.outcome.Outcome.{Outcome}
 use Rattle.stx_engine.proofs.Forms.{none_begins}
 use Rattle.stx_engine.proofs.Loading.{cut_short, read_more, read_end}
 use Rattle.stx_engine.proofs.sheet.read_sheet.Goals as goal

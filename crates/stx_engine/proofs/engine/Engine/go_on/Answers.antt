@@ -2,7 +2,7 @@ use Rattle.std.proofs.Common.{◌≡◌, Some, refl, sym, ap, subst}
 use Rattle.stx_engine.specs.Answer.{code_of}
 use Rattle.stx_engine.specs.Engine.{Pumps, more}
 use Rattle.stx_engine.specs.declared.engine.Engine.{Engine}
-use Rattle.stx_engine.specs.declared.outcome.Outcome.TheVariants.{Done, Run}
+use Rattle.fault_report.specs.declared.outcome.Outcome.TheVariants.{Done, Run}
 use Rattle.stx_engine.proofs.Pumping.{pumps-done, pumps-faulty, pumps-lacks, pumps-refused, pumps-wants}
 use Rattle.stx_engine.proofs.engine.Engine.go_on.Goals as goal
 
