@@ -6,6 +6,7 @@ mod given;
 mod ran;
 mod tell;
 mod wanting;
+mod words;
 
 use rows::{Row, Tables, Trouble, run_rows};
 use std::alloc::Global;
@@ -22,6 +23,7 @@ impl Tables for Runs {
             "hosts" => tell::tell_host(alloc, row, out),
             "settled" => tell::tell_settled(alloc, row, out),
             "reads" => tell::tell_reads(alloc, row, out),
+            "words" => words::tell(alloc, row, out),
             "wanting memory" => wanting::tell(alloc, row, out),
             _ => Err(Trouble::Row("a table that isn't there")),
         }
