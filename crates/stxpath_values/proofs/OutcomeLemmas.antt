@@ -2,10 +2,12 @@
 use Rattle.std.proofs.Common.{◌≡◌, ℕ, suc, ◌+◌, ◌<◌, Bool, true, false, ℤ, ◌+ℤ◌, List, ◌∷◌, length, get_or, drop, refl, ap, sym, ◌∙◌, add-one, drop-cons, arith, nat_lt, ◌≤◌, Option, Some, None, Result, Ok, Err}
 use Rattle.std.proofs.Math.IntN.{+ℤ_assoc}
 use Rattle.std.proofs.lemmas.Bool.Decides.{nat_tests}
-use Rattle.stxpath_values.specs.Outcome.{some_holds, and_then, each, IsAnswer}
+use Rattle.stxpath_values.specs.Outcome.{some_holds, true_or, and_then, each, IsAnswer}
 use Rattle.stxpath_values.specs.Numeral.{whole}
 use Rattle.stxpath_values.specs.Conversion.{atom_whole, as_whole}
-use Rattle.stxpath_values.specs.Functions.{total, with_whole_or_none, list_value}
+use Rattle.stxpath_values.specs.Functions.{total, with_whole_or_none, limited_list}
+use Rattle.stxpath_values.specs.Lent.{IsSequence}
+use Rattle.stxpath_values.specs.declared.lent.Sequence.{Sequence}
 use Rattle.stxpath_values.specs.declared.value.Atom.{Atom}
 use Rattle.stxpath_values.specs.declared.fault.EvalFault.{EvalFault}
 use Rattle.stxpath_values.specs.declared.fault.EvalFault.TheVariants.{SequenceTooLong}
@@ -67,14 +69,20 @@ whole_or_none_is {A = A} (Some xs) z next e = go (as_whole xs) e
     go (Err fault) e = cc
 
 -- a list within the limit, and one beyond it
-pub list_within : (limits : Limits) (xs : List Atom) → length xs ≤ limits.sequence → list_value limits xs ≡ Ok xs
+pub list_within : (limits : Limits) (xs : List Atom) → length xs ≤ limits.sequence → limited_list limits xs ≡ Ok xs
 list_within limits xs h = let no : nat_lt limits.sequence (length xs) ≡ false = grind (arith, nat_tests) in rw no refl
 
-pub list_beyond : (limits : Limits) (xs : List Atom) → limits.sequence < length xs → list_value limits xs ≡ Err SequenceTooLong
+pub list_beyond : (limits : Limits) (xs : List Atom) → limits.sequence < length xs → limited_list limits xs ≡ Err SequenceTooLong
 list_beyond limits xs h = let yes : nat_lt limits.sequence (length xs) ≡ true = grind (arith, nat_tests) in rw yes refl
 
 -- a call that hands on the fault of another answers what goes on from that one's value
-pub fault_answered : {A B C : Type 0} (r : Result A EvalFault) (f : A → B) (g : B → Result C EvalFault) (e : EvalStop) (answer : Result C EvalStop) → answer ≡ Err e
-    → IsAnswer {A = B} (Err e) (and_then r (λ x. Ok (f x))) → IsAnswer answer (and_then r (λ x. g (f x)))
+pub fault_answered : {A B : Type 0} (r : Result A EvalFault) (f : A → B) (g : B → Result (List Atom) EvalFault) (e : EvalStop) (answer : Result Sequence EvalStop) → answer ≡ Err e
+    → IsAnswer {A = B} (Err e) (and_then r (λ x. Ok (f x))) → IsSequence answer (and_then r (λ x. g (f x)))
 fault_answered r f g (stop.Fault fault) answer is h = rw is (and_then_err r f g fault h)
 fault_answered r f g stop.Memory answer is h = rw is tt
+
+-- a test of one item alone
+pub only_holds : (r : Result Bool EvalFault) → and_then r (λ b. true_or b (Ok false)) ≡ r
+only_holds (Ok true) = refl
+only_holds (Ok false) = refl
+only_holds (Err e) = refl

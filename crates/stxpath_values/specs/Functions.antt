@@ -80,9 +80,15 @@ made_text limits cs = and_then (limited_text limits cs) text_value
 abbrev pub joined_text : Limits → (separator : List ℕ) → List Atom → Result (List ℕ) EvalFault
 joined_text limits separator atoms = limited_text limits (joined separator (map atom_text atoms))
 
+-- atoms as one text: only where there are several is one made of them, within the limit
+abbrev pub whole_text : Limits → (separator : List ℕ) → List Atom → Result (List ℕ) EvalFault
+whole_text limits separator [] = Ok []
+whole_text limits separator (x ∷ []) = Ok (atom_text x)
+whole_text limits separator (x ∷ y ∷ xs) = joined_text limits separator (x ∷ y ∷ xs)
+
 -- a list of several items, within the limit
-abbrev pub list_value : Limits → List Atom → Result (List Atom) EvalFault
-list_value limits xs = if nat_lt limits.sequence (length xs) then Err SequenceTooLong else Ok xs
+abbrev pub limited_list : {A : Type 0} → Limits → List A → Result (List A) EvalFault
+limited_list limits xs = if nat_lt limits.sequence (length xs) then Err SequenceTooLong else Ok xs
 
 -- the sum of numbers
 abbrev pub total : List ℤ → ℤ
@@ -123,8 +129,8 @@ called limits fun.Sum args = and_then (each atom_whole (argument args 0)) (λ zs
 called limits fun.ItemAt args = with_whole (argument args 1) (λ n. Ok (at_places (int_eq n) (argument args 0)))
 called limits fun.IndexOf args =
     and_then (as_one (argument args 1)) (λ x. and_then (each (λ y. pair_holds Eq y x) (argument args 0)) (λ holds.
-    list_value limits (map (λ p. Whole (pos p)) (places_of holds))))
+    limited_list limits (map (λ p. Whole (pos p)) (places_of holds))))
 called limits fun.Subsequence args =
     with_whole (argument args 1) (λ start. with_whole_or_none (slice_get args 2) (λ len.
-    list_value limits (at_places (is_within start len) (argument args 0))))
+    limited_list limits (at_places (is_within start len) (argument args 0))))
 called limits other args = Ok []

@@ -7,3 +7,4 @@ pub mod Places
 pub mod Words
 pub mod Functions
 pub mod Laws
+pub mod Lent

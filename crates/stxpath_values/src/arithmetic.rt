@@ -1,9 +1,13 @@
 ghost use Rattle.std.specs.Prelude.{◌≡◌};
+ghost use Rattle.std.specs.Result.{result_map_both};
 ghost use Rattle.stxpath_values.specs.Outcome.{stopped};
+ghost use Rattle.stxpath_values.specs.declared.value.Atom.TheVariants.{Whole};
 ghost use Rattle.stxpath_values.specs.Arithmetic.{arithmetic, computed};
+ghost use Rattle.stxpath_values.specs.Lent.{atoms_of};
 
-use crate::convert::to_whole;
+use crate::convert::whole_of;
 use crate::fault::{EvalFault, EvalStop};
+use crate::lent::Atoms;
 use crate::value::Atom;
 use stx_base::{List, Op};
 
@@ -12,10 +16,19 @@ use stx_base::{List, Op};
 pub fn arith(op: Op, left: &List<Atom>, right: &List<Atom>) -> Result<Atom, EvalStop>
     ensures { result ≡ stopped (arithmetic op left.now right.now) }
 {
-    let left = to_whole(left)?;
-    let right = to_whole(right)?;
-    let result = compute(op, left, right)?;
-    Ok(Atom::Whole(result))
+    let left = Atoms::List(left.as_slice());
+    let right = Atoms::List(right.as_slice());
+    let number = arith_lent(op, left, right)?;
+    Ok(Atom::Whole(number))
+}
+
+/// As `arith`, of atoms that are lent; the number itself. Allocates nothing.
+pub fn arith_lent(op: Op, left: Atoms<'_>, right: Atoms<'_>) -> Result<i64, EvalFault>
+    ensures { result_map_both Whole (λ fault. fault) result ≡ arithmetic op (atoms_of left.entry) (atoms_of right.entry) }
+{
+    let left = whole_of(left)?;
+    let right = whole_of(right)?;
+    compute(op, left, right)
 }
 
 fn compute(op: Op, left: i64, right: i64) -> Result<i64, EvalFault>

@@ -4,10 +4,12 @@ ghost use Rattle.std.specs.Cmp.Lexicographic.{slice_cmp};
 ghost use Rattle.std.specs.Str.{chars};
 ghost use Rattle.stxpath_values.specs.Outcome.{some_holds, stopped};
 ghost use Rattle.stxpath_values.specs.Comparison as spec;
+ghost use Rattle.stxpath_values.specs.Lent.{atom_of, atoms_of};
 ghost use Rattle.stxpath_values.specs.Comparison.{comparison, order_of_number};
 
 use crate::convert::atom_truth;
 use crate::fault::{EvalFault, EvalStop};
+use crate::lent::{AtomRef, Atoms};
 use crate::numeral::text_number;
 use crate::value::Atom;
 use std::cmp::Ordering;
@@ -22,22 +24,55 @@ pub fn compare(cmp: Cmp, left: &List<Atom>, right: &List<Atom>) -> Result<bool, 
     Ok(holds)
 }
 
+/// As `compare`, of atoms that are lent. Allocates nothing.
+pub fn compare_lent(cmp: Cmp, left: Atoms<'_>, right: Atoms<'_>) -> Result<bool, EvalFault>
+    ensures { result ≡ comparison cmp (atoms_of left.entry) (atoms_of right.entry) }
+{
+    match left {
+        Atoms::One(x) => compare_some(cmp, x, right),
+        Atoms::List(left) => match right {
+            Atoms::One(y) => compare_to(cmp, left, y),
+            Atoms::List(right) => compare_all(cmp, left, right),
+        },
+    }
+}
+
 fn compare_all(cmp: Cmp, left: &[Atom], right: &[Atom]) -> Result<bool, EvalFault>
     ensures { result ≡ comparison cmp left.now right.now }
 {
     for x in left {
-        if compare_one(cmp, x, right)? {
+        if compare_one(cmp, x.lent(), right)? {
             return Ok(true);
         }
     }
     Ok(false)
 }
 
-fn compare_one(cmp: Cmp, x: &Atom, right: &[Atom]) -> Result<bool, EvalFault>
-    ensures { result ≡ some_holds (spec.pair_holds cmp x.now) right.now }
+fn compare_to(cmp: Cmp, left: &[Atom], y: AtomRef<'_>) -> Result<bool, EvalFault>
+    ensures { result ≡ some_holds (λ x. spec.pair_holds cmp x (atom_of y.entry)) left.now }
+{
+    for x in left {
+        if pair_holds(cmp, x.lent(), y)? {
+            return Ok(true);
+        }
+    }
+    Ok(false)
+}
+
+fn compare_some(cmp: Cmp, x: AtomRef<'_>, right: Atoms<'_>) -> Result<bool, EvalFault>
+    ensures { result ≡ some_holds (spec.pair_holds cmp (atom_of x.entry)) (atoms_of right.entry) }
+{
+    match right {
+        Atoms::One(y) => pair_holds(cmp, x, y),
+        Atoms::List(right) => compare_one(cmp, x, right),
+    }
+}
+
+fn compare_one(cmp: Cmp, x: AtomRef<'_>, right: &[Atom]) -> Result<bool, EvalFault>
+    ensures { result ≡ some_holds (spec.pair_holds cmp (atom_of x.entry)) right.now }
 {
     for y in right {
-        if pair_holds(cmp, x, y)? {
+        if pair_holds(cmp, x, y.lent())? {
             return Ok(true);
         }
     }
@@ -45,34 +80,34 @@ fn compare_one(cmp: Cmp, x: &Atom, right: &[Atom]) -> Result<bool, EvalFault>
 }
 
 /// Whether a comparison holds of two atoms.
-pub fn pair_holds(cmp: Cmp, x: &Atom, y: &Atom) -> Result<bool, EvalFault>
-    ensures { result ≡ spec.pair_holds cmp x.now y.now }
+pub fn pair_holds(cmp: Cmp, x: AtomRef<'_>, y: AtomRef<'_>) -> Result<bool, EvalFault>
+    ensures { result ≡ spec.pair_holds cmp (atom_of x.entry) (atom_of y.entry) }
 {
     let order = order(x, y)?;
     Ok(admits(cmp, order))
 }
 
 /// How two atoms stand to each other; `None` where they are unequal and neither is less.
-fn order(x: &Atom, y: &Atom) -> Result<Option<Ordering>, EvalFault>
-    ensures { result ≡ spec.order x.now y.now }
+fn order(x: AtomRef<'_>, y: AtomRef<'_>) -> Result<Option<Ordering>, EvalFault>
+    ensures { result ≡ spec.order (atom_of x.entry) (atom_of y.entry) }
 {
     match x {
-        Atom::Truth(a) => Ok(Some(a.cmp(&atom_truth(y)))),
-        Atom::Whole(a) => match y {
-            Atom::Truth(b) => Ok(Some(atom_truth(x).cmp(b))),
-            Atom::Whole(b) => Ok(Some(a.cmp(b))),
-            Atom::Chars(text) => {
-                let order = order_of_number(*a, text.as_str())?;
+        AtomRef::Truth(a) => Ok(Some(a.cmp(&atom_truth(y)))),
+        AtomRef::Whole(a) => match y {
+            AtomRef::Truth(b) => Ok(Some(atom_truth(x).cmp(&b))),
+            AtomRef::Whole(b) => Ok(Some(a.cmp(&b))),
+            AtomRef::Chars(text) => {
+                let order = order_of_number(a, text.as_str())?;
                 Ok(order)
             }
         },
-        Atom::Chars(text) => match y {
-            Atom::Truth(b) => Ok(Some(atom_truth(x).cmp(b))),
-            Atom::Whole(b) => {
-                let order = order_of_number(*b, text.as_str())?;
+        AtomRef::Chars(text) => match y {
+            AtomRef::Truth(b) => Ok(Some(atom_truth(x).cmp(&b))),
+            AtomRef::Whole(b) => {
+                let order = order_of_number(b, text.as_str())?;
                 Ok(order.map(|o| o.reverse()))
             }
-            Atom::Chars(other) => Ok(Some(order_of_texts(text.as_str(), other.as_str()))),
+            AtomRef::Chars(other) => Ok(Some(order_of_texts(text.as_str(), other.as_str()))),
         },
     }
 }

@@ -1,6 +1,5 @@
-ghost use Rattle.std.specs.Prelude.{◌≡◌, ◌<◌, true, pos, [], ◌∷◌, length, is_some, nat_eq, map, IfOk, IfErr};
+ghost use Rattle.std.specs.Prelude.{◌≡◌, ◌<◌, true, pos, [], ◌∷◌, length, is_some, nat_eq, map, slice_get, option_map, IfOk, IfErr};
 ghost use Rattle.std.specs.List.{concat as concat_all, starts_with as list_starts_with, ends_with as list_ends_with};
-ghost use Rattle.std.specs.Option.{option_copied};
 ghost use Rattle.std.specs.Ordering.{int_eq};
 ghost use Rattle.std.specs.Str.{chars};
 ghost use Rattle.stx_base.specs.declared.expression.Cmp.TheVariants.{Eq};
@@ -13,14 +12,17 @@ ghost use Rattle.stxpath_values.specs.Places.{at_places, is_within, places_of, b
 ghost use Rattle.stxpath_values.specs.Words as words;
 ghost use Rattle.stxpath_values.specs.Functions as spec;
 ghost use Rattle.stxpath_values.specs.Functions.{called};
+ghost use Rattle.stxpath_values.specs.Lent.{atom_of, atoms_of, sequence_of, IsSequence};
 
-use crate::convert::{one_of, text_of, to_text, to_whole};
+use crate::convert::{one_of, text_of, whole_of};
 use crate::fault::{EvalFault, EvalStop};
+use crate::joins::join_lent;
+use crate::lent::{AtomRef, Atoms, Sequence};
 use crate::value::Atom;
 use crate::{lists, places, texts};
 use itoa::Buffer;
 use std::alloc::Global;
-use stx_base::{Fun, Limits, List, Text};
+use stx_base::{Fun, Limits, List, Memory, Text};
 
 /// Whether a function sees no node and takes so many arguments here: where one that is left out means the current node, it
 /// is handed in.
@@ -51,20 +53,50 @@ pub fn call(
     requires { spec.takes fun (length args.now) ≡ true }
     ensures { IsAnswer result (called limits.now fun args.now) }
 {
+    let lent = lent_lists(alloc, args)?;
+    let value = call_lent(alloc, fun, &lent, limits)?;
+    Ok(value.into_list(alloc)?)
+}
+
+fn lent_lists(alloc: Global, args: &List<List<Atom>>) -> Result<Vec<Sequence<'_>>, Memory>
+    ensures { IfOk result (λ lent. map sequence_of lent.items ≡ args.now) }
+{
+    let mut lent = Vec::new(alloc);
+    for arg in args.as_slice() {
+        lent.push(Sequence::Lent(Atoms::List(arg.as_slice())))?;
+    }
+    Ok(lent)
+}
+
+/// As `call`, of arguments that may be lent. What the value has of them is lent too.
+pub fn call_lent<'a>(
+    alloc: Global,
+    fun: Fun,
+    args: &[Sequence<'a>],
+    limits: &Limits,
+) -> Result<Sequence<'a>, EvalStop>
+    requires { spec.takes fun (length args.now) ≡ true }
+    ensures { IsSequence result (called limits.now fun (map sequence_of args.now)) }
+{
     match fun {
-        Fun::Str => string(alloc, argument(args, 0)),
-        Fun::Integer => integer(alloc, argument(args, 0)),
-        Fun::True => one_truth(alloc, true),
-        Fun::False => one_truth(alloc, false),
-        Fun::Concat => concat(alloc, args.as_slice(), limits),
+        Fun::Str => string(alloc, first(args)),
+        Fun::Integer => integer(argument(args, 0)),
+        Fun::True => Ok(truth(true)),
+        Fun::False => Ok(truth(false)),
+        Fun::Concat => concat(alloc, args, limits),
         Fun::StringJoin => string_join(alloc, argument(args, 0), argument(args, 1), limits),
-        Fun::StringLength => string_length(alloc, argument(args, 0)),
-        Fun::Substring => substring(alloc, argument(args, 0), argument(args, 1), args.get(2)),
+        Fun::StringLength => string_length(argument(args, 0)),
+        Fun::Substring => substring(
+            alloc,
+            argument(args, 0),
+            argument(args, 1),
+            optional(args, 2),
+        ),
         Fun::SubstringBefore => substring_before(alloc, argument(args, 0), argument(args, 1)),
         Fun::SubstringAfter => substring_after(alloc, argument(args, 0), argument(args, 1)),
-        Fun::Contains => contains(alloc, argument(args, 0), argument(args, 1)),
-        Fun::StartsWith => starts_with(alloc, argument(args, 0), argument(args, 1)),
-        Fun::EndsWith => ends_with(alloc, argument(args, 0), argument(args, 1)),
+        Fun::Contains => contains(argument(args, 0), argument(args, 1)),
+        Fun::StartsWith => starts_with(argument(args, 0), argument(args, 1)),
+        Fun::EndsWith => ends_with(argument(args, 0), argument(args, 1)),
         Fun::NormalizeSpace => normalize_space(alloc, argument(args, 0)),
         Fun::Translate => translate(
             alloc,
@@ -72,294 +104,279 @@ pub fn call(
             argument(args, 1),
             argument(args, 2),
         ),
-        Fun::Count => one_whole(alloc, argument(args, 0).len() as u64),
-        Fun::Empty => one_truth(alloc, argument(args, 0).is_empty()),
-        Fun::Exists => one_truth(alloc, !argument(args, 0).is_empty()),
-        Fun::Sum => sum(alloc, argument(args, 0)),
-        Fun::ItemAt => item_at(alloc, argument(args, 0), argument(args, 1)),
+        Fun::Count => whole(argument(args, 0).len() as u64),
+        Fun::Empty => Ok(truth(argument(args, 0).len() == 0)),
+        Fun::Exists => Ok(truth(argument(args, 0).len() != 0)),
+        Fun::Sum => sum(argument(args, 0)),
+        Fun::ItemAt => item_at(alloc, first(args), argument(args, 1)),
         Fun::IndexOf => index_of(alloc, argument(args, 0), argument(args, 1), limits),
         Fun::Subsequence => subsequence(
             alloc,
-            argument(args, 0),
+            first(args),
             argument(args, 1),
-            args.get(2),
+            optional(args, 2),
             limits,
         ),
         _ => unreachable!(),
     }
 }
 
-fn argument(args: &List<List<Atom>>, i: usize) -> &List<Atom>
+fn argument<'a>(args: &'a [Sequence<'_>], i: usize) -> Atoms<'a>
     requires { i < length args.now }
-    ensures { result.now ≡ spec.argument args.now i }
+    ensures { atoms_of result ≡ spec.argument (map sequence_of args.now) i }
+{
+    args[i].lent()
+}
+
+/// The first argument, of which a part may be lent.
+fn first<'v, 'a>(args: &'v [Sequence<'a>]) -> &'v Sequence<'a>
+    requires { 0 < length args.now }
+    ensures { sequence_of result.now ≡ spec.argument (map sequence_of args.now) 0 }
+{
+    &args[0]
+}
+
+/// An argument that may be left out.
+fn optional<'a>(args: &'a [Sequence<'_>], i: usize) -> Option<Atoms<'a>>
+    ensures { option_map atoms_of result ≡ slice_get (map sequence_of args.now) i }
 {
     match args.get(i) {
-        Some(argument) => argument,
-        None => unreachable!(),
+        Some(argument) => Some(argument.lent()),
+        None => None,
     }
 }
 
-/// A value of one item.
-fn one(alloc: Global, atom: Atom) -> Result<List<Atom>, EvalStop>
-    ensures ok { IfOk result (λ made. made ≡ atom ∷ []) }
-    ensures err { IfErr result (λ e. e ≡ stop.Memory) }
+fn one<'a>(atom: AtomRef<'a>) -> Sequence<'a>
+    ensures { sequence_of result ≡ atom_of atom.entry ∷ [] }
 {
-    let mut made = List::new(alloc);
-    made.push(atom)?;
-    Ok(made)
+    Sequence::Lent(Atoms::One(atom))
 }
 
-fn one_text(alloc: Global, text: Text) -> Result<List<Atom>, EvalStop>
-    ensures { IsAnswer result (spec.text_value text) }
+fn truth<'a>(b: bool) -> Sequence<'a>
+    ensures { Ok (sequence_of result) ≡ spec.truth_value b }
 {
-    one(alloc, Atom::Chars(text))
-}
-
-fn one_truth(alloc: Global, b: bool) -> Result<List<Atom>, EvalStop>
-    ensures { IsAnswer result (spec.truth_value b) }
-{
-    one(alloc, Atom::Truth(b))
+    one(AtomRef::Truth(b))
 }
 
 /// A count as a whole number.
-fn one_whole(alloc: Global, n: u64) -> Result<List<Atom>, EvalStop>
-    ensures { IsAnswer result (spec.whole_value (pos n)) }
+fn whole<'a>(n: u64) -> Result<Sequence<'a>, EvalStop>
+    ensures { IsSequence result (spec.whole_value (pos n)) }
 {
     match i64::try_from(n) {
-        Ok(n) => one(alloc, Atom::Whole(n)),
+        Ok(n) => Ok(one(AtomRef::Whole(n))),
         Err(_) => Err(EvalStop::Fault(EvalFault::Overflow)),
     }
 }
 
-fn string(alloc: Global, text: &List<Atom>) -> Result<List<Atom>, EvalStop>
-    ensures { IsAnswer result (spec.with_text text.now spec.text_value) }
+fn string<'a>(alloc: Global, text: &Sequence<'a>) -> Result<Sequence<'a>, EvalStop>
+    ensures { IsSequence result (spec.with_text (sequence_of text.now) spec.text_value) }
 {
-    let text = to_text(alloc, text)?;
-    one_text(alloc, text)
+    if let Sequence::Lent(Atoms::One(AtomRef::Chars(text))) = text {
+        return Ok(one(AtomRef::Chars(text)));
+    }
+    let mut buffer = Buffer::new();
+    let text = Text::of(alloc, text_of(text.lent(), &mut buffer)?)?;
+    Ok(Sequence::Text(text))
 }
 
-fn integer(alloc: Global, n: &List<Atom>) -> Result<List<Atom>, EvalStop>
-    ensures { IsAnswer result (spec.with_whole n.now spec.whole_value) }
+fn integer<'a>(n: Atoms<'_>) -> Result<Sequence<'a>, EvalStop>
+    ensures { IsSequence result (spec.with_whole (atoms_of n.entry) spec.whole_value) }
 {
-    let n = to_whole(n)?;
-    one(alloc, Atom::Whole(n))
+    let n = whole_of(n)?;
+    Ok(one(AtomRef::Whole(n)))
 }
 
-fn concat(alloc: Global, args: &[List<Atom>], limits: &Limits) -> Result<List<Atom>, EvalStop>
-    ensures { IsAnswer result (and_then (each as_text args.now) (λ parts. spec.made_text limits.now (concat_all parts))) }
+fn concat<'a>(
+    alloc: Global,
+    args: &[Sequence<'_>],
+    limits: &Limits,
+) -> Result<Sequence<'a>, EvalStop>
+    ensures { IsSequence result (and_then (each as_text (map sequence_of args.now)) (λ parts. spec.made_text limits.now (concat_all parts))) }
 {
     if texts::is_concat_longer(limits.text, args)? {
         return Err(EvalStop::Fault(EvalFault::TextTooLong));
     }
     let text = texts::concat(alloc, args)?;
-    one_text(alloc, text)
+    Ok(Sequence::Text(text))
 }
 
-fn string_join(
+fn string_join<'a>(
     alloc: Global,
-    items: &List<Atom>,
-    separator: &List<Atom>,
+    items: Atoms<'_>,
+    separator: Atoms<'_>,
     limits: &Limits,
-) -> Result<List<Atom>, EvalStop>
-    ensures { IsAnswer result (spec.with_text separator.now (λ between. spec.made_text limits.now (words.joined between (map atom_text items.now)))) }
+) -> Result<Sequence<'a>, EvalStop>
+    ensures { IsSequence result (spec.with_text (atoms_of separator.entry) (λ between. spec.made_text limits.now (words.joined between (map atom_text (atoms_of items.entry))))) }
 {
     let mut buffer = Buffer::new();
     let separator = text_of(separator, &mut buffer)?;
-    let text = joined_within(alloc, separator, items.as_slice(), limits)?;
-    one_text(alloc, text)
+    let text = join_lent(alloc, separator, items, limits)?;
+    Ok(Sequence::Text(text))
 }
 
-/// The texts of atoms in a row, with a separator between each two. It is refused, and not built, where it has more
-/// characters than the limit.
-pub fn join(
-    alloc: Global,
-    separator: &Text,
-    atoms: &List<Atom>,
-    limits: &Limits,
-) -> Result<Text, EvalStop>
-    ensures { IsAnswer result (spec.joined_text limits.now separator.now atoms.now) }
-{
-    joined_within(alloc, separator.as_str(), atoms.as_slice(), limits)
-}
-
-fn joined_within(
-    alloc: Global,
-    separator: &str,
-    atoms: &[Atom],
-    limits: &Limits,
-) -> Result<Text, EvalStop>
-    ensures { IsAnswer result (spec.joined_text limits.now (chars separator.now) atoms.now) }
-{
-    if texts::is_longer(limits.text, separator, atoms) {
-        return Err(EvalStop::Fault(EvalFault::TextTooLong));
-    }
-    let text = texts::joined(alloc, separator, atoms)?;
-    Ok(text)
-}
-
-fn string_length(alloc: Global, text: &List<Atom>) -> Result<List<Atom>, EvalStop>
-    ensures { IsAnswer result (spec.with_text text.now (λ cs. spec.whole_value (pos (length cs)))) }
+fn string_length<'a>(text: Atoms<'_>) -> Result<Sequence<'a>, EvalStop>
+    ensures { IsSequence result (spec.with_text (atoms_of text.entry) (λ cs. spec.whole_value (pos (length cs)))) }
 {
     let mut buffer = Buffer::new();
     let text = text_of(text, &mut buffer)?;
-    one_whole(alloc, texts::count(text))
+    whole(texts::count(text))
 }
 
 /// An argument that may be left out, as a whole number.
-fn whole_or_none(n: Option<&List<Atom>>) -> Result<Option<i64>, EvalFault>
-    ensures { result ≡ spec.with_whole_or_none (option_copied n.entry) Ok }
+fn whole_or_none(n: Option<Atoms<'_>>) -> Result<Option<i64>, EvalFault>
+    ensures { result ≡ spec.with_whole_or_none (option_map atoms_of n.entry) Ok }
 {
     match n {
-        Some(n) => Ok(Some(to_whole(n)?)),
+        Some(n) => Ok(Some(whole_of(n)?)),
         None => Ok(None),
     }
 }
 
-fn substring(
+fn substring<'a>(
     alloc: Global,
-    text: &List<Atom>,
-    start: &List<Atom>,
-    len: Option<&List<Atom>>,
-) -> Result<List<Atom>, EvalStop>
-    ensures { IsAnswer result (spec.with_text text.now (λ cs. spec.with_whole start.now (λ from. spec.with_whole_or_none (option_copied len.entry) (λ n. spec.text_value (at_places (is_within from n) cs))))) }
+    text: Atoms<'_>,
+    start: Atoms<'_>,
+    len: Option<Atoms<'_>>,
+) -> Result<Sequence<'a>, EvalStop>
+    ensures { IsSequence result (spec.with_text (atoms_of text.entry) (λ cs. spec.with_whole (atoms_of start.entry) (λ from. spec.with_whole_or_none (option_map atoms_of len.entry) (λ n. spec.text_value (at_places (is_within from n) cs))))) }
 {
     let mut buffer = Buffer::new();
     let text = text_of(text, &mut buffer)?;
-    let start = to_whole(start)?;
+    let start = whole_of(start)?;
     let len = whole_or_none(len)?;
     // A text has no more characters than bytes.
     let bounds = places::selected(start, len, text.len());
     let part = places::chars_between(alloc, text, bounds)?;
-    one_text(alloc, part)
+    Ok(Sequence::Text(part))
 }
 
-fn substring_before(
+fn substring_before<'a>(
     alloc: Global,
-    text: &List<Atom>,
-    word: &List<Atom>,
-) -> Result<List<Atom>, EvalStop>
-    ensures { IsAnswer result (spec.with_text text.now (λ cs. spec.with_text word.now (λ w. spec.text_value (before_word w cs)))) }
+    text: Atoms<'_>,
+    word: Atoms<'_>,
+) -> Result<Sequence<'a>, EvalStop>
+    ensures { IsSequence result (spec.with_text (atoms_of text.entry) (λ cs. spec.with_text (atoms_of word.entry) (λ w. spec.text_value (before_word w cs)))) }
 {
     let (mut first, mut second) = (Buffer::new(), Buffer::new());
     let text = text_of(text, &mut first)?;
     let word = text_of(word, &mut second)?;
     let part = Text::of(alloc, places::before(text, word))?;
-    one_text(alloc, part)
+    Ok(Sequence::Text(part))
 }
 
-fn substring_after(
+fn substring_after<'a>(
     alloc: Global,
-    text: &List<Atom>,
-    word: &List<Atom>,
-) -> Result<List<Atom>, EvalStop>
-    ensures { IsAnswer result (spec.with_text text.now (λ cs. spec.with_text word.now (λ w. spec.text_value (after_word w cs)))) }
+    text: Atoms<'_>,
+    word: Atoms<'_>,
+) -> Result<Sequence<'a>, EvalStop>
+    ensures { IsSequence result (spec.with_text (atoms_of text.entry) (λ cs. spec.with_text (atoms_of word.entry) (λ w. spec.text_value (after_word w cs)))) }
 {
     let (mut first, mut second) = (Buffer::new(), Buffer::new());
     let text = text_of(text, &mut first)?;
     let word = text_of(word, &mut second)?;
     let part = Text::of(alloc, places::after(text, word))?;
-    one_text(alloc, part)
+    Ok(Sequence::Text(part))
 }
 
-fn contains(alloc: Global, text: &List<Atom>, word: &List<Atom>) -> Result<List<Atom>, EvalStop>
-    ensures { IsAnswer result (spec.with_text text.now (λ cs. spec.with_text word.now (λ w. spec.truth_value (is_some (first_occurrence w cs))))) }
+fn contains<'a>(text: Atoms<'_>, word: Atoms<'_>) -> Result<Sequence<'a>, EvalStop>
+    ensures { IsSequence result (spec.with_text (atoms_of text.entry) (λ cs. spec.with_text (atoms_of word.entry) (λ w. spec.truth_value (is_some (first_occurrence w cs))))) }
 {
     let (mut first, mut second) = (Buffer::new(), Buffer::new());
     let text = text_of(text, &mut first)?;
     let word = text_of(word, &mut second)?;
-    one_truth(alloc, places::contains(text, word))
+    Ok(truth(places::contains(text, word)))
 }
 
-fn starts_with(alloc: Global, text: &List<Atom>, word: &List<Atom>) -> Result<List<Atom>, EvalStop>
-    ensures { IsAnswer result (spec.with_text text.now (λ cs. spec.with_text word.now (λ w. spec.truth_value (list_starts_with nat_eq cs w)))) }
+fn starts_with<'a>(text: Atoms<'_>, word: Atoms<'_>) -> Result<Sequence<'a>, EvalStop>
+    ensures { IsSequence result (spec.with_text (atoms_of text.entry) (λ cs. spec.with_text (atoms_of word.entry) (λ w. spec.truth_value (list_starts_with nat_eq cs w)))) }
 {
     let (mut first, mut second) = (Buffer::new(), Buffer::new());
     let text = text_of(text, &mut first)?;
     let word = text_of(word, &mut second)?;
-    one_truth(alloc, places::starts_with(text, word))
+    Ok(truth(places::starts_with(text, word)))
 }
 
-fn ends_with(alloc: Global, text: &List<Atom>, word: &List<Atom>) -> Result<List<Atom>, EvalStop>
-    ensures { IsAnswer result (spec.with_text text.now (λ cs. spec.with_text word.now (λ w. spec.truth_value (list_ends_with nat_eq cs w)))) }
+fn ends_with<'a>(text: Atoms<'_>, word: Atoms<'_>) -> Result<Sequence<'a>, EvalStop>
+    ensures { IsSequence result (spec.with_text (atoms_of text.entry) (λ cs. spec.with_text (atoms_of word.entry) (λ w. spec.truth_value (list_ends_with nat_eq cs w)))) }
 {
     let (mut first, mut second) = (Buffer::new(), Buffer::new());
     let text = text_of(text, &mut first)?;
     let word = text_of(word, &mut second)?;
-    one_truth(alloc, places::ends_with(text, word))
+    Ok(truth(places::ends_with(text, word)))
 }
 
-fn normalize_space(alloc: Global, text: &List<Atom>) -> Result<List<Atom>, EvalStop>
-    ensures { IsAnswer result (spec.with_text text.now (λ cs. spec.text_value (words.normalized cs))) }
+fn normalize_space<'a>(alloc: Global, text: Atoms<'_>) -> Result<Sequence<'a>, EvalStop>
+    ensures { IsSequence result (spec.with_text (atoms_of text.entry) (λ cs. spec.text_value (words.normalized cs))) }
 {
     let mut buffer = Buffer::new();
     let text = text_of(text, &mut buffer)?;
     let made = texts::normalized(alloc, text)?;
-    one_text(alloc, made)
+    Ok(Sequence::Text(made))
 }
 
-fn translate(
+fn translate<'a>(
     alloc: Global,
-    text: &List<Atom>,
-    from: &List<Atom>,
-    to: &List<Atom>,
-) -> Result<List<Atom>, EvalStop>
-    ensures { IsAnswer result (spec.with_text text.now (λ cs. spec.with_text from.now (λ old. spec.with_text to.now (λ new. spec.text_value (words.translation old new cs))))) }
+    text: Atoms<'_>,
+    from: Atoms<'_>,
+    to: Atoms<'_>,
+) -> Result<Sequence<'a>, EvalStop>
+    ensures { IsSequence result (spec.with_text (atoms_of text.entry) (λ cs. spec.with_text (atoms_of from.entry) (λ old. spec.with_text (atoms_of to.entry) (λ new. spec.text_value (words.translation old new cs))))) }
 {
     let (mut first, mut second, mut third) = (Buffer::new(), Buffer::new(), Buffer::new());
     let text = text_of(text, &mut first)?;
     let from = text_of(from, &mut second)?;
     let to = text_of(to, &mut third)?;
     let made = texts::translation(alloc, text, from, to)?;
-    one_text(alloc, made)
+    Ok(Sequence::Text(made))
 }
 
-fn sum(alloc: Global, items: &List<Atom>) -> Result<List<Atom>, EvalStop>
-    ensures { IsAnswer result (and_then (each atom_whole items.now) (λ zs. spec.whole_value (spec.total zs))) }
+fn sum<'a>(items: Atoms<'_>) -> Result<Sequence<'a>, EvalStop>
+    ensures { IsSequence result (and_then (each atom_whole (atoms_of items.entry)) (λ zs. spec.whole_value (spec.total zs))) }
 {
-    let total = lists::sum(items.as_slice())?;
-    one(alloc, Atom::Whole(total))
+    let total = lists::total(items)?;
+    Ok(one(AtomRef::Whole(total)))
 }
 
-fn item_at(alloc: Global, items: &List<Atom>, n: &List<Atom>) -> Result<List<Atom>, EvalStop>
-    ensures { IsAnswer result (spec.with_whole n.now (λ p. Ok (at_places (int_eq p) items.now))) }
+fn item_at<'a>(alloc: Global, items: &Sequence<'a>, n: Atoms<'_>) -> Result<Sequence<'a>, EvalStop>
+    ensures { IsSequence result (spec.with_whole (atoms_of n.entry) (λ p. Ok (at_places (int_eq p) (sequence_of items.now)))) }
 {
-    let n = to_whole(n)?;
-    let bounds = places::selected(n, Some(1), items.len());
-    let made = lists::copies(alloc, &items.as_slice()[bounds.from..bounds.to])?;
-    Ok(made)
+    let n = whole_of(n)?;
+    let bounds = places::selected(n, Some(1), items.lent().len());
+    let item = items.part(alloc, bounds)?;
+    Ok(item)
 }
 
-fn index_of(
+fn index_of<'a>(
     alloc: Global,
-    items: &List<Atom>,
-    one: &List<Atom>,
+    items: Atoms<'_>,
+    one: Atoms<'_>,
     limits: &Limits,
-) -> Result<List<Atom>, EvalStop>
-    ensures { IsAnswer result (and_then (as_one one.now) (λ x. and_then (each (λ y. pair_holds Eq y x) items.now) (λ holds. spec.list_value limits.now (map (λ p. Whole (pos p)) (places_of holds))))) }
+) -> Result<Sequence<'a>, EvalStop>
+    ensures { IsSequence result (and_then (as_one (atoms_of one.entry)) (λ x. and_then (each (λ y. pair_holds Eq y x) (atoms_of items.entry)) (λ holds. spec.limited_list limits.now (map (λ p. Whole (pos p)) (places_of holds))))) }
 {
     let one = one_of(one)?;
-    let made = lists::places_of_equal(alloc, items.as_slice(), one)?;
+    let made = lists::equal_places(alloc, items, one)?;
     if made.len() as u64 > limits.sequence as u64 {
         return Err(EvalStop::Fault(EvalFault::SequenceTooLong));
     }
-    Ok(made)
+    Ok(Sequence::List(made))
 }
 
-fn subsequence(
+fn subsequence<'a>(
     alloc: Global,
-    items: &List<Atom>,
-    start: &List<Atom>,
-    len: Option<&List<Atom>>,
+    items: &Sequence<'a>,
+    start: Atoms<'_>,
+    len: Option<Atoms<'_>>,
     limits: &Limits,
-) -> Result<List<Atom>, EvalStop>
-    ensures { IsAnswer result (spec.with_whole start.now (λ from. spec.with_whole_or_none (option_copied len.entry) (λ n. spec.list_value limits.now (at_places (is_within from n) items.now)))) }
+) -> Result<Sequence<'a>, EvalStop>
+    ensures { IsSequence result (spec.with_whole (atoms_of start.entry) (λ from. spec.with_whole_or_none (option_map atoms_of len.entry) (λ n. spec.limited_list limits.now (at_places (is_within from n) (sequence_of items.now))))) }
 {
-    let start = to_whole(start)?;
+    let start = whole_of(start)?;
     let len = whole_or_none(len)?;
-    let bounds = places::selected(start, len, items.len());
+    let bounds = places::selected(start, len, items.lent().len());
     if (bounds.to - bounds.from) as u64 > limits.sequence as u64 {
         return Err(EvalStop::Fault(EvalFault::SequenceTooLong));
     }
-    let made = lists::copies(alloc, &items.as_slice()[bounds.from..bounds.to])?;
-    Ok(made)
+    let part = items.part(alloc, bounds)?;
+    Ok(part)
 }

@@ -6,15 +6,17 @@ ghost use Rattle.std.specs.List.{concat as concat_all};
 ghost use Rattle.std.specs.Str.{chars};
 ghost use Rattle.stxpath_values.specs.Outcome.{IsAnswer, and_then, each};
 ghost use Rattle.stxpath_values.specs.Conversion.{as_text, atom_text as text_of_atom};
+ghost use Rattle.stxpath_values.specs.Lent.{atoms_of, sequence_of};
 ghost use Rattle.stxpath_values.specs.Words as spec;
 
 use crate::convert::{atom_text, text_of};
 use crate::fault::{EvalFault, EvalStop};
+use crate::lent::{Atoms, Sequence};
 use crate::value::Atom;
 use itoa::Buffer;
 use std::alloc::{AllocError, Global};
 use std::collections::BTreeMap;
-use stx_base::{List, Memory, Text, is_space};
+use stx_base::{Memory, Text, is_space};
 
 /// The words of a text, what stands between its white space, with one space between each two.
 pub fn normalized(alloc: Global, text: &str) -> Result<Text, Memory>
@@ -88,19 +90,19 @@ fn chars_of(alloc: Global, text: &str) -> Result<Vec<char>, AllocError>
 }
 
 /// The texts of lists in a row.
-pub fn concat(alloc: Global, lists: &[List<Atom>]) -> Result<Text, EvalStop>
-    ensures { IsAnswer result (and_then (each as_text lists.now) (λ parts. Ok (concat_all parts))) }
+pub fn concat(alloc: Global, lists: &[Sequence<'_>]) -> Result<Text, EvalStop>
+    ensures { IsAnswer result (and_then (each as_text (map sequence_of lists.now)) (λ parts. Ok (concat_all parts))) }
 {
     let mut made = Text::new(alloc);
     for list in lists {
-        push_list(&mut made, list)?;
+        push_list(&mut made, list.lent())?;
     }
     Ok(made)
 }
 
-fn push_list(made: &mut Text, list: &List<Atom>) -> Result<(), EvalStop>
-    ensures fault { IsAnswer result (and_then (as_text list.now) (λ cs. Ok tt)) }
-    ensures ok { OnOk result (and_then (as_text list.now) (λ cs. Ok (made.old ++ cs)) ≡ Ok made.new) }
+fn push_list(made: &mut Text, list: Atoms<'_>) -> Result<(), EvalStop>
+    ensures fault { IsAnswer result (and_then (as_text (atoms_of list.entry)) (λ cs. Ok tt)) }
+    ensures ok { OnOk result (and_then (as_text (atoms_of list.entry)) (λ cs. Ok (made.old ++ cs)) ≡ Ok made.new) }
 {
     let mut buffer = Buffer::new();
     let text = text_of(list, &mut buffer)?;
@@ -109,20 +111,20 @@ fn push_list(made: &mut Text, list: &List<Atom>) -> Result<(), EvalStop>
 }
 
 /// Whether they have more characters than the limit. Nothing is built.
-pub fn is_concat_longer(limit: u64, lists: &[List<Atom>]) -> Result<bool, EvalFault>
-    ensures { result ≡ and_then (each as_text lists.now) (λ parts. Ok (nat_lt limit (length (concat_all parts)))) }
+pub fn is_concat_longer(limit: u64, lists: &[Sequence<'_>]) -> Result<bool, EvalFault>
+    ensures { result ≡ and_then (each as_text (map sequence_of lists.now)) (λ parts. Ok (nat_lt limit (length (concat_all parts)))) }
 {
     let mut room = Some(limit);
     for list in lists {
-        let len = list_len(list)?;
+        let len = list_len(list.lent())?;
         room = less(room, len);
     }
     Ok(room.is_none())
 }
 
 /// How many characters a list has as a text.
-fn list_len(list: &List<Atom>) -> Result<u64, EvalFault>
-    ensures { result ≡ and_then (as_text list.now) (λ cs. Ok (length cs)) }
+fn list_len(list: Atoms<'_>) -> Result<u64, EvalFault>
+    ensures { result ≡ and_then (as_text (atoms_of list.entry)) (λ cs. Ok (length cs)) }
 {
     let mut buffer = Buffer::new();
     let text = text_of(list, &mut buffer)?;
@@ -156,7 +158,7 @@ fn push_atom(made: &mut Text, atom: &Atom) -> Result<(), Memory>
     ensures { OnOk result (made.new ≡ made.old ++ text_of_atom atom.now) }
 {
     let mut buffer = Buffer::new();
-    made.push_str(atom_text(atom, &mut buffer))
+    made.push_str(atom_text(atom.lent(), &mut buffer))
 }
 
 /// Whether they have more characters than the limit. Nothing is built.
@@ -179,7 +181,7 @@ fn atom_len(atom: &Atom) -> u64
     ensures { result ≡ length (text_of_atom atom.now) }
 {
     let mut buffer = Buffer::new();
-    count(atom_text(atom, &mut buffer))
+    count(atom_text(atom.lent(), &mut buffer))
 }
 
 /// How many characters a text has.

@@ -1,9 +1,9 @@
-use Rattle.std.proofs.Common.{◌≡◌, ◌+◌, ◌-◌, pos, take, drop, Ok, sym, ap, ◌∙◌, arith, rules}
+use Rattle.std.proofs.Common.{◌≡◌, ◌+◌, ◌-◌, pos, length, option_map, take, drop, Ok, sym, ap, ◌∙◌, arith, rules}
 use Rattle.std.specs.Int.{w64}
-use Rattle.std.specs.Option.{option_copied}
 use Rattle.std.proofs.Math.Facts.{to_z-of_z}
 use Rattle.stxpath_values.specs.Conversion.{as_whole}
-use Rattle.stxpath_values.specs.Functions.{list_value}
+use Rattle.stxpath_values.specs.Functions.{limited_list}
+use Rattle.stxpath_values.specs.Lent.{atoms_of, sequence_of}
 use Rattle.stxpath_values.specs.Places.{at_places, is_within}
 use Rattle.stxpath_values.proofs.OutcomeLemmas.{whole_or_none_is, list_within, list_beyond}
 use Rattle.stxpath_values.proofs.PlacesLemmas.{at_places_between, length_between}
@@ -15,13 +15,14 @@ returns-then-bounds-limits c =
     let len = c.in_ok-len.len in
     let from = c.selected-bounds.result.from in
     let to = c.selected-bounds.result.to in
-    let xs = c.args.items.now in
-    let b : Ok start ≡ as_whole c.args.start.now = c.in_ok-start.ensures in
-    let d = whole_or_none_is (option_copied c.args.len) len (λ n. list_value c.args.limits.now (at_places (is_within start n) xs)) c.in_ok-len.ensures in
-    let part : at_places (is_within start len) xs ≡ take (to - from) (drop from xs) = at_places_between (is_within start len) from to c.len.result xs (omega (arith, c.len.ensures.value))
+    let xs = sequence_of c.args.items.now in
+    let size : c.len.result ≡ length xs = c.len.ensures ∙ ap length c.lent.ensures in
+    let b : Ok start ≡ as_whole (atoms_of c.args.start) = c.in_ok-start.ensures in
+    let d = whole_or_none_is (option_map atoms_of c.args.len) len (λ n. limited_list c.args.limits.now (at_places (is_within start n) xs)) c.in_ok-len.ensures in
+    let part : at_places (is_within start len) xs ≡ take (to - from) (drop from xs) = at_places_between (is_within start len) from to c.len.result xs (omega (arith, size))
     (λ i l. ap (λ z. is_within z len (pos (i + 1))) (sym (to_z-of_z {w = w64} {z = start} (search rules))) ∙ c.selected-bounds.ensures.within i l) in
-    let size = length_between from to xs (omega (arith, c.len.ensures.value, c.selected-bounds.ensures.size)) in
-    rw (← b, d, part) (list_beyond c.args.limits.now _ (omega (arith, size, c.if-bounds-limits.true)))
+    let part_size = length_between from to xs (omega (arith, size, c.selected-bounds.ensures.size)) in
+    rw (← b, d, part) (list_beyond c.args.limits.now _ (omega (arith, part_size, c.if-bounds-limits.true)))
 
 pub returns : goal.returns
 returns c =
@@ -29,10 +30,11 @@ returns c =
     let len = c.in_ok-len.len in
     let from = c.selected-bounds.result.from in
     let to = c.selected-bounds.result.to in
-    let xs = c.args.items.now in
-    let b : Ok start ≡ as_whole c.args.start.now = c.in_ok-start.ensures in
-    let d = whole_or_none_is (option_copied c.args.len) len (λ n. list_value c.args.limits.now (at_places (is_within start n) xs)) c.in_ok-len.ensures in
-    let part : at_places (is_within start len) xs ≡ take (to - from) (drop from xs) = at_places_between (is_within start len) from to c.len.result xs (omega (arith, c.len.ensures.value))
+    let xs = sequence_of c.args.items.now in
+    let size : c.len.result ≡ length xs = c.len.ensures ∙ ap length c.lent.ensures in
+    let b : Ok start ≡ as_whole (atoms_of c.args.start) = c.in_ok-start.ensures in
+    let d = whole_or_none_is (option_map atoms_of c.args.len) len (λ n. limited_list c.args.limits.now (at_places (is_within start n) xs)) c.in_ok-len.ensures in
+    let part : at_places (is_within start len) xs ≡ take (to - from) (drop from xs) = at_places_between (is_within start len) from to c.len.result xs (omega (arith, size))
     (λ i l. ap (λ z. is_within z len (pos (i + 1))) (sym (to_z-of_z {w = w64} {z = start} (search rules))) ∙ c.selected-bounds.ensures.within i l) in
-    let size = length_between from to xs (omega (arith, c.len.ensures.value, c.selected-bounds.ensures.size)) in
-    rw (← b, d, part) (list_within c.args.limits.now _ (omega (arith, size, c.if-bounds-limits.false)) ∙ ap Ok (ap (λ l. take (to - from) (drop from l)) (sym c.as_slice.ensures) ∙ sym c.in_ok-made.ensures))
+    let part_size = length_between from to xs (omega (arith, size, c.selected-bounds.ensures.size)) in
+    rw (← b, d, part) (list_within c.args.limits.now _ (omega (arith, part_size, c.if-bounds-limits.false)) ∙ ap (λ l. Ok l) (sym c.in_ok-part.ensures))

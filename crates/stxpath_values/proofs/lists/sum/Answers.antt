@@ -25,7 +25,7 @@ loop-atom-preserved c =
     ap (λ a. to_z w128 (of_z w128 (sum +ℤ to_z w128 (of_z w128 a)))) (to_z-of_z {w = w64} {z = n} fits)
     ∙ ap (λ a. to_z w128 (of_z w128 (sum +ℤ a))) (to_z-of_z {w = w128} {z = n} wider)
     ∙ to_z-of_z {w = w128} {z = sum +ℤ n} fits_sum in
-    let item : atom_whole (get_or xs i c.atom-item.result) ≡ Ok n = ap atom_whole (sym c.atom-item.is) ∙ sym c.in_ok-sum.ensures in
+    let item : atom_whole (get_or xs i c.atom-item.result) ≡ Ok n = ap atom_whole (sym c.atom-item.is ∙ sym c.lent.ensures) ∙ sym c.in_ok-sum.ensures in
     record {
       value = subst (λ (s : ℤ). and_then (each atom_whole (drop (i + 1) xs)) (λ zs. whole (s +ℤ total zs)) ≡ and_then (each atom_whole xs) (λ zs. whole (total zs)))
           (sym same) (sum_step xs i c.atom-item.result sum n within item ∙ c.loop-atom.invariant.value);

@@ -3,7 +3,7 @@ use Rattle.std.specs.Prelude.{unsigned_abs}
 use Rattle.std.proofs.Math.Nat.{mod-le}
 use Rattle.std.proofs.lemmas.Int.{quot-rem, rem_below, ints}
 use Rattle.stxpath_values.specs.Laws.{RemainderOfPositive, RemainderOfNegative}
-use Rattle.stxpath_values.proofs.laws.division.Goals as goal
+use Rattle.stxpath_values.proofs.law.division.Goals as goal
 
 apart : (y : ℤ) → y ≢ pos 0 → 0 < unsigned_abs y
 apart (pos zero) ne = absurd (ne refl)
