@@ -1,7 +1,9 @@
 -- What follows from what calls answer.
 use Rattle.std.proofs.Common.{◌≡◌, Bool, List, Option, Result, Ok, Err, refl, ap, sym, subst, ◌∙◌}
 use Rattle.stxpath_values.specs.Outcome.{and_then, stopped, IsAnswer}
+use Rattle.stxpath_eval.specs.Held.{IsHeld}
 use Rattle.stxpath_eval.specs.Setting.{Setting}
+use Rattle.stxpath_eval.specs.declared.held.Held.{Held}
 use Rattle.stxpath_eval.specs.Steps.{Meaning}
 use Rattle.stxpath_eval.specs.Value.{binary, decided, decided_or, value}
 use Rattle.stxpath_syntax.specs.declared.expr.Bin.{Bin}
@@ -36,8 +38,8 @@ pub stops_at : {A B : Type 0} (answer : Result B EvalStop) (e : EvalStop) (r : R
 stops_at {B = B} answer e r next is h = subst (λ a. IsAnswer {A = B} a (and_then r next)) (sym is) (stops e r next h)
 
 -- an expression of a form is answered by what answers the form's meaning
-pub arm : (answer : Result (List Item) EvalStop) (x y : Expr) (m : Meaning) (g : Setting) → x ≡ y → value y ≡ m → IsAnswer answer (m g) → IsAnswer answer (value x g)
-arm answer x y m g is means h = subst (λ v. IsAnswer answer (v g)) (sym (ap value is ∙ means)) h
+pub arm : (answer : Result Held EvalStop) (x y : Expr) (m : Meaning) (g : Setting) → x ≡ y → value y ≡ m → IsHeld answer (m g) → IsHeld answer (value x g)
+arm answer x y m g is means h = subst (λ v. IsHeld answer (v g)) (sym (ap value is ∙ means)) h
 
 -- an operator with two operands, of which the left one is evaluated, and asked whether it decides
 pub binary_at : (g : Setting) (b : Bin) (x y : Meaning) (left : List Item) (d : Result (Option Bool) EvalFault) → x g ≡ Ok left → d ≡ decided b left

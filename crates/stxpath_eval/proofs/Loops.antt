@@ -1,13 +1,15 @@
 -- One turn of each loop over expressions, steps and places.
-use Rattle.std.proofs.Common.{◌≡◌, ℕ, suc, ◌+◌, ◌<◌, ◌≤◌, Bool, true, false, if◌then◌else◌, List, [], ◌∷◌, ◌++◌, length, get_or, drop, map, Result, Ok, Err, refl, ap, sym, subst, ◌∙◌, append_assoc}
+use Rattle.std.proofs.Common.{◌≡◌, ℕ, zero, suc, ◌+◌, ◌<◌, ◌≤◌, Bool, true, false, if◌then◌else◌, List, [], ◌∷◌, ◌++◌, length, get_or, drop, map, Result, Ok, Err, refl, ap, sym, subst, ◌∙◌, append_assoc, arith}
 use Rattle.std.proofs.lemmas.List.{append-nil, at_drop_all, at_drop_more}
-use Rattle.std.specs.List.{range_with_len}
+use Rattle.std.specs.List.{list_any, range_with_len}
 use Rattle.stxpath_eval.specs.Setting.{Setting}
-use Rattle.stxpath_eval.specs.Steps.{all_hold, along, holds, kept}
-use Rattle.stxpath_eval.specs.Value.{joined, measured, reaching, value}
+use Rattle.stxpath_eval.specs.Steps.{Meaning, Reaching, all_hold, along, ends_at, holds, kept, leads}
+use Rattle.stxpath_eval.specs.Value.{in_a_row, reaching, value}
 use Rattle.stxpath_eval.proofs.Answers.{stops, stops_at}
 use Rattle.stxpath_syntax.specs.declared.expr.Expr.{Expr}
+use Rattle.stxpath_syntax.specs.declared.expr.Expr.TheOpen.{PathStep-F}
 use Rattle.stxpath_syntax.specs.declared.expr.PathStep.{PathStep}
+use Rattle.stxpath_values.specs.Functions.{limited_list}
 use Rattle.stxpath_values.specs.Outcome.{and_then, each, IsAnswer}
 use Rattle.stxpath_values.specs.declared.fault.EvalFault.{EvalFault}
 use Rattle.stxpath_values.specs.declared.fault.EvalStop.{EvalStop}
@@ -74,20 +76,20 @@ pub stops_in : {B C : Type 0} (answer : Result C EvalStop) (e : EvalStop) (whole
 stops_in answer e whole r next is at h = subst (λ w. IsAnswer answer w) (sym at) (stops_at answer e r next is h)
 
 abbrev pub joined_on : Setting → (before : List Item) → List Expr → List Item → Result (List Item) EvalFault
-joined_on g before xs items = and_then (measured g.limits (before ++ items)) (λ all. joined g all (map value xs))
+joined_on g before xs items = and_then (limited_list g.limits (before ++ items)) (λ all. in_a_row g all (map value xs))
 
 pub joined_at : (g : Setting) (xs : List Expr) (i : ℕ) (x : Expr) (before : List Item) → i < length xs → x ≡ get_or xs i x
-    → joined g before (map value (drop i xs)) ≡ and_then (value x g) (joined_on g before (drop (i + 1) xs))
-joined_at g xs i x before h at = ap (λ l. joined g before (map value l)) (next_is xs i x h at)
+    → in_a_row g before (map value (drop i xs)) ≡ and_then (value x g) (joined_on g before (drop (i + 1) xs))
+joined_at g xs i x before h at = ap (λ l. in_a_row g before (map value l)) (next_is xs i x h at)
 
 pub joined_here : (g : Setting) (xs : List Expr) (i : ℕ) (x : Expr) (before items : List Item) → i < length xs → x ≡ get_or xs i x → value x g ≡ Ok items
-    → joined g before (map value (drop i xs)) ≡ joined_on g before (drop (i + 1) xs) items
+    → in_a_row g before (map value (drop i xs)) ≡ joined_on g before (drop (i + 1) xs) items
 joined_here g xs i x before items h at is = joined_at g xs i x before h at ∙ ap (λ r. and_then r (joined_on g before (drop (i + 1) xs))) is
 
 pub joined_more : (g : Setting) (xs : List Expr) (i : ℕ) (x : Expr) (before items all : List Item) → i < length xs → x ≡ get_or xs i x → value x g ≡ Ok items
-    → measured g.limits (before ++ items) ≡ Ok all → joined g before (map value (drop i xs)) ≡ joined g all (map value (drop (i + 1) xs))
+    → limited_list g.limits (before ++ items) ≡ Ok all → in_a_row g before (map value (drop i xs)) ≡ in_a_row g all (map value (drop (i + 1) xs))
 joined_more g xs i x before items all h at is fits =
-    joined_here g xs i x before items h at is ∙ ap (λ r. and_then r (λ all. joined g all (map value (drop (i + 1) xs)))) fits
+    joined_here g xs i x before items h at is ∙ ap (λ r. and_then r (λ all. in_a_row g all (map value (drop (i + 1) xs)))) fits
 
 pub along_at : (g : Setting) (xs : List PathStep) (i : ℕ) (x : PathStep) (places : List ℕ) → i < length xs → x ≡ get_or xs i x
     → along (map reaching (drop i xs)) g places ≡ and_then (reaching x g places) (along (map reaching (drop (i + 1) xs)) g)
@@ -129,3 +131,18 @@ pub kept_stops : (ask : ℕ → Result Bool EvalFault) (ys : List ℕ) (from n :
 kept_stops ask ys from n answer e is h =
     let next = λ (one : Bool). and_then (kept ask (range_with_len (from + 1) n)) (λ others. Ok (if one then from ∷ others else others)) in
     stops_at answer e (and_then (ask from) next) (λ rest. Ok (ys ++ rest)) is (stops e (ask from) next h)
+
+-- places of which none is kept
+pub kept_past : (ask : ℕ → Result Bool EvalFault) (ys : List ℕ) (from k n : ℕ) → ((p : ℕ) → from ≤ p → p < from + k → ask p ≡ Ok false)
+    → with_kept ask ys from (n + k) ≡ with_kept ask ys (from + k) n
+kept_past ask ys from zero n none =
+    ap (λ m. with_kept ask ys from m) (let e : n + 0 ≡ n = omega arith in e) ∙ ap (λ m. with_kept ask ys m n) (let e : from ≡ from + 0 = omega arith in e)
+kept_past ask ys from (suc k) n none =
+    ap (λ m. with_kept ask ys from m) (let e : n + suc k ≡ suc (n + k) = omega arith in e)
+    ∙ kept_more ask ys from (n + k) false (none from (omega arith) (omega arith))
+    ∙ kept_past ask ys (from + 1) k n (λ p l u. none p (omega arith) (omega arith))
+    ∙ ap (λ m. with_kept ask ys m n) (let e : (from + 1) + k ≡ from + suc k = omega arith in e)
+
+-- where a step leads to no place, it doesn't end
+pub not_led : (s : PathStep-F Meaning Reaching) (g : Setting) (places : List ℕ) (place : ℕ) → list_any (λ from. leads s.link from place) places ≡ false → ends_at s g places place ≡ Ok false
+not_led s g places place none = rw none refl

@@ -12,11 +12,11 @@ use Rattle.stxpath_syntax.specs.declared.expr.Expr.{Expr}
 use Rattle.stxpath_syntax.specs.declared.expr.Expr.TheVariants as e
 use Rattle.stxpath_syntax.specs.declared.expr.PathStep.{PathStep}
 
-left_true : (a b : Bool) → (a && b) ≡ true → a ≡ true
+pub left_true : (a b : Bool) → (a && b) ≡ true → a ≡ true
 left_true true b h = refl
 left_true false b h = cc
 
-right_true : (a b : Bool) → (a && b) ≡ true → b ≡ true
+pub right_true : (a b : Bool) → (a && b) ≡ true → b ≡ true
 right_true true b h = h
 right_true false b h = cc
 

@@ -1,4 +1,5 @@
 pub mod Env
+pub mod Held
 pub mod Nodes
 pub mod Setting
 pub mod Steps

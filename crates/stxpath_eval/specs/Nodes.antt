@@ -1,5 +1,5 @@
 -- Nodes in values, and what is told of them.
-use Rattle.std.specs.Prelude.{ℕ, ◌+◌, Bool, true, false, if◌then◌else◌, List, [], ◌∷◌, ◌++◌, map, slice_get, Option, Some, None, option_map}
+use Rattle.std.specs.Prelude.{ℕ, ◌+◌, Bool, true, false, if◌then◌else◌, List, [], ◌∷◌, map, slice_get, Option, Some, None, option_map}
 use Rattle.stx_base.specs.declared.name.Attr.{Attr}
 use Rattle.stx_base.specs.declared.name.Name.{Name}
 use Rattle.stx_base.specs.declared.node.First.{First}
@@ -8,6 +8,7 @@ use Rattle.stx_base.specs.declared.node.NodeTest.{NodeTest}
 use Rattle.node_stack.specs.Path.{Node, Document, Element, Pi, Attribute, Path, attributes, node_at, text_of}
 use Rattle.node_stack.specs.Test as kind
 use Rattle.node_stack.specs.Test.{passes}
+use Rattle.stxpath_syntax.specs.Printing.{prefixed}
 use Rattle.stxpath_values.specs.declared.value.Atom.{Atom}
 use Rattle.stxpath_values.specs.declared.value.Atom.TheVariants as atom
 use Rattle.stxpath_values.specs.declared.value.Item.{Item}
@@ -47,11 +48,6 @@ atom_of p (item.Node r) = atom.Chars (text_of (referred p r))
 
 abbrev pub atoms : Path → List Item → List Atom
 atoms p items = map (atom_of p) items
-
--- with a colon between, where there is a prefix
-abbrev pub prefixed : (prefix local : List ℕ) → List ℕ
-prefixed [] local = local
-prefixed (c ∷ cs) local = c ∷ (cs ++ 58 ∷ local)
 
 -- a name as written
 abbrev pub written : Name → List ℕ

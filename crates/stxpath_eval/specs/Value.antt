@@ -1,11 +1,10 @@
 -- The value of an expression.
-use Rattle.std.specs.Prelude.{ℕ, pos, ◌-◌, nat_le, nat_lt, Bool, true, false, not, if◌then◌else◌, List, [], ◌∷◌, ◌++◌, length, map, Option, Some, None, Result, Ok, Err, flat_map}
+use Rattle.std.specs.Prelude.{ℕ, pos, ◌-◌, nat_le, Bool, true, false, not, if◌then◌else◌, List, [], ◌∷◌, ◌++◌, map, Option, Some, None, Result, Ok, Err, flat_map}
 use Rattle.stx_base.specs.declared.expression.Cmp.{Cmp}
 use Rattle.stx_base.specs.declared.expression.Fun.{Fun}
 use Rattle.stx_base.specs.declared.expression.Fun.TheVariants as fun
 use Rattle.stx_base.specs.declared.expression.Op.{Op}
 use Rattle.stx_base.specs.declared.expression.Op.TheVariants.{Sub}
-use Rattle.stx_base.specs.declared.limits.Limits.{Limits}
 use Rattle.stx_base.specs.declared.node.NodeTest.{NodeTest}
 use Rattle.node_stack.specs.Path.{Node, Path, is_attribute, node_at, position, text_of}
 use Rattle.stxpath_syntax.specs.declared.expr.Bin.{Bin}
@@ -17,14 +16,14 @@ use Rattle.stxpath_syntax.specs.declared.expr.PathStep.{PathStep}
 use Rattle.stxpath_values.specs.Arithmetic.{arithmetic}
 use Rattle.stxpath_values.specs.Comparison.{comparison}
 use Rattle.stxpath_values.specs.Conversion.{as_truth}
-use Rattle.stxpath_values.specs.Functions.{called}
+use Rattle.stxpath_values.specs.Functions.{called, limited_list}
 use Rattle.stxpath_values.specs.Outcome.{and_then, each}
 use Rattle.stxpath_values.specs.declared.value.Atom.{Atom}
 use Rattle.stxpath_values.specs.declared.value.Atom.TheVariants as atom
 use Rattle.stxpath_values.specs.declared.value.Item.{Item}
 use Rattle.stxpath_values.specs.declared.value.Item.TheVariants as item
 use Rattle.stxpath_values.specs.declared.fault.EvalFault.{EvalFault}
-use Rattle.stxpath_values.specs.declared.fault.EvalFault.TheVariants.{NotNode, NotOne, NoVariable, SequenceTooLong}
+use Rattle.stxpath_values.specs.declared.fault.EvalFault.TheVariants.{NotNode, NotOne, NoVariable}
 use Rattle.stxpath_eval.specs.Nodes.{atoms, attributes_at, has_child, local_name_of, name_of, node, referred, uri_of}
 use Rattle.stxpath_eval.specs.Setting.{Setting, current}
 use Rattle.stxpath_eval.specs.Steps.{Meaning, Reaching, along, step_layer}
@@ -47,23 +46,19 @@ whole_item n = one (atom.Whole (pos n))
 abbrev pub atom_items : List Atom → List Item
 atom_items xs = map (λ a. item.Atom a) xs
 
--- a list of no more items than are allowed
-abbrev pub measured : Limits → List Item → Value
-measured limits items = if nat_lt limits.sequence (length items) then Err SequenceTooLong else Ok items
-
 abbrev pub variable : Option (List Atom) → Value
 variable None = Err NoVariable
 variable (Some xs) = Ok (atom_items xs)
 
--- values one after another, measured after each of them
-abbrev pub joined : Setting → List Item → List Meaning → Value
-joined g before [] = Ok before
-joined g before (m ∷ ms) = and_then (m g) (λ items. and_then (measured g.limits (before ++ items)) (λ all. joined g all ms))
+-- values one after another; the list is measured after each of them
+abbrev pub in_a_row : Setting → List Item → List Meaning → Value
+in_a_row g before [] = Ok before
+in_a_row g before (m ∷ ms) = and_then (m g) (λ items. and_then (limited_list g.limits (before ++ items)) (λ all. in_a_row g all ms))
 
 -- the node so many places up, or its attributes that pass
 abbrev pub at_or_attributes : Setting → (place : ℕ) → Option NodeTest → Value
 at_or_attributes g place None = Ok (node place ∷ [])
-at_or_attributes g place (Some t) = measured g.limits (attributes_at g.path t place)
+at_or_attributes g place (Some t) = limited_list g.limits (attributes_at g.path t place)
 
 abbrev pub up : Setting → ℕ → Option NodeTest → Value
 up g n t = if nat_le n g.place then at_or_attributes g (g.place - n) t else Ok []
@@ -74,7 +69,7 @@ nodes_at p None places = map node places
 nodes_at p (Some t) places = flat_map (attributes_at p t) places
 
 abbrev pub absolute : Setting → List Reaching → Option NodeTest → Value
-absolute g steps t = and_then (along steps g (0 ∷ [])) (λ places. measured g.limits (nodes_at g.path t places))
+absolute g steps t = and_then (along steps g (0 ∷ [])) (λ places. limited_list g.limits (nodes_at g.path t places))
 
 abbrev pub compared : Cmp → List Atom → List Atom → Value
 compared cmp left right = and_then (comparison cmp left right) truth_item
@@ -163,7 +158,7 @@ layer (Expr-F.Whole z) g = one (atom.Whole z)
 layer (Expr-F.Literal text) g = text_item text
 layer (Expr-F.Var name) g = variable (g.vars name)
 layer (Expr-F.Call f args) g = and_then (each (λ (m : Meaning). m g) args) (applied g f)
-layer (Expr-F.Seq parts) g = joined g [] parts
+layer (Expr-F.Seq parts) g = in_a_row g [] parts
 layer (Expr-F.Neg x) g = and_then (x g) (λ items. negated (atoms g.path items))
 layer (Expr-F.Binary b x y) g = binary g b x y
 layer Expr-F.Root g = Ok (node 0 ∷ [])

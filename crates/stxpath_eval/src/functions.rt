@@ -1,60 +1,68 @@
 //! The functions that see nodes, and what the others are handed.
 
-ghost use Rattle.std.specs.Prelude.{◌≡◌, ◌∷◌, ◌<◌, ◌^◌, [], length, map, option_map, true, IfOk};
+ghost use Rattle.std.specs.Prelude.{◌≡◌, ◌∷◌, ◌<◌, ◌^◌, List as Items, [], length, map, option_map, Ok, true, IfOk};
 ghost use Rattle.std.specs.Result.{result_map_both};
 ghost use Rattle.node_stack.specs.Open.{node_of};
 ghost use Rattle.node_stack.specs.Path as node;
 ghost use Rattle.node_stack.specs.Path.{is_told};
 ghost use Rattle.node_stack.specs.Stack.{path};
 ghost use Rattle.stxpath_eval.specs.Env.{setting};
+ghost use Rattle.stxpath_eval.specs.Held.{held_items, IsHeld};
 ghost use Rattle.stxpath_eval.specs.Nodes as nodes;
-ghost use Rattle.stxpath_syntax.specs.Shape.{permits};
+ghost use Rattle.stx_base.specs.Functions.{permits};
 ghost use Rattle.stxpath_eval.specs.Value as spec;
-ghost use Rattle.stxpath_values.specs.Conversion.{as_truth};
 ghost use Rattle.stxpath_values.specs.Functions as function;
 ghost use Rattle.stxpath_values.specs.Functions.{takes};
-ghost use Rattle.stxpath_values.specs.Outcome.{IsAnswer};
+ghost use Rattle.stxpath_values.specs.Lent.{sequence_of};
+ghost use Rattle.stxpath_values.specs.declared.value.Atom.{Atom};
 ghost use Rattle.stxpath_values.specs.declared.value.Atom.TheVariants as atom;
 
 use crate::env::{Env, Vars};
-use crate::nodes::{atoms, node_at, referred, text_of};
-use crate::values::{atom_items, one, truth_item};
+use crate::held::{Held, held_truth, into_atoms};
+use crate::nodes::{no_text, node_at, referred, text_of};
+use crate::values::{text_item, text_lent, truth_item, whole_item};
 use node_stack::{NodeStack, NodeView};
 use std::alloc::Global;
-use stx_base::{Copied, First, Fun, Limits, List, Memory, Name, Text};
-use stxpath_values::{Atom, EvalFault, EvalStop, Item, call, truth};
+use stx_base::{Copied, First, Fun, Limits, Memory, Name, Text};
+use stxpath_values::{AtomRef, Atoms, EvalFault, EvalStop, Item, Sequence, call_lent};
 
 /// What a function gives of its arguments' values.
-pub fn applied<V: Vars>(
+pub(crate) fn applied<'a, V: Vars>(
     alloc: Global,
     fun: Fun,
-    args: &List<List<Item>>,
-    stack: &NodeStack,
-    env: &Env<'_, V>,
-) -> Result<List<Item>, EvalStop>
+    args: Vec<Held<'a>>,
+    stack: &'a NodeStack,
+    env: &Env<'a, V>,
+) -> Result<Held<'a>, EvalStop>
     requires place { env.now.place < length (path stack.now).nodes }
     requires told { is_told (path stack.now) env.now.place env.now.test.now ≡ true }
-    requires arguments { permits fun (length args.now) ≡ true }
-    ensures { IsAnswer result (spec.applied (setting V.value_of stack.now env.now) fun args.now) }
+    requires arguments { permits fun (length args.items) ≡ true }
+    ensures { IsHeld result (spec.applied (setting V.value_of stack.now env.now) fun (map held_items args.entry.items)) }
 {
     match fun {
         Fun::Name => {
-            let text = name_of(alloc, node_meant(args, stack, env.place)?)?;
-            one(alloc, Atom::Chars(text))
+            let node = node_meant(&args, stack, env.place)?;
+            Ok(name_of(alloc, node, stack)?)
         }
         Fun::LocalName => {
-            let text = local_name_of(alloc, node_meant(args, stack, env.place)?)?;
-            one(alloc, Atom::Chars(text))
+            let node = node_meant(&args, stack, env.place)?;
+            Ok(text_lent(local_name_of(node, stack)))
         }
         Fun::NamespaceUri => {
-            let text = uri_of(alloc, node_meant(args, stack, env.place)?)?;
-            one(alloc, Atom::Chars(text))
+            let node = node_meant(&args, stack, env.place)?;
+            Ok(text_lent(uri_of(node, stack)))
         }
-        Fun::Position => whole_item(alloc, stack.position(env.place, env.test)),
-        Fun::Level => whole_item(alloc, level(stack, env.place)),
-        Fun::HasChildNodes => truth_item(alloc, has_child(node_at(stack, env.place))),
-        Fun::Boolean => truth_item(alloc, truth_of(args)?),
-        Fun::Not => truth_item(alloc, !truth_of(args)?),
+        Fun::Position => Ok(whole_item(stack.position(env.place, env.test))),
+        Fun::Level => Ok(whole_item(level(stack, env.place))),
+        Fun::HasChildNodes => Ok(truth_item(has_child(node_at(stack, env.place)))),
+        Fun::Boolean => {
+            let truth = held_truth(&args[0])?;
+            Ok(truth_item(truth))
+        }
+        Fun::Not => {
+            let truth = held_truth(&args[0])?;
+            Ok(truth_item(!truth))
+        }
         _ => {
             let args = handed(alloc, fun, args, stack, env)?;
             called(alloc, fun, &args, env.limits)
@@ -63,14 +71,14 @@ pub fn applied<V: Vars>(
 }
 
 /// The arguments as atoms. The current node's string value stands for one that is left out.
-fn handed<V: Vars>(
+fn handed<'a, V: Vars>(
     alloc: Global,
     fun: Fun,
-    args: &List<List<Item>>,
-    stack: &NodeStack,
-    env: &Env<'_, V>,
-) -> Result<List<List<Atom>>, Memory>
-    ensures { IfOk result (λ made. made ≡ spec.handed (setting V.value_of stack.now env.now) fun (map (nodes.atoms (path stack.now)) args.now)) }
+    args: Vec<Held<'a>>,
+    stack: &'a NodeStack,
+    env: &Env<'a, V>,
+) -> Result<Vec<Sequence<'a>>, Memory>
+    ensures { IfOk result (λ made. map sequence_of made.items ≡ spec.handed (setting V.value_of stack.now env.now) fun (map (nodes.atoms (path stack.now)) (map held_items args.entry.items))) }
 {
     let may_lack = matches!(fun, Fun::Str | Fun::StringLength | Fun::NormalizeSpace);
     if may_lack && args.is_empty() {
@@ -81,51 +89,42 @@ fn handed<V: Vars>(
 }
 
 /// A call of a function that sees no node.
-fn called(
+fn called<'a>(
     alloc: Global,
     fun: Fun,
-    args: &List<List<Atom>>,
+    args: &[Sequence<'a>],
     limits: &Limits,
-) -> Result<List<Item>, EvalStop>
-    requires { takes fun (length args.now) ≡ true }
-    ensures { IsAnswer result (spec.atom_value (function.called limits.now fun args.now)) }
+) -> Result<Held<'a>, EvalStop>
+    requires { takes fun (length (map sequence_of args.now)) ≡ true }
+    ensures { IsHeld result (spec.atom_value (function.called limits.now fun (map sequence_of args.now))) }
 {
-    let atoms = call(alloc, fun, args, limits)?;
-    Ok(atom_items(alloc, &atoms)?)
+    let value = call_lent(alloc, fun, args, limits)?;
+    Ok(Held::Atoms(value))
 }
 
 /// The current node's string value, in place of an argument that is left out.
-fn current_text(alloc: Global, stack: &NodeStack, place: usize) -> Result<List<List<Atom>>, Memory>
-    ensures { IfOk result (λ args. args ≡ (atom.Chars (node.text_of (node.node_at (path stack.now) place)) ∷ []) ∷ []) }
+fn current_text(alloc: Global, stack: &NodeStack, place: usize) -> Result<Vec<Sequence<'_>>, Memory>
+    ensures { IfOk result (λ args. map sequence_of args.items ≡ (atom.Chars (node.text_of (node.node_at (path stack.now) place)) ∷ []) ∷ []) }
 {
-    let text = text_of(alloc, node_at(stack, place), stack)?;
-    let mut arg = List::new(alloc);
-    arg.push(Atom::Chars(text))?;
-    let mut args = List::new(alloc);
-    args.push(arg)?;
+    let text = text_of(node_at(stack, place), stack);
+    let mut args = Vec::new(alloc);
+    args.push(Sequence::Lent(Atoms::One(AtomRef::Chars(text))))?;
     Ok(args)
 }
 
-fn as_atoms(
+fn as_atoms<'a>(
     alloc: Global,
-    args: &List<List<Item>>,
-    stack: &NodeStack,
-) -> Result<List<List<Atom>>, Memory>
-    ensures { IfOk result (λ made. made ≡ map (nodes.atoms (path stack.now)) args.now) }
+    args: Vec<Held<'a>>,
+    stack: &'a NodeStack,
+) -> Result<Vec<Sequence<'a>>, Memory>
+    ensures { IfOk result (λ made. map sequence_of made.items ≡ map (nodes.atoms (path stack.now)) (map held_items args.entry.items)) }
 {
-    let mut made = List::new(alloc);
-    for arg in args.as_slice() {
-        let atoms = atoms(alloc, arg, stack)?;
+    let mut made = Vec::new(alloc);
+    for arg in args {
+        let atoms = into_atoms(alloc, arg, stack)?;
         made.push(atoms)?;
     }
     Ok(made)
-}
-
-fn whole_item(alloc: Global, number: u64) -> Result<List<Item>, EvalStop>
-    requires { number < 2 ^ 63 }
-    ensures { IsAnswer result (spec.whole_item number) }
-{
-    one(alloc, Atom::Whole(number as i64))
 }
 
 /// The number of a node's place; an attribute has its element's.
@@ -152,34 +151,48 @@ fn has_child(node: Option<NodeView<'_>>) -> bool
     }
 }
 
-fn truth_of(args: &List<List<Item>>) -> Result<bool, EvalFault>
-    requires { length args.now ≡ 1 }
-    ensures { result ≡ as_truth (spec.first_of args.now) }
-{
-    match args.get(0) {
-        Some(arg) => truth(arg),
-        None => Ok(false),
-    }
-}
-
 /// The one node of an argument, if it has one, or the current node where it is left out.
 fn node_meant<'a>(
-    args: &List<List<Item>>,
+    args: &[Held<'_>],
     stack: &'a NodeStack,
     place: usize,
 ) -> Result<Option<NodeView<'a>>, EvalFault>
-    ensures { result_map_both (option_map node_of) (λ fault. fault) result ≡ spec.node_meant (path stack.now) place args.now }
+    ensures { result_map_both (option_map node_of) (λ fault. fault) result ≡ spec.node_meant (path stack.now) place (map held_items args.now) }
 {
-    match args.get(0) {
-        None => Ok(node_at(stack, place)),
-        Some(arg) => one_node(arg, stack),
+    match args {
+        [arg, ..] => one_node(arg, stack),
+        [] => Ok(node_at(stack, place)),
     }
 }
 
-fn one_node<'a>(arg: &List<Item>, stack: &'a NodeStack) -> Result<Option<NodeView<'a>>, EvalFault>
-    ensures { result_map_both (option_map node_of) (λ fault. fault) result ≡ spec.one_node (path stack.now) arg.now }
+fn one_node<'a>(arg: &Held<'_>, stack: &'a NodeStack) -> Result<Option<NodeView<'a>>, EvalFault>
+    ensures { result_map_both (option_map node_of) (λ fault. fault) result ≡ spec.one_node (path stack.now) (held_items arg.now) }
 {
-    match arg.as_slice() {
+    match arg {
+        Held::Node(node) => Ok(referred(stack, *node)),
+        Held::Atoms(atoms) => no_node(atoms.lent().len()),
+        Held::Items(items) => node_of_items(items.as_slice(), stack),
+    }
+}
+
+/// What stands in place of the one node of so many atoms.
+fn no_node<'a>(atoms: usize) -> Result<Option<NodeView<'a>>, EvalFault>
+    ensures { (p : node.Path) → (xs : Items Atom) → length xs ≡ atoms → result_map_both (option_map node_of) (λ fault. fault) result ≡ spec.one_node p (spec.atom_items xs) }
+{
+    match atoms {
+        0 => Ok(None),
+        1 => Err(EvalFault::NotNode),
+        _ => Err(EvalFault::NotOne),
+    }
+}
+
+fn node_of_items<'a>(
+    items: &[Item],
+    stack: &'a NodeStack,
+) -> Result<Option<NodeView<'a>>, EvalFault>
+    ensures { result_map_both (option_map node_of) (λ fault. fault) result ≡ spec.one_node (path stack.now) items.now }
+{
+    match items {
         [] => Ok(None),
         [Item::Node(node)] => Ok(referred(stack, *node)),
         [Item::Atom(_)] => Err(EvalFault::NotNode),
@@ -187,47 +200,51 @@ fn one_node<'a>(arg: &List<Item>, stack: &'a NodeStack) -> Result<Option<NodeVie
     }
 }
 
-fn name_of(alloc: Global, node: Option<NodeView<'_>>) -> Result<Text, Memory>
-    ensures { IfOk result (λ text. text ≡ nodes.name_of (option_map node_of node.entry)) }
+fn name_of<'a>(
+    alloc: Global,
+    node: Option<NodeView<'a>>,
+    stack: &'a NodeStack,
+) -> Result<Held<'a>, Memory>
+    ensures { IfOk result (λ held. Ok (held_items held) ≡ spec.text_item (nodes.name_of (option_map node_of node.entry))) }
 {
     match node {
         Some(NodeView::Element { name, .. }) => written(alloc, name),
         Some(NodeView::Attribute(attr)) => written(alloc, &attr.name),
-        Some(NodeView::Pi { target, .. }) => target.copy(alloc),
-        _ => Ok(Text::new(alloc)),
+        Some(NodeView::Pi { target, .. }) => Ok(text_lent(target)),
+        _ => Ok(text_lent(no_text(stack))),
     }
 }
 
-fn local_name_of(alloc: Global, node: Option<NodeView<'_>>) -> Result<Text, Memory>
-    ensures { IfOk result (λ text. text ≡ nodes.local_name_of (option_map node_of node.entry)) }
+fn local_name_of<'a>(node: Option<NodeView<'a>>, stack: &'a NodeStack) -> &'a Text
+    ensures { result.now ≡ nodes.local_name_of (option_map node_of node.entry) }
 {
     match node {
-        Some(NodeView::Element { name, .. }) => name.local.copy(alloc),
-        Some(NodeView::Attribute(attr)) => attr.name.local.copy(alloc),
-        Some(NodeView::Pi { target, .. }) => target.copy(alloc),
-        _ => Ok(Text::new(alloc)),
+        Some(NodeView::Element { name, .. }) => &name.local,
+        Some(NodeView::Attribute(attr)) => &attr.name.local,
+        Some(NodeView::Pi { target, .. }) => target,
+        _ => no_text(stack),
     }
 }
 
-fn uri_of(alloc: Global, node: Option<NodeView<'_>>) -> Result<Text, Memory>
-    ensures { IfOk result (λ text. text ≡ nodes.uri_of (option_map node_of node.entry)) }
+fn uri_of<'a>(node: Option<NodeView<'a>>, stack: &'a NodeStack) -> &'a Text
+    ensures { result.now ≡ nodes.uri_of (option_map node_of node.entry) }
 {
     match node {
-        Some(NodeView::Element { name, .. }) => name.uri.copy(alloc),
-        Some(NodeView::Attribute(attr)) => attr.name.uri.copy(alloc),
-        _ => Ok(Text::new(alloc)),
+        Some(NodeView::Element { name, .. }) => &name.uri,
+        Some(NodeView::Attribute(attr)) => &attr.name.uri,
+        _ => no_text(stack),
     }
 }
 
 /// A name with its prefix, as it is written.
-fn written(alloc: Global, name: &Name) -> Result<Text, Memory>
-    ensures { IfOk result (λ text. text ≡ nodes.written name.now) }
+fn written(alloc: Global, name: &Name) -> Result<Held<'_>, Memory>
+    ensures { IfOk result (λ held. Ok (held_items held) ≡ spec.text_item (nodes.written name.now)) }
 {
     if name.prefix.is_empty() {
-        return name.local.copy(alloc);
+        return Ok(text_lent(&name.local));
     }
     let mut text = name.prefix.copy(alloc)?;
     text.push(':')?;
     text.push_str(name.local.as_str())?;
-    Ok(text)
+    Ok(text_item(text))
 }

@@ -1,6 +1,6 @@
 //! Nodes in values.
 
-ghost use Rattle.std.specs.Prelude.{◌≡◌, ◌++◌, List as Items, ℕ, [], IfOk, OnOk, option_map};
+ghost use Rattle.std.specs.Prelude.{◌≡◌, ◌++◌, List as Items, ℕ, [], ◌∷◌, IfOk, IfSome, OnOk, option_map};
 ghost use Rattle.node_stack.specs.Open.{node_of};
 ghost use Rattle.node_stack.specs.Path as paths;
 ghost use Rattle.node_stack.specs.Path.{attributes};
@@ -9,6 +9,7 @@ ghost use Rattle.stxpath_eval.specs.Nodes as spec;
 ghost use Rattle.stxpath_values.specs.Functions.{joined_text};
 ghost use Rattle.stxpath_values.specs.Outcome.{IsAnswer};
 ghost use Rattle.stxpath_values.specs.declared.value.Atom.TheVariants as atom;
+ghost use Rattle.stxpath_values.specs.declared.value.Item.TheVariants as item;
 
 use node_stack::{NodeStack, NodeView, passes};
 use std::alloc::Global;
@@ -48,7 +49,7 @@ fn atom_of(alloc: Global, item: &Item, stack: &NodeStack) -> Result<Atom, Memory
     match item {
         Item::Atom(atom) => atom.copy(alloc),
         Item::Node(node) => {
-            let text = text_of(alloc, referred(stack, *node), stack)?;
+            let text = text_at(stack, *node).copy(alloc)?;
             Ok(Atom::Chars(text))
         }
     }
@@ -88,18 +89,56 @@ fn attribute_of(view: NodeView<'_>, index: usize) -> Option<NodeView<'_>>
     }
 }
 
+/// The string value of the node that is referred to; no text where it isn't there.
+pub(crate) fn text_at(stack: &NodeStack, node: NodeRef) -> &Text
+    ensures { result.now ≡ paths.text_of (spec.referred (path stack.now) node) }
+{
+    text_of(referred(stack, node), stack)
+}
+
 /// A node's string value; no text for none.
-pub(crate) fn text_of(
-    alloc: Global,
-    node: Option<NodeView<'_>>,
-    stack: &NodeStack,
-) -> Result<Text, Memory>
-    ensures { IfOk result (λ text. text ≡ paths.text_of (option_map node_of node.entry)) }
+pub(crate) fn text_of<'a>(node: Option<NodeView<'a>>, stack: &'a NodeStack) -> &'a Text
+    ensures { result.now ≡ paths.text_of (option_map node_of node.entry) }
 {
     match node {
-        None => Ok(Text::new(alloc)),
-        Some(view) => stack.text_of(view).copy(alloc),
+        Some(view) => stack.text_of(view),
+        None => no_text(stack),
     }
+}
+
+/// The empty text.
+pub(crate) fn no_text(stack: &NodeStack) -> &Text
+    ensures { result.now ≡ [] }
+{
+    stack.text_of(NodeView::Document)
+}
+
+/// The one attribute of a node at a place that passes a test; `None` where it isn't found that there is one alone.
+pub(crate) fn only_attribute(stack: &NodeStack, place: usize, test: &NodeTest) -> Option<NodeRef>
+    ensures { IfSome result (λ node. spec.attributes_at (path stack.now) test.now place ≡ item.Node node ∷ []) }
+{
+    let Some(NodeView::Element { attrs, .. }) = node_at(stack, place) else {
+        return None;
+    };
+    only_passing(attrs.as_slice(), place, test)
+}
+
+fn only_passing(attrs: &[Attr], place: usize, test: &NodeTest) -> Option<NodeRef>
+    ensures { IfSome result (λ node. spec.passing_from place 0 test.now attrs.now ≡ item.Node node ∷ []) }
+{
+    let mut only = None;
+    for (index, attr) in attrs.iter().enumerate() {
+        if passes(test, NodeView::Attribute(attr)) {
+            if only.is_some() {
+                return None;
+            }
+            only = Some(NodeRef {
+                place,
+                attr: Some(index),
+            });
+        }
+    }
+    only
 }
 
 /// Appends the attributes of a node at a place that pass a test.

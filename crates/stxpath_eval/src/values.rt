@@ -1,65 +1,82 @@
 //! Values of one item, and lists that are measured.
 
-ghost use Rattle.std.specs.Prelude.{◌≡◌, ◌∷◌, [], IfOk, IfErr, OnOk};
+ghost use Rattle.std.specs.Prelude.{◌≡◌, ◌∷◌, ◌<◌, ◌^◌, [], Ok};
 ghost use Rattle.std.specs.Option.{option_copied};
+ghost use Rattle.stxpath_eval.specs.Held.{held_answer, held_items, IsHeld};
 ghost use Rattle.stxpath_eval.specs.Nodes.{node};
 ghost use Rattle.stxpath_eval.specs.Value as spec;
-ghost use Rattle.stxpath_values.specs.Outcome.{IsAnswer, stopped};
+ghost use Rattle.stxpath_values.specs.Lent.{atom_of};
+ghost use Rattle.stxpath_values.specs.Functions.{limited_list};
+ghost use Rattle.stxpath_values.specs.Outcome.{stopped};
 
-use std::alloc::Global;
-use stx_base::{Copied, Limits, List, Memory, Text};
-use stxpath_values::{Atom, EvalFault, EvalStop, Item, NodeRef};
+use crate::held::Held;
+use stx_base::{Limits, List, Text};
+use stxpath_values::{Atom, AtomRef, Atoms, EvalFault, EvalStop, Item, NodeRef, Sequence};
 
-pub fn one(alloc: Global, atom: Atom) -> Result<List<Item>, EvalStop>
-    ensures { IsAnswer result (spec.one atom) }
+pub(crate) fn one<'a>(atom: AtomRef<'a>) -> Held<'a>
+    ensures { Ok (held_items result) ≡ spec.one (atom_of atom.entry) }
 {
-    single(alloc, Item::Atom(atom))
+    Held::Atoms(Sequence::Lent(Atoms::One(atom)))
 }
 
-pub fn truth_item(alloc: Global, truth: bool) -> Result<List<Item>, EvalStop>
-    ensures { IsAnswer result (spec.truth_item truth) }
+pub(crate) fn truth_item<'a>(truth: bool) -> Held<'a>
+    ensures { Ok (held_items result) ≡ spec.truth_item truth }
 {
-    one(alloc, Atom::Truth(truth))
+    one(AtomRef::Truth(truth))
+}
+
+pub(crate) fn whole_item<'a>(number: u64) -> Held<'a>
+    requires { number < 2 ^ 63 }
+    ensures { Ok (held_items result) ≡ spec.whole_item number }
+{
+    one(AtomRef::Whole(number as i64))
+}
+
+pub(crate) fn text_item<'a>(text: Text) -> Held<'a>
+    ensures { Ok (held_items result) ≡ spec.text_item text }
+{
+    Held::Atoms(Sequence::Text(text))
+}
+
+pub(crate) fn text_lent(text: &Text) -> Held<'_>
+    ensures { Ok (held_items result) ≡ spec.text_item text.now }
+{
+    one(AtomRef::Chars(text))
 }
 
 /// The node at a place.
-pub fn place_item(alloc: Global, place: usize) -> Result<List<Item>, EvalStop>
-    ensures { IsAnswer result (Ok (node place ∷ [])) }
+pub(crate) fn place_item<'a>(place: usize) -> Held<'a>
+    ensures { held_items result ≡ node place ∷ [] }
 {
-    single(alloc, Item::Node(NodeRef { place, attr: None }))
+    Held::Node(NodeRef { place, attr: None })
 }
 
-fn single(alloc: Global, item: Item) -> Result<List<Item>, EvalStop>
-    ensures { IsAnswer result (Ok (item ∷ [])) }
-{
-    let mut items = List::new(alloc);
-    items.push(item)?;
-    Ok(items)
-}
-
-pub fn variable(alloc: Global, value: Option<&List<Atom>>) -> Result<List<Item>, EvalStop>
-    ensures { IsAnswer result (spec.variable (option_copied value.entry)) }
+pub(crate) fn variable(value: Option<&List<Atom>>) -> Result<Held<'_>, EvalStop>
+    ensures { IsHeld result (spec.variable (option_copied value.entry)) }
 {
     match value {
-        Some(atoms) => Ok(atom_items(alloc, atoms)?),
+        Some(atoms) => Ok(lent_list(atoms)),
         None => Err(EvalStop::Fault(EvalFault::NoVariable)),
     }
 }
 
-pub fn atom_items(alloc: Global, atoms: &List<Atom>) -> Result<List<Item>, Memory>
-    ensures { IfOk result (λ items. items ≡ spec.atom_items atoms.now) }
+fn lent_list(atoms: &List<Atom>) -> Held<'_>
+    ensures { held_items result ≡ spec.atom_items atoms.now }
 {
-    let mut items = List::new(alloc);
-    for atom in atoms.as_slice() {
-        let atom = atom.copy(alloc)?;
-        items.push(Item::Atom(atom))?;
-    }
-    Ok(items)
+    Held::Atoms(Sequence::Lent(Atoms::List(atoms.as_slice())))
+}
+
+/// Items that are a list.
+pub(crate) fn listed<'a>(items: Result<List<Item>, EvalStop>) -> Result<Held<'a>, EvalStop>
+    ensures { held_answer result ≡ items }
+{
+    let items = items?;
+    Ok(Held::Items(items))
 }
 
 /// Refuses a list of more items than are allowed.
-pub fn measured(limits: &Limits, items: List<Item>) -> Result<List<Item>, EvalStop>
-    ensures { result ≡ stopped (spec.measured limits.now items) }
+pub(crate) fn measured(limits: &Limits, items: List<Item>) -> Result<List<Item>, EvalStop>
+    ensures { result ≡ stopped (limited_list limits.now items) }
 {
     if items.len() as u64 > limits.sequence as u64 {
         return Err(EvalStop::Fault(EvalFault::SequenceTooLong));

@@ -1,7 +1,8 @@
 use Rattle.std.proofs.Common.{◌≡◌, ℕ, [], ◌∷◌, ◌+◌, drop, map}
 use Rattle.stxpath_eval.specs.Env.{setting}
+use Rattle.stxpath_eval.specs.Held.{held_items}
 use Rattle.stxpath_eval.specs.Steps.{all_hold, along, ends_at}
-use Rattle.stxpath_eval.specs.Value.{joined, meant, reaching, value}
+use Rattle.stxpath_eval.specs.Value.{in_a_row, meant, reaching, value}
 use Rattle.stxpath_values.specs.Outcome.{each}
 use Rattle.stxpath_eval.proofs.Loops.{with_kept, with_rest}
 use Rattle.stxpath_eval.proofs.evaluation.+evaluation.Given as goal
@@ -21,12 +22,12 @@ invariant-along-loop-step g l =
 abbrev pub invariant-arguments-loop-arg : goal.invariant-arguments-loop-arg
 invariant-arguments-loop-arg g l =
     let s = setting g.V.Vars.value_of l.stack l.env in
-    each (λ e. value e s) l.arg-items ≡ with_rest (λ e. value e s) (drop l.arg-index l.arg-items) l.values
+    each (λ e. value e s) l.arg-items ≡ with_rest (λ e. value e s) (drop l.arg-index l.arg-items) (map held_items l.values.items)
 
 abbrev pub invariant-parts_joined-loop-part : goal.invariant-parts_joined-loop-part
 invariant-parts_joined-loop-part g l =
     let s = setting g.V.Vars.value_of l.stack l.env in
-    joined s [] (map value l.part-items) ≡ joined s l.all (map value (drop l.part-index l.part-items))
+    in_a_row s [] (map value l.part-items) ≡ in_a_row s l.all (map value (drop l.part-index l.part-items))
 
 abbrev pub invariant-step_from-loop-place : goal.invariant-step_from-loop-place
 invariant-step_from-loop-place g l =
