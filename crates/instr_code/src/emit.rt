@@ -6,7 +6,7 @@ ghost use Rattle.instr_code.specs.Layout.{body_piece, branches, choice_ops, choi
 ghost use Rattle.instr_code.specs.Emitting.{Fills, HasRoom, Puts, inner_ops, listed};
 
 use crate::code::Op;
-use crate::inner::{Inner, part};
+use crate::inner::{Inner, take_inner};
 use sheet_model::Instr;
 use std::alloc::Global;
 use stx_base::{List, Memory};
@@ -87,15 +87,15 @@ impl Emitter {
 
     /// An instruction; how many locals it leaves.
     #[cycle(emit)]
-    fn put(&mut self, instr: Instr) -> Result<u32, Memory>
+    fn put(&mut self, mut instr: Instr) -> Result<u32, Memory>
         requires { HasRoom (piece_of instr) self.old }
         ensures ok { OnOk result (Puts (piece_of instr) (all_of (instr ∷ [])) self.old self.new) }
         ensures locals { IfOk result (λ left. left ≡ (piece_of instr).locals) }
     {
         let number = self.instrs.len() as u32;
-        let (bare, inner) = part(self.alloc, instr)?;
+        let inner = take_inner(self.alloc, &mut instr)?;
         let locals = inner.locals();
-        self.instrs.push(bare)?;
+        self.instrs.push(instr)?;
         self.put_ops(number, inner)?;
         Ok(locals)
     }

@@ -1,10 +1,11 @@
-ghost use Rattle.std.specs.Prelude.{◌≡◌, IfOk, map};
+ghost use Rattle.std.specs.Prelude.{◌≡◌, [], IfOk, OnOk, map};
 ghost use Rattle.instr_code.specs.Bare.{bare, bare_when};
 ghost use Rattle.instr_code.specs.Emitting.{inner_of, inner_locals};
 ghost use Rattle.sheet_model.specs.declared.instr.When.{When as Branch};
 
 use sheet_model::{Instr, When};
 use std::alloc::Global;
+use std::mem::replace;
 use stx_base::{List, Memory};
 
 /// The lists that stand inside an instruction.
@@ -38,134 +39,35 @@ impl Inner {
     }
 }
 
-/// An instruction with empty lists in place of those inside, and these.
-pub fn part(alloc: Global, instr: Instr) -> Result<(Instr, Inner), Memory>
-    ensures bare { IfOk result (λ parts. parts.0 ≡ bare instr) }
-    ensures inner { IfOk result (λ parts. parts.1 ≡ inner_of instr) }
+/// Takes the lists that stand inside an instruction out of it, and leaves empty ones there.
+pub fn take_inner(alloc: Global, instr: &mut Instr) -> Result<Inner, Memory>
+    ensures bare { OnOk result (instr.new ≡ bare instr.old) }
+    ensures inner { IfOk result (λ inner. inner ≡ inner_of instr.old) }
 {
-    let none = List::new(alloc);
-    let parts = match instr {
-        Instr::Copy {
-            attributes,
-            body,
-            at,
-        } => {
-            (
-                Instr::Copy {
-                    attributes,
-                    body: none,
-                    at,
-                },
-                Inner::Round(body),
-            )
+    match instr {
+        Instr::Copy { body, .. } => Ok(Inner::Round(take(alloc, body))),
+        Instr::Element { body, .. } => Ok(Inner::Round(take(alloc, body))),
+        Instr::ResultBuffer { body, .. } => Ok(Inner::Round(take(alloc, body))),
+        Instr::Literal { body, .. } => Ok(Inner::Round(take(alloc, body))),
+        Instr::If { body, other, .. } => Ok(Inner::Choice(take(alloc, body), take(alloc, other))),
+        Instr::Choose { whens, other, .. } => {
+            let (bare, bodies) = part_whens(alloc, take(alloc, whens))?;
+            *whens = bare;
+            Ok(Inner::Choices(bodies, take(alloc, other)))
         }
-        Instr::Element {
-            name,
-            namespace,
-            scope,
-            body,
-            at,
-        } => {
-            (
-                Instr::Element {
-                    name,
-                    namespace,
-                    scope,
-                    body: none,
-                    at,
-                },
-                Inner::Round(body),
-            )
-        }
-        Instr::ResultBuffer {
-            name,
-            clear,
-            body,
-            at,
-        } => {
-            (
-                Instr::ResultBuffer {
-                    name,
-                    clear,
-                    body: none,
-                    at,
-                },
-                Inner::Round(body),
-            )
-        }
-        Instr::Literal {
-            name,
-            attrs,
-            body,
-            at,
-        } => {
-            (
-                Instr::Literal {
-                    name,
-                    attrs,
-                    body: none,
-                    at,
-                },
-                Inner::Round(body),
-            )
-        }
-        Instr::If {
-            test,
-            body,
-            other,
-            at,
-        } => {
-            (
-                Instr::If {
-                    test,
-                    body: none,
-                    other: List::new(alloc),
-                    at,
-                },
-                Inner::Choice(body, other),
-            )
-        }
-        Instr::Choose { whens, other, at } => {
-            let (whens, bodies) = part_whens(alloc, whens)?;
-            (
-                Instr::Choose {
-                    whens,
-                    other: none,
-                    at,
-                },
-                Inner::Choices(bodies, other),
-            )
-        }
-        Instr::While { test, body, at } => {
-            (
-                Instr::While {
-                    test,
-                    body: none,
-                    at,
-                },
-                Inner::While(body),
-            )
-        }
-        Instr::ForEachItem {
-            name,
-            select,
-            body,
-            at,
-        } => {
-            (
-                Instr::ForEachItem {
-                    name,
-                    select,
-                    body: none,
-                    at,
-                },
-                Inner::ForEach(body),
-            )
-        }
-        Instr::Local { name, select, at } => (Instr::Local { name, select, at }, Inner::Local),
-        other => (other, Inner::Nothing),
-    };
-    Ok(parts)
+        Instr::While { body, .. } => Ok(Inner::While(take(alloc, body))),
+        Instr::ForEachItem { body, .. } => Ok(Inner::ForEach(take(alloc, body))),
+        Instr::Local { .. } => Ok(Inner::Local),
+        _ => Ok(Inner::Nothing),
+    }
+}
+
+/// Takes a list out of its place, and leaves an empty one there.
+fn take<T: Drop>(alloc: Global, list: &mut List<T>) -> List<T>
+    ensures taken { result ≡ list.old }
+    ensures left { list.new ≡ [] }
+{
+    replace(list, List::new(alloc))
 }
 
 /// Branches with empty bodies, and their bodies.

@@ -22,12 +22,12 @@ put-put_ops-requires t c =
     let i = c.args.instr in
     let s = c.args.self.now in
     let next : Emitter = record s { instrs = c.push.new.self } in
-    let more : c.push.new.self ≡ s.instrs ++ bare i ∷ [] = c.in_ok-push.ensures.ok ∙ ap (λ b. s.instrs ++ b ∷ []) c.in_ok-bare.ensures.bare in
-    let deep : body_nesting (listed c.in_ok-bare.inner) ≡ body_nesting (children i) =
-    ap (λ x. body_nesting (listed x)) c.in_ok-bare.ensures.inner ∙ ap body_nesting (sym (children_are i)) in
+    let more : c.push.new.self ≡ s.instrs ++ bare i ∷ [] = c.in_ok-push.ensures.ok ∙ ap (λ b. s.instrs ++ b ∷ []) c.in_ok-inner.ensures.bare in
+    let deep : body_nesting (listed c.in_ok-inner.inner) ≡ body_nesting (children i) =
+    ap (λ x. body_nesting (listed x)) c.in_ok-inner.ensures.inner ∙ ap body_nesting (sym (children_are i)) in
     let is = nesting_is i in (
       omega arith,
-      subst (λ x. HasRoom (inner_ops x c.len-number.result (length s.ops)) next) (sym c.in_ok-bare.ensures.inner)
+      subst (λ x. HasRoom (inner_ops x c.len-number.result (length s.ops)) next) (sym c.in_ok-inner.ensures.inner)
           (subst (λ n. HasRoom (inner_ops (inner_of i) n (length s.ops)) next) (sym c.len-number.ensures.value) (room_inside i s next c.requires refl more)),
     )
 
@@ -37,14 +37,14 @@ put-returns-clause-ok t c =
     let s = c.args.self.now in
     let u = c.put_ops.new.self in
     let next : Emitter = record s { instrs = c.push.new.self } in
-    let more : c.push.new.self ≡ s.instrs ++ bare i ∷ [] = c.in_ok-push.ensures.ok ∙ ap (λ b. s.instrs ++ b ∷ []) c.in_ok-bare.ensures.bare in
+    let more : c.push.new.self ≡ s.instrs ++ bare i ∷ [] = c.in_ok-push.ensures.ok ∙ ap (λ b. s.instrs ++ b ∷ []) c.in_ok-inner.ensures.bare in
     puts_instruction i s next u refl more
-    (subst (λ x. Puts (inner_ops x (length s.instrs) (length s.ops)) (all_of (listed x)) next u) c.in_ok-bare.ensures.inner
-    (subst (λ n. Puts (inner_ops c.in_ok-bare.inner n (length s.ops)) (all_of (listed c.in_ok-bare.inner)) next u) c.len-number.ensures.value c.in_ok-put_ops.ensures))
+    (subst (λ x. Puts (inner_ops x (length s.instrs) (length s.ops)) (all_of (listed x)) next u) c.in_ok-inner.ensures.inner
+    (subst (λ n. Puts (inner_ops c.in_ok-inner.inner n (length s.ops)) (all_of (listed c.in_ok-inner.inner)) next u) c.len-number.ensures.value c.in_ok-put_ops.ensures))
 
 pub put-returns-clause-locals : goal.put-returns-clause-locals
 put-returns-clause-locals t c =
-    c.locals-locals.ensures ∙ ap inner_locals c.in_ok-bare.ensures.inner ∙ sym (ap (λ (x : Piece). x.locals) (unrolled c.args.instr))
+    c.locals-locals.ensures ∙ ap inner_locals c.in_ok-inner.ensures.inner ∙ sym (ap (λ (x : Piece). x.locals) (unrolled c.args.instr))
 
 pub put_all-put-requires : goal.put_all-put-requires
 put_all-put-requires t c =
