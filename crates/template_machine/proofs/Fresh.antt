@@ -1,11 +1,10 @@
 -- Nodes of buffers, and of documents that are new, weigh nothing.
 use Rattle.std.proofs.Common.{◌≡◌, ℕ, Bool, true, false, ◌||◌, List, [], ◌∷◌, Option, refl, arith, if◌then◌else◌}
 use Rattle.stx_base.specs.declared.fault.Place.{Place}
-use Rattle.stx_base.specs.declared.part.Part.{Part}
-use Rattle.stx_base.specs.declared.part.Part.TheVariants as part
-use Rattle.result_writer.specs.Target.{Left, next, nothing}
 use Rattle.xml_events.specs.Tree.{Forest, End, Cut, Single, Nested, Chars, CData, Comment, Pi}
-use Rattle.template_machine.specs.Buffers.{forest, inner, lists_behind, outer, part_before, text_before}
+use Rattle.event_buffers.specs.Forest.{forest, inner, kept_before, lists, outer, text_before}
+use Rattle.event_buffers.specs.declared.kept.Kept.{Kept}
+use Rattle.event_buffers.specs.declared.kept.Kept.TheVariants as kept
 use Rattle.template_machine.specs.Fuel.{is_begun, is_entered}
 use Rattle.template_machine.specs.Job.{Opened}
 use Rattle.template_machine.specs.Outcome.{has_begun, size}
@@ -59,19 +58,18 @@ text_new (c ∷ cs) (Single m (Comment offset more) next) e = e
 text_new (c ∷ cs) (Single m (Pi offset target more) next) e = e
 text_new (c ∷ cs) (Nested stage x kids next) e = e
 
-part_new : (l : Left) (p : Part) (ps : List Part) (f : List Forest) → AllNew f → AllNew (part_before l p ps f)
-part_new l (part.Start name scope) ps f h =
+kept_new : (k : Kept) (f : List Forest) → AllNew f → AllNew (kept_before k f)
+kept_new (kept.Start tag) f h =
     (either_false (has_begun (inner f)) (has_begun (inner (outer f))) (inner_new f h) (inner_new (outer f) (outer_new f h)), outer_new (outer f) (outer_new f h))
-part_new l (part.Attribute name value) ps f h = h
-part_new l (part.End name) ps f h = (refl, h)
-part_new l (part.Chars text) ps f h = (text_new text (inner f) (inner_new f h), outer_new f h)
-part_new l (part.CData text) ps f h = (inner_new f h, outer_new f h)
-part_new l (part.Comment text) ps f h = (inner_new f h, outer_new f h)
-part_new l (part.Pi target text) ps f h = (inner_new f h, outer_new f h)
+kept_new kept.End f h = (refl, h)
+kept_new (kept.Chars text) f h = (text_new text (inner f) (inner_new f h), outer_new f h)
+kept_new (kept.CData text) f h = (inner_new f h, outer_new f h)
+kept_new (kept.Comment text) f h = (inner_new f h, outer_new f h)
+kept_new (kept.Pi target text) f h = (inner_new f h, outer_new f h)
 
-lists_new : (l : Left) (ps : List Part) → AllNew (lists_behind l ps)
-lists_new l [] = tt
-lists_new l (p ∷ ps) = part_new l p ps (lists_behind (next l p) ps) (lists_new (next l p) ps)
+lists_new : (ks : List Kept) → AllNew (lists ks)
+lists_new [] = tt
+lists_new (k ∷ ks) = kept_new k (lists ks) (lists_new ks)
 
-pub forest_new : (parts : List Part) → has_begun (forest parts) ≡ false
-forest_new parts = inner_new (lists_behind nothing parts) (lists_new nothing parts)
+pub forest_new : (ks : List Kept) → has_begun (forest ks) ≡ false
+forest_new ks = inner_new (lists ks) (lists_new ks)

@@ -6,7 +6,7 @@ use Rattle.stx_base.specs.declared.fault.RunCode.TheVariants as run_code
 use Rattle.stx_base.specs.declared.name.Attr.{Attr}
 use Rattle.stx_base.specs.declared.part.Part.{Part}
 use Rattle.node_stack.specs.Path.{Node, Document, Element, Chars, CData, Comment, Pi, Attribute}
-use Rattle.result_writer.specs.Target.{fault, nothing}
+use Rattle.result_writer.specs.Target.{fault}
 use Rattle.result_writer.specs.declared.fault.ResultFault.{ResultFault}
 use Rattle.sheet_model.specs.declared.instr.WithParam.{WithParam}
 use Rattle.sheet_model.specs.declared.pass.Kinds.{Kinds}
@@ -16,15 +16,16 @@ use Rattle.stxpath_values.specs.declared.fault.EvalFault.{EvalFault}
 use Rattle.var_store.specs.Variables.{value_of}
 use Rattle.var_store.specs.declared.bound.Bound.{Bound}
 use Rattle.xml_events.specs.Tree.{Forest}
-use Rattle.template_machine.specs.Buffers.{left_by, weight_of, with_part}
-use Rattle.template_machine.specs.Choice.{Candidate}
+use Rattle.event_buffers.specs.Buffers.{refusal_at}
+use Rattle.event_buffers.specs.declared.fault.BufferFault.{BufferFault}
+use Rattle.group_scope.specs.declared.rank.Rank.{Rank}
 use Rattle.template_machine.specs.Declaring.{binds, commanded, declaration_setting, ends_scope, hands, kept, makes, makes_scope, new_value, parameter_value, with_scope, with_variable}
 use Rattle.template_machine.specs.Ending.{Spent, fault_at}
 use Rattle.template_machine.specs.Fuel.{skip, spend}
 use Rattle.template_machine.specs.Job.{Given, State, Source, Here, Self, Job, Nodes, Body, Loop, Does, Level, Asked, all_of, single, with_state}
 use Rattle.template_machine.specs.Laws.{names}
 use Rattle.template_machine.specs.Passing.{again, attributes, back, children, choice, enters, finish, gone, group_at, instance, kinds_in, leaf_parts, node, parts_before, parts_behind, pass_around, pass_leaf, pass_node, passed_on, returns, run_as, runs, template_at}
-use Rattle.template_machine.specs.Putting.{kept_in, put_out, put_to, puts, unless_fault, written_copy}
+use Rattle.template_machine.specs.Putting.{kept_in, put_out, put_to, puts, unless_fault, unless_refused}
 use Rattle.template_machine.specs.Trail.{Trail, current, stands}
 use Rattle.template_machine.specs.Values.{atoms_of, got, setting}
 use Rattle.template_machine.proofs.Holding.{Holds, holds_more, holds_then}
@@ -60,11 +61,13 @@ module _ (given : Given) (P : Here → Type 0) where
   fault_ok None at x h = h
   fault_ok (Some f) at x h = tt
 
+  pub refused_ok : (o : Option BufferFault) (at : Place) (x : Does) → Ok P x → Ok P (unless_refused o at x)
+  refused_ok None at x h = h
+  refused_ok (Some f) at x h = tt
+
   put_ok : (targets : List ℕ) (at : Place) (p : Part) (st : State) (go : State → Does) → ((t : State) → Ok P (go t)) → Ok P (put_to given targets at p st go)
   put_ok [] at p st go h = fault_ok (fault given.limits.elements st.result p) at _ (h (put_out p st))
-  put_ok (id ∷ targets) at p st go h =
-      fault_ok (fault given.limits.elements (left_by nothing (written_copy st id).parts) p) at _
-      (either_ok (nat_lt given.limits.buffer (weight_of (with_part (written_copy st id).parts p))) (Halt (fault_at run_code.BufferFull at)) (go (kept_in id p st)) tt (h (kept_in id p st)))
+  put_ok (id ∷ targets) at p st go h = refused_ok (refusal_at st.buffers id p) at (go (kept_in id p st)) (h (kept_in id p st))
 
   pub puts_ok : (at : Place) (ps : List Part) (st : State) (go : State → Does) → ((t : State) → Ok P (go t)) → Ok P (puts given at ps st go)
   puts_ok at [] st go h = h st
@@ -80,7 +83,7 @@ module _ (given : Given) (P : Here → Type 0) where
 
   makes_scope_ok : (new : Bool) (group : ℕ) (self : Self) (st : State) (go : State → Does) → ((t : State) → Ok P (go t)) → Ok P (makes_scope given new group self st go)
   makes_scope_ok false group self st go h = h st
-  makes_scope_ok true group self st go h = makes_ok _ [] given.sheet.variables self (with_scope given.sheet group st) go h
+  makes_scope_ok true group self st go h = makes_ok _ [] given.sheet.variables self (with_scope group st) go h
 
   pub binds_ok : (vs : List Variable) (handed : List Bound) (self : Self) (a : Here) (go : Here → Does) → ((b : Here) → Ok P (go b)) → Ok P (binds given vs handed self a go)
   binds_ok [] handed self a go h = h a
@@ -115,7 +118,7 @@ module _ (given : Given) (P : Here → Type 0) where
       (λ b r q. h (back a (ends_scope given t.new_scope t.group r.state) r) refl)
 
   -- who calls a body has the same locals behind it
-  runs_ok : (at : Place) (handed : List Bound) (c : Candidate) (t : Option Template) (active : List ℕ) (level : Level) (trail : Trail) (a : Here) (go : Here → Does) → ((b : Here) → Alike a b → Ok P (go b)) → Ok P (runs given at handed c t active level trail a go)
+  runs_ok : (at : Place) (handed : List Bound) (c : Rank) (t : Option Template) (active : List ℕ) (level : Level) (trail : Trail) (a : Here) (go : Here → Does) → ((b : Here) → Alike a b → Ok P (go b)) → Ok P (runs given at handed c t active level trail a go)
   runs_ok at handed c None active level trail a go h = h a refl
   runs_ok at handed c (Some t) active level trail a go h =
       instance_ok at level (λ more. let self = run_as c t active more trail in makes_scope given t.new_scope t.group self a.state (enters given handed t self a go))
@@ -149,7 +152,7 @@ module _ (given : Given) where
 
   pub again_ok : (at : Place) (base : ℕ) (handed : List Bound) (self : Self) (a : Here) → Ok (Alike a) (again given at base handed self a)
   again_ok at base handed self a = of_choice (choice given base self.active self.trail a.state) where
-    of_choice : (o : Option Candidate) → Ok (Alike a) (elim o [ None ↦ pass_node given at base self.level.source self.trail (current self.trail) a | Some c ↦ runs given at handed c (template_at given c) self.active self.level self.trail a (λ b. Ret b) ])
+    of_choice : (o : Option Rank) → Ok (Alike a) (elim o [ None ↦ pass_node given at base self.level.source self.trail (current self.trail) a | Some c ↦ runs given at handed c (template_at given c) self.active self.level self.trail a (λ b. Ret b) ])
     of_choice None = pass_node_ok at base self.level.source self.trail (current self.trail) a
     of_choice (Some c) = runs_ok given (Alike a) at handed c (template_at given c) self.active self.level self.trail a (λ b. Ret b) (λ b e. e)
 
@@ -162,7 +165,7 @@ module _ (given : Given) where
   -- whatever a node's body leaves, what follows starts from a state
   any_node : (asked : Asked) (trail : Trail) (a : Here) → Ok (λ b. Unit {0}) (node given asked trail a)
   any_node asked trail a = of_choice (choice given asked.base [] trail a.state) where
-    of_choice : (o : Option Candidate) → Ok (λ b. Unit {0}) (elim o [ None ↦ pass_node given asked.at asked.base asked.level.source trail (current trail) a | Some c ↦ runs given asked.at asked.params c (template_at given c) [] asked.level trail a (finish given asked.level.source) ])
+    of_choice : (o : Option Rank) → Ok (λ b. Unit {0}) (elim o [ None ↦ pass_node given asked.at asked.base asked.level.source trail (current trail) a | Some c ↦ runs given asked.at asked.params c (template_at given c) [] asked.level trail a (finish given asked.level.source) ])
     of_choice None = holds_more Post (Alike a) (λ b. Unit {0}) (pass_node given asked.at asked.base asked.level.source trail (current trail) a) (λ r e. tt) (pass_node_ok asked.at asked.base asked.level.source trail (current trail) a)
     of_choice (Some c) =
         runs_ok given (λ b. Unit {0}) asked.at asked.params c (template_at given c) [] asked.level trail a (finish given asked.level.source)

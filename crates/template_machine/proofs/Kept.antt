@@ -24,21 +24,22 @@ use Rattle.var_store.specs.Variables.{value_of, with_value}
 use Rattle.var_store.specs.declared.bound.Bound.{Bound}
 use Rattle.xml_events.specs.Tree.{Forest}
 use Rattle.template_machine.specs.Acting.{acts, act, asked_beside, asked_of, asked_within, assigned, attribute_of, attributes_of, begins_reading, begins_writing, buffer_nodes, calls, choose, condition, copied, copy_parts, cut_to, document_nodes, ends_reading, ends_writing, has_list, has_siblings, loop, named, opens, put_around, put_parts, siblings_of, turns, with_local, without_space, writes}
-use Rattle.template_machine.specs.Buffers.{forest, is_free, newest}
+use Rattle.event_buffers.specs.Buffers.{busy_at, read_at, unclosed_at}
+use Rattle.event_buffers.specs.Forest.{forest}
 use Rattle.template_machine.specs.Declaring.{binds, hands}
 use Rattle.template_machine.specs.Ending.{Note, Open, fault_at}
-use Rattle.template_machine.specs.Finding.{base_of, buffer_seen, passing, procedure_seen}
+use Rattle.template_machine.specs.Finding.{base_of, buffer_seen, passing, procedure_at, procedure_seen}
 use Rattle.template_machine.specs.Job.{Given, State, Source, Opened, Here, Self, Job, Nodes, Body, Loop, Does, Level, Asked, all_of, sources_open, with_state}
 use Rattle.template_machine.specs.Laws.{KeepsLocals, names}
 use Rattle.template_machine.specs.Meaning.{body, code, exec, list, nodes}
 use Rattle.template_machine.specs.Passing.{again, attributes, back, children, finish, start_parts}
-use Rattle.template_machine.specs.Putting.{attribute_part, is_whole, puts, text_parts}
+use Rattle.template_machine.specs.Putting.{attribute_part, puts, text_parts, unless_refused}
 use Rattle.template_machine.specs.Trail.{current}
 use Rattle.template_machine.specs.Values.{atoms_of, computed_name, content_text, got, items_text, namespace_text, selected, setting, space, template_text, template_text_or, truth_of}
 use Rattle.template_machine.specs.Variables.{assigned_in}
 use Rattle.template_machine.proofs.Holding.{holds_more, holds_then, result_meets}
 use Rattle.template_machine.proofs.Locals.{Grows, changed_names, cut_names, grows_on, one_grows, same_grows}
-use Rattle.template_machine.proofs.Keeping.{Post, Ok, More, Alike, got_ok, either_ok, puts_ok, hands_ok, binds_ok, spend_ok, instance_ok, children_ok, again_ok, finish_ok, attributes_ok}
+use Rattle.template_machine.proofs.Keeping.{Post, Ok, More, Alike, got_ok, either_ok, puts_ok, hands_ok, binds_ok, spend_ok, instance_ok, children_ok, again_ok, finish_ok, attributes_ok, refused_ok}
 
 -- the same locals are no fewer
 alike_more : (a b : Here) → Alike a b → More a b
@@ -101,11 +102,11 @@ module _ (given : Given) where
   buffer_ok : (at : Place) (base : ℕ) (handed : List Bound) (o : Option ℕ) (self : Self) (a : Here) → Ok (More a) (buffer_nodes given at base handed o self a)
   buffer_ok at base handed None self a = alike_more a a refl
   buffer_ok at base handed (Some id) self a =
-      let copy = newest a.state.buffers id in
+      let st = begins_reading id a.state in
       let number = sources_open self.level.source + 1 in
-      let ask = Ask (Nodes (all_of (forest copy.parts)) (asked_of given at base handed (Opened None at number)) (begins_reading id a.state)) (λ b. Ret (with_state a (ends_reading id b.state))) in
-      either_ok given (More a) (is_free copy.usage) (opens given at self.level.source ask) (Halt (fault_at run_code.BufferBusy at))
-      (opens_ok (More a) at self.level.source ask (λ b q. alike_more a a refl)) tt
+      let ask = Ask (Nodes (all_of (forest (read_at st.buffers id))) (asked_of given at base handed (Opened None at number)) st) (λ b. Ret (with_state a (ends_reading id b.state))) in
+      refused_ok given (More a) (busy_at a.state.buffers id) at (opens given at self.level.source ask)
+      (opens_ok (More a) at self.level.source ask (λ b q. alike_more a a refl))
 
   document_ok : (at : Place) (base : ℕ) (handed : List Bound) (name : List ℕ) (self : Self) (a : Here) (o : Option Forest) → Ok (More a) (document_nodes given at base handed name self a o)
   document_ok at base handed name self a None = tt
@@ -114,9 +115,9 @@ module _ (given : Given) where
   writes_ok : (at : Place) (o : Option ℕ) (clear : Bool) (is : List Instr) (self : Self) (a : Here) → Ok (More a) (writes given at o clear is self a)
   writes_ok at None clear is self a = alike_more a a refl
   writes_ok at (Some id) clear is self a =
-      let on : Here → Does = λ b. if is_whole b.state id then Ret (with_state b (ends_writing id b.state)) else Halt (fault_at run_code.UnclosedResult at) in
-      either_ok given (More a) (is_free (newest a.state.buffers id).usage) (Ask (Body is self (with_state a (begins_writing id clear a.state))) on) (Halt (fault_at run_code.BufferBusy at))
-      (λ b e. either_ok given (More a) (is_whole b.state id) (Ret (with_state b (ends_writing id b.state))) (Halt (fault_at run_code.UnclosedResult at)) (alike_more a b e) tt) tt
+      let on : Here → Does = λ b. unless_refused (unclosed_at b.state.buffers id) at (Ret (with_state b (ends_writing id b.state))) in
+      refused_ok given (More a) (busy_at a.state.buffers id) at (Ask (Body is self (with_state a (begins_writing id clear a.state))) on)
+      (λ b e. refused_ok given (More a) (unclosed_at b.state.buffers id) at (Ret (with_state b (ends_writing id b.state))) (alike_more a b e))
 
   copied_ok : (at : Place) (attributes : Option Pattern) (is : List Instr) (self : Self) (a : Here) (n : Node) → Ok (More a) (copied given at attributes is self a n)
   copied_ok at attributes is self a Document = λ b e. alike_more a b e
@@ -202,8 +203,8 @@ module _ (given : Given) where
       (λ items. alike_more a (assigned (around given.sheet.groups self.group) name items a) (assigned_alike (around given.sheet.groups self.group) name items a))
   acts_ok (Instr-F.CallProcedure name params at) self a =
       let P = More a in
-      hands_ok given P at params self a (λ handed. calls given at handed (procedure_seen given.sheet self.group name) self a)
-      (λ handed. calls_ok at handed (procedure_seen given.sheet self.group name) self a)
+      hands_ok given P at params self a (λ handed. calls given at handed (procedure_at given.sheet (procedure_seen given.sheet self.group name)) self a)
+      (λ handed. calls_ok at handed (procedure_at given.sheet (procedure_seen given.sheet self.group name)) self a)
   acts_ok (Instr-F.ProcessChildren group params at) self a =
       let P = More a in
       let asked : List Bound → Asked = λ handed. asked_within given at (base_of given.sheet group self.group) handed self in

@@ -1,5 +1,5 @@
 -- A sheet without templates puts what its nodes put, as far as the output takes it.
-use Rattle.std.proofs.Common.{◌≡◌, ℕ, Bool, true, false, List, [], ◌∷◌, ◌++◌, Option, Some, None, map, refl, sym, ap, ◌∙◌, subst}
+use Rattle.std.proofs.Common.{◌≡◌, ℕ, Bool, true, false, List, [], ◌∷◌, ◌++◌, Option, Some, None, filter, map, refl, sym, ap, ◌∙◌, subst}
 use Rattle.stx_base.specs.Course.{Ret, Halt, Say, Ask, and_then, Ends}
 use Rattle.stx_base.proofs.Course.{and_then_assoc, unfolded, ends_said, stopped as stopped_so}
 use Rattle.stx_base.specs.declared.fault.Place.{Place}
@@ -10,7 +10,8 @@ use Rattle.result_writer.specs.declared.fault.ResultFault.{ResultFault}
 use Rattle.sheet_model.specs.declared.pass.Kinds.{Kinds}
 use Rattle.xml_events.specs.Tree as tree
 use Rattle.xml_events.specs.Tree.{Why, Mark, Fresh, Told, Begun, Stage, Waiting, Ready, Entered, Leaf, Element, Forest, End, Cut, Single, Nested}
-use Rattle.template_machine.specs.Choice.{best, candidates}
+use Rattle.group_scope.specs.Choice.{all_from, category, fitting, is_free}
+use Rattle.group_scope.specs.Rank.{best_of}
 use Rattle.template_machine.specs.Declaring.{at_start, makes}
 use Rattle.template_machine.specs.Ending.{Put, fault_at, result_code}
 use Rattle.template_machine.specs.Fuel.{begin, ended, is_begun, is_entered, unready, when_ready}
@@ -110,7 +111,7 @@ module _ (given : Given) where
     -- without templates there is no choice
     node_passes : (asked : Asked) (trail : Trail) (a : Here) → node given asked trail a ≡ pass_node given asked.at asked.base asked.level.source trail (current trail) a
     node_passes asked trail a =
-        let e : choice given asked.base [] trail a.state ≡ None = ap (λ ts. best (candidates given.sheet asked.base [] (pattern_setting given trail a.state) 0 ts)) none in
+        let e : choice given asked.base [] trail a.state ≡ None = ap (λ ts. best_of (fitting (pattern_setting given trail a.state) (filter (is_free []) (all_from (category given.sheet asked.base) 0 ts)))) none in
         ap (λ o. elim o [ None ↦ pass_node given asked.at asked.base asked.level.source trail (current trail) a | Some c ↦ runs given asked.at asked.params c (template_at given c) [] asked.level trail a (finish given asked.level.source) ]) e
 
     -- a head that is passed through, and then its siblings and k

@@ -2,24 +2,26 @@
 use Rattle.var_store.specs.declared.bound.Bound.{Bound}
 use Rattle.stxpath_values.specs.declared.value.Atom.{Atom}
 use Rattle.stx_base.specs.declared.name.Name.{Name}
-use Rattle.std.proofs.Common.{◌≡◌, inl, inr, ℕ, nat_lt, Bool, true, false, List, [], ◌∷◌, Option, Some, None, refl, sym, ap, ◌∙◌, if◌then◌else◌, ◌+◌, zero, suc}
+use Rattle.std.proofs.Common.{◌≡◌, inl, inr, ℕ, nat_lt, Bool, true, List, [], ◌∷◌, Option, Some, None, refl, sym, ap, ◌∙◌, if◌then◌else◌, ◌+◌, zero, suc}
 use Rattle.stx_base.specs.Course.{Ask, Halt, Ret, Say, and_then}
 use Rattle.stx_base.proofs.Course.{and_then_assoc, funext, unfolds}
 use Rattle.stx_base.specs.declared.fault.Place.{Place}
 use Rattle.stx_base.specs.declared.fault.RunCode.TheVariants as run_code
 use Rattle.stx_base.specs.declared.part.Part.{Part}
-use Rattle.result_writer.specs.Target.{fault, nothing}
+use Rattle.result_writer.specs.Target.{fault}
 use Rattle.result_writer.specs.declared.fault.ResultFault.{ResultFault}
 use Rattle.sheet_model.specs.declared.instr.Instr.{Instr}
 use Rattle.xml_events.specs.Tree.{Forest, Future}
 use Rattle.template_machine.specs.Acting.{cut_to, put_around, siblings_of, asked_of, begins_reading, begins_writing, buffer_nodes, ends_reading, ends_writing, turns, with_local, writes}
-use Rattle.template_machine.specs.Buffers.{left_by, weight_of, with_part, forest, is_free, newest}
+use Rattle.event_buffers.specs.Buffers.{busy_at, read_at, refusal_at, unclosed_at}
+use Rattle.event_buffers.specs.Forest.{forest}
+use Rattle.event_buffers.specs.declared.fault.BufferFault.{BufferFault}
 use Rattle.template_machine.specs.Ending.{fault_at, Spent}
 use Rattle.template_machine.specs.Fuel.{skip, spend}
 use Rattle.template_machine.specs.Job.{Asked, Body, Does, Given, Here, Nodes, Self, Source, State, with_state, Opened, sources_open, all_of, remains}
 use Rattle.template_machine.specs.Meaning.{body, code, exec, siblings}
 use Rattle.template_machine.specs.Passing.{finish, gone, node}
-use Rattle.template_machine.specs.Putting.{kept_in, put_out, put_to, puts, unless_fault, written_copy, is_whole}
+use Rattle.template_machine.specs.Putting.{kept_in, put_out, put_to, puts, unless_fault, unless_refused}
 use Rattle.template_machine.specs.Resuming.{Resumes}
 use Rattle.template_machine.proofs.Skipping.{Silent, skip_silent}
 use Rattle.template_machine.specs.Waiting.{Wait, Parts, Region_of, Siblings_of, rest, Source_of, Spot, Turns, Written, beyond, here_at}
@@ -30,17 +32,13 @@ module _ (given : Given) where
   fault_then None at x k = refl
   fault_then (Some f) at x k = refl
 
-  if_then : (b : Bool) (x y : Does) (k : Here → Does) → and_then (if b then x else y) k ≡ (if b then and_then x k else and_then y k)
-  if_then true x y k = refl
-  if_then false x y k = refl
+  refused_then : (o : Option BufferFault) (at : Place) (x : Does) (k : Here → Does) → and_then (unless_refused o at x) k ≡ unless_refused o at (and_then x k)
+  refused_then None at x k = refl
+  refused_then (Some f) at x k = refl
 
   put_then : (targets : List ℕ) (at : Place) (p : Part) (st : State) (go : State → Does) (k : Here → Does) → and_then (put_to given targets at p st go) k ≡ put_to given targets at p st (λ t. and_then (go t) k)
   put_then [] at p st go k = fault_then (fault given.limits.elements st.result p) at (Say _ (go (put_out p st))) k
-  put_then (id ∷ targets) at p st go k =
-      let full = nat_lt given.limits.buffer (weight_of (with_part (written_copy st id).parts p)) in
-      let over : Does = Halt (fault_at run_code.BufferFull at) in
-      fault_then (fault given.limits.elements (left_by nothing (written_copy st id).parts) p) at (if full then over else go (kept_in id p st)) k
-      ∙ ap (unless_fault (fault given.limits.elements (left_by nothing (written_copy st id).parts) p) at) (if_then full over (go (kept_in id p st)) k)
+  put_then (id ∷ targets) at p st go k = refused_then (refusal_at st.buffers id p) at (go (kept_in id p st)) k
 
   puts_then : (at : Place) (ps : List Part) (st : State) (go : State → Does) (k : Here → Does) → and_then (puts given at ps st go) k ≡ puts given at ps st (λ t. and_then (go t) k)
   puts_then at [] st go k = refl
@@ -85,22 +83,22 @@ module _ (given : Given) where
   turn_is at name x xs is self ws f a =
       spend_then at a.state (λ st. Ask (Body is self (with_local name (x ∷ []) (with_state a st))) (λ b. turns given at name xs is self (cut_to a.locals b))) (rest given ws f)
 
-  writing_is : (at : Place) (id : ℕ) (clear : Bool) (is : List Instr) (self : Self) (ws : List Wait) (f : Future) (a : Here) → is_free (newest a.state.buffers id).usage ≡ true → and_then (writes given at (Some id) clear is self a) (rest given ws f) ≡ Ask (Body is self (with_state a (begins_writing id clear a.state))) (rest given (Written id at ∷ ws) f)
+  writing_is : (at : Place) (id : ℕ) (clear : Bool) (is : List Instr) (self : Self) (ws : List Wait) (f : Future) (a : Here) → busy_at a.state.buffers id ≡ None → and_then (writes given at (Some id) clear is self a) (rest given ws f) ≡ Ask (Body is self (with_state a (begins_writing id clear a.state))) (rest given (Written id at ∷ ws) f)
   writing_is at id clear is self ws f a e =
-      let on : Here → Does = λ b. if is_whole b.state id then Ret (with_state b (ends_writing id b.state)) else Halt (fault_at run_code.UnclosedResult at) in
+      let on : Here → Does = λ b. unless_refused (unclosed_at b.state.buffers id) at (Ret (with_state b (ends_writing id b.state))) in
       let ask = Ask (Body is self (with_state a (begins_writing id clear a.state))) on in
-      ap (λ t. and_then (if t then ask else Halt (fault_at run_code.BufferBusy at)) (rest given ws f)) e
+      ap (λ o. and_then (unless_refused o at ask) (rest given ws f)) e
       ∙ ap (λ h. Ask (Body is self (with_state a (begins_writing id clear a.state))) h)
-      (funext (λ b. if_then (is_whole b.state id) (Ret (with_state b (ends_writing id b.state))) (Halt (fault_at run_code.UnclosedResult at)) (rest given ws f)))
+      (funext (λ b. refused_then (unclosed_at b.state.buffers id) at (Ret (with_state b (ends_writing id b.state))) (rest given ws f)))
 
-  reading_is : (at : Place) (base : ℕ) (handed : List Bound) (id : ℕ) (self : Self) (spot : Spot) (ws : List Wait) (f : Future) (st : State) → is_free (newest st.buffers id).usage ≡ true → nat_lt (sources_open self.level.source) given.limits.sources ≡ true → let asked = asked_of given at base handed (Opened None at (sources_open self.level.source + 1)) in and_then (buffer_nodes given at base handed (Some id) self (here_at spot f st)) (rest given ws (beyond spot.spent f)) ≡ rest given (Siblings_of asked ∷ Source_of (Some id) spot ∷ ws) f (remains (all_of (forest (newest st.buffers id).parts)) (begins_reading id st))
+  reading_is : (at : Place) (base : ℕ) (handed : List Bound) (id : ℕ) (self : Self) (spot : Spot) (ws : List Wait) (f : Future) (st : State) → busy_at st.buffers id ≡ None → nat_lt (sources_open self.level.source) given.limits.sources ≡ true → let asked = asked_of given at base handed (Opened None at (sources_open self.level.source + 1)) in and_then (buffer_nodes given at base handed (Some id) self (here_at spot f st)) (rest given ws (beyond spot.spent f)) ≡ rest given (Siblings_of asked ∷ Source_of (Some id) spot ∷ ws) f (remains (all_of (forest (read_at (begins_reading id st).buffers id))) (begins_reading id st))
   reading_is at base handed id self spot ws f st e s =
       let asked = asked_of given at base handed (Opened None at (sources_open self.level.source + 1)) in
       let a = here_at spot f st in
       let k = rest given ws (beyond spot.spent f) in
-      let ask = Ask (Nodes (all_of (forest (newest st.buffers id).parts)) asked (begins_reading id st)) (λ b. Ret (with_state a (ends_reading id b.state))) in
-      let over : Does = Halt (fault_at run_code.BufferBusy at) in
-      ap (λ t. and_then (if t then (if nat_lt (sources_open self.level.source) given.limits.sources then ask else Halt (fault_at run_code.TooManySources at)) else over) k) e
+      let read = begins_reading id st in
+      let ask = Ask (Nodes (all_of (forest (read_at read.buffers id))) asked read) (λ b. Ret (with_state a (ends_reading id b.state))) in
+      ap (λ o. and_then (unless_refused o at (if nat_lt (sources_open self.level.source) given.limits.sources then ask else Halt (fault_at run_code.TooManySources at))) k) e
       ∙ ap (λ t. and_then (if t then ask else Halt (fault_at run_code.TooManySources at)) k) s
 
 pub resumes : (given : Given) → Resumes given

@@ -21,14 +21,15 @@ use Rattle.stxpath_values.specs.Outcome as outcome
 use Rattle.stxpath_values.specs.declared.value.Atom.{Atom}
 use Rattle.xml_events.specs.Tree.{Forest}
 use Rattle.template_machine.specs.Acting.{acts, act, asked_beside, asked_of, asked_within, assigned, attribute_of, attributes_of, begins_reading, begins_writing, buffer_nodes, calls, choose, condition, copied, copy_parts, cut_to, document_nodes, ends_reading, ends_writing, has_list, has_siblings, named, opens, put_around, put_parts, siblings_of, turns, with_local, without_space, writes}
-use Rattle.template_machine.specs.Buffers.{forest, is_free, newest}
+use Rattle.event_buffers.specs.Buffers.{busy_at, read_at, unclosed_at}
+use Rattle.event_buffers.specs.Forest.{forest}
 use Rattle.template_machine.specs.Declaring.{binds, hands}
 use Rattle.template_machine.specs.Ending.{Note, Open, fault_at}
-use Rattle.template_machine.specs.Finding.{base_of, buffer_seen, passing, procedure_seen}
+use Rattle.template_machine.specs.Finding.{base_of, buffer_seen, passing, procedure_at, procedure_seen}
 use Rattle.template_machine.specs.Job.{Given, Source, Opened, Here, Self, Nodes, Body, Does, Level, Asked, all_of, with_state, sources_open}
 use Rattle.template_machine.specs.Outcome.{AreNew}
 use Rattle.template_machine.specs.Passing.{again, attributes, back, children, finish, start_parts}
-use Rattle.template_machine.specs.Putting.{attribute_part, is_whole, puts, text_parts}
+use Rattle.template_machine.specs.Putting.{attribute_part, puts, text_parts, unless_refused}
 use Rattle.template_machine.specs.Trail.{current}
 use Rattle.template_machine.specs.Values.{atoms_of, computed_name, content_text, got, items_text, namespace_text, selected, setting, space, template_text, template_text_or, truth_of}
 use Rattle.template_machine.specs.Variables.{assigned_in}
@@ -36,7 +37,7 @@ use Rattle.var_store.specs.Variables.{value_of, with_value}
 use Rattle.var_store.specs.declared.bound.Bound.{Bound}
 use Rattle.template_machine.proofs.Fresh.{forest_new, new_size}
 use Rattle.template_machine.proofs.Total.{again_ok, attributes_ok, children_ok, finish_ok, instance_ok}
-use Rattle.template_machine.proofs.Weighing.{amount, weight, Pre, Post, Left, Ok, full, got_ok, puts_ok, hands_ok, binds_ok, either_ok, spend_ok}
+use Rattle.template_machine.proofs.Weighing.{amount, weight, Pre, Post, Left, Ok, full, got_ok, puts_ok, hands_ok, binds_ok, either_ok, spend_ok, refused_ok}
 
 module _ (given : Given) where
   -- where a body stands, what it may use, and what it may leave
@@ -105,20 +106,21 @@ module _ (given : Given) where
     buffer_ok at base handed None self a f l = (omega arith, f)
     buffer_ok at base handed (Some id) self a f l =
         let P = Left given self.level.source (amount given self.level.source a) in
-        let copy = newest a.state.buffers id in
+        let st = begins_reading id a.state in
+        let kept = read_at st.buffers id in
         let number = sources_open self.level.source + 1 in
-        let none = new_size (full given) None at number (forest copy.parts) (forest_new copy.parts) in
-        let ask = Ask (Nodes (all_of (forest copy.parts)) (asked_of given at base handed (Opened None at number)) (begins_reading id a.state)) (λ b. Ret (with_state a (ends_reading id b.state))) in
-        either_ok given w P (is_free copy.usage) (opens given at self.level.source ask) (Halt (fault_at run_code.BufferBusy at))
-        (opens_ok P at self.level.source ask (f, omega (arith, none), λ b r. (omega (arith, r.0, none), r.1))) tt
+        let none = new_size (full given) None at number (forest kept) (forest_new kept) in
+        let ask = Ask (Nodes (all_of (forest kept)) (asked_of given at base handed (Opened None at number)) st) (λ b. Ret (with_state a (ends_reading id b.state))) in
+        refused_ok given w P (busy_at a.state.buffers id) at (opens given at self.level.source ask)
+        (opens_ok P at self.level.source ask (f, omega (arith, none), λ b r. (omega (arith, r.0, none), r.1)))
 
     writes_ok : (at : Place) (o : Option ℕ) (clear : Bool) (body : List Instr) (self : Self) (a : Here) → a.state.fuel ≤ full given → amount given self.level.source a < w → Ok given w (Left given self.level.source (amount given self.level.source a)) (writes given at o clear body self a)
     writes_ok at None clear body self a f l = (omega arith, f)
     writes_ok at (Some id) clear body self a f l =
         let P = Left given self.level.source (amount given self.level.source a) in
-        let on : Here → Does = λ b. if is_whole b.state id then Ret (with_state b (ends_writing id b.state)) else Halt (fault_at run_code.UnclosedResult at) in
-        either_ok given w P (is_free (newest a.state.buffers id).usage) (Ask (Body body self (with_state a (begins_writing id clear a.state))) on) (Halt (fault_at run_code.BufferBusy at))
-        (f, l, λ b r. either_ok given w P (is_whole b.state id) (Ret (with_state b (ends_writing id b.state))) (Halt (fault_at run_code.UnclosedResult at)) r tt) tt
+        let on : Here → Does = λ b. unless_refused (unclosed_at b.state.buffers id) at (Ret (with_state b (ends_writing id b.state))) in
+        refused_ok given w P (busy_at a.state.buffers id) at (Ask (Body body self (with_state a (begins_writing id clear a.state))) on)
+        (f, l, λ b r. refused_ok given w P (unclosed_at b.state.buffers id) at (Ret (with_state b (ends_writing id b.state))) r)
 
     copied_ok : (at : Place) (attributes : Option Pattern) (body : List Instr) (self : Self) (a : Here) (n : Node) → a.state.fuel ≤ full given → amount given self.level.source a < w → Ok given w (Left given self.level.source (amount given self.level.source a)) (copied given at attributes body self a n)
     copied_ok at attributes body self a Document f l = (f, l, λ b r. r)
@@ -212,8 +214,8 @@ module _ (given : Given) where
           (λ items. assigned_fits (around given.sheet.groups self.group) name items self.level.source a f)
       acts_ok (Instr-F.CallProcedure name params at) self a f l =
           let P = Left given self.level.source (amount given self.level.source a) in
-          hands_ok given w P at params self a (λ handed. calls given at handed (procedure_seen given.sheet self.group name) self a)
-          (λ handed. calls_ok at handed (procedure_seen given.sheet self.group name) self a f l)
+          hands_ok given w P at params self a (λ handed. calls given at handed (procedure_at given.sheet (procedure_seen given.sheet self.group name)) self a)
+          (λ handed. calls_ok at handed (procedure_at given.sheet (procedure_seen given.sheet self.group name)) self a f l)
       acts_ok (Instr-F.ProcessChildren group params at) self a f l =
           let P = Left given self.level.source (amount given self.level.source a) in
           let asked : List Bound → Asked = λ handed. asked_within given at (base_of given.sheet group self.group) handed self in

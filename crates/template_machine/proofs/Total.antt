@@ -9,7 +9,7 @@ use Rattle.node_stack.specs.Path.{Node, Document, Element, Chars, CData, Comment
 use Rattle.sheet_model.specs.declared.pass.Kinds.{Kinds}
 use Rattle.sheet_model.specs.declared.sheet.Template.{Template}
 use Rattle.xml_events.specs.Tree.{Forest}
-use Rattle.template_machine.specs.Choice.{Candidate}
+use Rattle.group_scope.specs.declared.rank.Rank.{Rank}
 use Rattle.template_machine.specs.Declaring.{ends_scope, makes_scope}
 use Rattle.template_machine.specs.Ending.{fault_at}
 use Rattle.template_machine.specs.Fuel.{skip}
@@ -38,7 +38,7 @@ module _ (given : Given) where
         ))
 
     -- a body that is called leaves no more than there was
-    pub runs_ok : (at : Place) (handed : List Bound) (c : Candidate) (t : Option Template) (active : List ℕ) (level : Level) (trail : Trail) (a : Here) (go : Here → Does) → a.state.fuel ≤ full given → amount given level.source a < w → ((b : Here) → Left given level.source (amount given level.source a) b → Ok given w P (go b)) → Ok given w P (runs given at handed c t active level trail a go)
+    pub runs_ok : (at : Place) (handed : List Bound) (c : Rank) (t : Option Template) (active : List ℕ) (level : Level) (trail : Trail) (a : Here) (go : Here → Does) → a.state.fuel ≤ full given → amount given level.source a < w → ((b : Here) → Left given level.source (amount given level.source a) b → Ok given w P (go b)) → Ok given w P (runs given at handed c t active level trail a go)
     runs_ok at handed c None active level trail a go f l h = h a (omega arith, f)
     runs_ok at handed c (Some t) active level trail a go f l h =
         instance_ok at level (λ more. let self = run_as c t active more trail in makes_scope given t.new_scope t.group self a.state (enters given handed t self a go))
@@ -93,7 +93,7 @@ module _ (given : Given) where
 
     pub node_ok : (asked : Asked) (trail : Trail) (a : Here) → a.state.fuel ≤ full given → amount given asked.level.source a < w → Ok given w (Left given asked.level.source (amount given asked.level.source a)) (node given asked trail a)
     node_ok asked trail a f l = of_choice (choice given asked.base [] trail a.state) where
-      of_choice : (o : Option Candidate) → Ok given w (Left given asked.level.source (amount given asked.level.source a)) (elim o [ None ↦ pass_node given asked.at asked.base asked.level.source trail (current trail) a | Some c ↦ runs given asked.at asked.params c (template_at given c) [] asked.level trail a (finish given asked.level.source) ])
+      of_choice : (o : Option Rank) → Ok given w (Left given asked.level.source (amount given asked.level.source a)) (elim o [ None ↦ pass_node given asked.at asked.base asked.level.source trail (current trail) a | Some c ↦ runs given asked.at asked.params c (template_at given c) [] asked.level trail a (finish given asked.level.source) ])
       of_choice None = pass_node_ok asked.at asked.base asked.level.source trail (current trail) a f l
       of_choice (Some c) =
           runs_ok w _ asked.at asked.params c (template_at given c) [] asked.level trail a (finish given asked.level.source) f l
@@ -101,7 +101,7 @@ module _ (given : Given) where
 
     pub again_ok : (at : Place) (base : ℕ) (handed : List Bound) (self : Self) (a : Here) → a.state.fuel ≤ full given → amount given self.level.source a < w → Ok given w (Left given self.level.source (amount given self.level.source a)) (again given at base handed self a)
     again_ok at base handed self a f l = of_choice (choice given base self.active self.trail a.state) where
-      of_choice : (o : Option Candidate) → Ok given w (Left given self.level.source (amount given self.level.source a)) (elim o [ None ↦ pass_node given at base self.level.source self.trail (current self.trail) a | Some c ↦ runs given at handed c (template_at given c) self.active self.level self.trail a (λ b. Ret b) ])
+      of_choice : (o : Option Rank) → Ok given w (Left given self.level.source (amount given self.level.source a)) (elim o [ None ↦ pass_node given at base self.level.source self.trail (current self.trail) a | Some c ↦ runs given at handed c (template_at given c) self.active self.level self.trail a (λ b. Ret b) ])
       of_choice None = pass_node_ok at base self.level.source self.trail (current self.trail) a f l
       of_choice (Some c) = runs_ok w _ at handed c (template_at given c) self.active self.level self.trail a (λ b. Ret b) f l (λ b r. r)
 

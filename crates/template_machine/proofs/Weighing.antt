@@ -1,23 +1,23 @@
 -- How much fuel and how many nodes are left: no call has more than the call that makes it.
-use Rattle.std.proofs.Common.{◌≡◌, ℕ, zero, suc, ◌+◌, ◌≤◌, nat_lt, Bool, true, false, List, [], ◌∷◌, ◌++◌, Option, Some, None, Result, Ok as Fine, Err, refl, ◌∙◌, arith, if◌then◌else◌}
+use Rattle.std.proofs.Common.{◌≡◌, ℕ, zero, suc, ◌+◌, ◌≤◌, Bool, true, false, List, [], ◌∷◌, ◌++◌, Option, Some, None, Result, Ok as Fine, Err, refl, ◌∙◌, arith, if◌then◌else◌}
 use Rattle.stx_base.specs.Course.{Halt}
 use Rattle.stx_base.specs.Termination.{Safe}
 use Rattle.stx_base.specs.declared.fault.Place.{Place}
 use Rattle.stx_base.specs.declared.part.Part.{Part}
-use Rattle.result_writer.specs.Target.{fault, nothing}
+use Rattle.result_writer.specs.Target.{fault}
 use Rattle.result_writer.specs.declared.fault.ResultFault.{ResultFault}
 use Rattle.sheet_model.specs.declared.instr.WithParam.{WithParam}
 use Rattle.sheet_model.specs.declared.sheet.Variable.{Variable}
 use Rattle.stxpath_values.specs.declared.fault.EvalFault.{EvalFault}
 use Rattle.xml_events.specs.Tree.{Mark, Fresh, Told, Begun, Stage, Waiting, Ready, Entered, Forest, End, Cut, Single, Nested}
-use Rattle.stx_base.specs.declared.fault.RunCode.TheVariants as code
-use Rattle.template_machine.specs.Buffers.{left_by, weight_of, with_part}
+use Rattle.event_buffers.specs.Buffers.{refusal_at}
+use Rattle.event_buffers.specs.declared.fault.BufferFault.{BufferFault}
 use Rattle.template_machine.specs.Declaring.{makes, makes_scope, ends_scope, binds, hands, with_variable, with_scope, parameter_value, new_value, commanded, kept, declaration_setting}
-use Rattle.template_machine.specs.Ending.{Spent, fault_at}
+use Rattle.template_machine.specs.Ending.{Spent}
 use Rattle.template_machine.specs.Fuel.{begin, ended, is_begun, is_entered, refuelled, skip, spend, when_ready}
 use Rattle.template_machine.specs.Job.{Given, State, Source, Main, Opened, Here, Self, Job, Nodes, Body, Loop, Does}
 use Rattle.template_machine.specs.Outcome.{own, end_own, size}
-use Rattle.template_machine.specs.Putting.{kept_in, put_out, put_to, puts, unless_fault, written_copy}
+use Rattle.template_machine.specs.Putting.{kept_in, put_out, put_to, puts, unless_fault, unless_refused}
 use Rattle.template_machine.specs.Values.{atoms_of, got, setting}
 use Rattle.var_store.specs.Variables.{value_of}
 use Rattle.var_store.specs.declared.bound.Bound.{Bound}
@@ -72,11 +72,13 @@ module _ (given : Given) where
     fault_ok None at x h = h
     fault_ok (Some f) at x h = tt
 
+    pub refused_ok : (o : Option BufferFault) (at : Place) (x : Does) → Ok w P x → Ok w P (unless_refused o at x)
+    refused_ok None at x h = h
+    refused_ok (Some f) at x h = tt
+
     put_ok : (targets : List ℕ) (at : Place) (p : Part) (st : State) (go : State → Does) → ((t : State) → t.fuel ≡ st.fuel → Ok w P (go t)) → Ok w P (put_to given targets at p st go)
     put_ok [] at p st go h = fault_ok (fault given.limits.elements st.result p) at _ (h (put_out p st) refl)
-    put_ok (id ∷ targets) at p st go h =
-        fault_ok (fault given.limits.elements (left_by nothing (written_copy st id).parts) p) at _
-        (either_ok (nat_lt given.limits.buffer (weight_of (with_part (written_copy st id).parts p))) (Halt (fault_at code.BufferFull at)) (go (kept_in id p st)) tt (h (kept_in id p st) refl))
+    put_ok (id ∷ targets) at p st go h = refused_ok (refusal_at st.buffers id p) at (go (kept_in id p st)) (h (kept_in id p st) refl)
 
     pub puts_ok : (at : Place) (ps : List Part) (st : State) (go : State → Does) → ((t : State) → t.fuel ≡ st.fuel → Ok w P (go t)) → Ok w P (puts given at ps st go)
     puts_ok at [] st go h = h st refl
@@ -92,7 +94,7 @@ module _ (given : Given) where
 
     pub makes_scope_ok : (new : Bool) (group : ℕ) (self : Self) (st : State) (go : State → Does) → ((t : State) → t.fuel ≡ st.fuel → Ok w P (go t)) → Ok w P (makes_scope given new group self st go)
     makes_scope_ok false group self st go h = h st refl
-    makes_scope_ok true group self st go h = makes_ok _ [] given.sheet.variables self (with_scope given.sheet group st) go h
+    makes_scope_ok true group self st go h = makes_ok _ [] given.sheet.variables self (with_scope group st) go h
 
     -- only the locals are others
     pub binds_ok : (vs : List Variable) (handed : List Bound) (self : Self) (a : Here) (go : Here → Does) → ((ls : List Bound) → Ok w P (go (record a { locals = ls }))) → Ok w P (binds given vs handed self a go)

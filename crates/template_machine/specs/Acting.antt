@@ -25,14 +25,16 @@ use Rattle.stxpath_values.specs.Outcome as outcome
 use Rattle.stxpath_values.specs.declared.fault.EvalFault.{EvalFault}
 use Rattle.stxpath_values.specs.declared.value.Atom.{Atom}
 use Rattle.xml_events.specs.Tree.{Forest}
-use Rattle.template_machine.specs.Buffers.{closed_read, closed_written, forest, is_free, newest, opened_to_read, opened_to_write}
+use Rattle.event_buffers.specs.Buffers.{busy_at, is_read, is_written, on_buffer, on_first, on_newest, read_at, unclosed_at}
+use Rattle.event_buffers.specs.Forest.{forest}
+use Rattle.event_buffers.specs.Layer.{closed, opened_read, opened_write}
 use Rattle.template_machine.specs.Declaring.{binds, hands}
 use Rattle.template_machine.specs.Ending.{Note, Open, fault_at}
-use Rattle.template_machine.specs.Finding.{base_of, buffer_seen, passing, procedure_seen}
+use Rattle.template_machine.specs.Finding.{base_of, buffer_seen, passing, procedure_at, procedure_seen}
 use Rattle.template_machine.specs.Fuel.{spend}
 use Rattle.template_machine.specs.Job.{Asked, Body, Condition, Does, Given, Here, Loop, Nodes, Self, Source, Opened, State, all_of, fresh, sources_open, with_state}
 use Rattle.template_machine.specs.Passing.{again, attributes, back, children, finish, instance, start_parts}
-use Rattle.template_machine.specs.Putting.{attribute_part, is_whole, puts, text_parts}
+use Rattle.template_machine.specs.Putting.{attribute_part, puts, text_parts, unless_refused}
 use Rattle.template_machine.specs.Trail.{above, current, document}
 use Rattle.template_machine.specs.Values.{atoms_of, computed_name, content_text, got, items_text, namespace_text, selected, setting, space, template_text, template_text_or, truth_of}
 use Rattle.template_machine.specs.Variables.{assigned_in}
@@ -96,16 +98,17 @@ assigned around name value a =
 
 -- a buffer is opened for writing, and parts go to it; and then they go where they went before
 abbrev pub begins_writing : (id : ℕ) → (clear : Bool) → State → State
-begins_writing id clear st = record st { buffers = opened_to_write st.buffers id clear; targets = id ∷ st.targets }
+begins_writing id clear st =
+    record st { buffers = on_buffer (on_newest (opened_write st.buffers.elements clear)) id st.buffers; targets = id ∷ st.targets }
 
 abbrev pub ends_writing : (id : ℕ) → State → State
-ends_writing id st = record st { buffers = closed_written st.buffers id; targets = rest_of st.targets }
+ends_writing id st = record st { buffers = on_buffer (on_first is_written closed) id st.buffers; targets = rest_of st.targets }
 
 abbrev pub begins_reading : (id : ℕ) → State → State
-begins_reading id st = record st { buffers = opened_to_read st.buffers id }
+begins_reading id st = record st { buffers = on_buffer (on_newest opened_read) id st.buffers }
 
 abbrev pub ends_reading : (id : ℕ) → State → State
-ends_reading id st = record st { buffers = closed_read st.buffers id }
+ends_reading id st = record st { buffers = on_buffer (on_first is_read closed) id st.buffers }
 
 module _ (given : Given) where
   -- the current node's children, without conditions
@@ -205,12 +208,11 @@ module _ (given : Given) where
   abbrev pub buffer_nodes : Place → (base : ℕ) → List Bound → Option ℕ → Self → Here → Does
   buffer_nodes at base handed None self a = Ret a
   buffer_nodes at base handed (Some id) self a =
-      let copy = newest a.state.buffers id in
-      if is_free copy.usage
-      then opens at self.level.source
-      (Ask (Nodes (all_of (forest copy.parts)) (asked_of at base handed (Opened None at (sources_open self.level.source + 1))) (begins_reading id a.state))
-      (λ b. Ret (with_state a (ends_reading id b.state))))
-      else Halt (fault_at code.BufferBusy at)
+      let st = begins_reading id a.state in
+      unless_refused (busy_at a.state.buffers id) at
+      (opens at self.level.source
+      (Ask (Nodes (all_of (forest (read_at st.buffers id))) (asked_of at base handed (Opened None at (sources_open self.level.source + 1))) st)
+      (λ b. Ret (with_state a (ends_reading id b.state)))))
 
   -- the nodes of another document
   abbrev pub document_nodes : Place → (base : ℕ) → List Bound → (name : List ℕ) → Self → Here → Option Forest → Does
@@ -223,10 +225,9 @@ module _ (given : Given) where
   abbrev pub writes : Place → Option ℕ → (clear : Bool) → List Instr → Self → Here → Does
   writes at None clear body self a = Ret a
   writes at (Some id) clear body self a =
-      if is_free (newest a.state.buffers id).usage
-      then Ask (Body body self (with_state a (begins_writing id clear a.state)))
-      (λ b. if is_whole b.state id then Ret (with_state b (ends_writing id b.state)) else Halt (fault_at code.UnclosedResult at))
-      else Halt (fault_at code.BufferBusy at)
+      unless_refused (busy_at a.state.buffers id) at
+      (Ask (Body body self (with_state a (begins_writing id clear a.state)))
+      (λ b. unless_refused (unclosed_at b.state.buffers id) at (Ret (with_state b (ends_writing id b.state)))))
 
   -- An instruction, once its unit of fuel was spent: its expressions in the order of its attributes, those that hand values to
   -- parameters, and then what it does.
@@ -269,7 +270,7 @@ module _ (given : Given) where
   acts (Instr-F.Assign name select at) self a =
       got at (atoms_of select (setting given self a)) (λ items. Ret (assigned (around given.sheet.groups self.group) name items a))
   acts (Instr-F.CallProcedure name params at) self a =
-      hands given at params self a (λ handed. calls at handed (procedure_seen given.sheet self.group name) self a)
+      hands given at params self a (λ handed. calls at handed (procedure_at given.sheet (procedure_seen given.sheet self.group name)) self a)
   acts (Instr-F.ProcessChildren group params at) self a =
       hands given at params self a (λ handed.
       if has_list (current self.trail)

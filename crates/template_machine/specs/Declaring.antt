@@ -5,7 +5,6 @@ use Rattle.std.specs.List.{list_any}
 use Rattle.stx_base.specs.declared.name.Name.{Name}
 use Rattle.node_stack.specs.Test.{same_name}
 use Rattle.sheet_model.specs.declared.instr.WithParam.{WithParam}
-use Rattle.sheet_model.specs.declared.sheet.Buffer.{Buffer}
 use Rattle.sheet_model.specs.declared.sheet.Sheet.{Sheet}
 use Rattle.sheet_model.specs.declared.sheet.Variable.{Variable}
 use Rattle.stx_base.specs.declared.fault.Place.{Place}
@@ -13,7 +12,9 @@ use Rattle.stxpath_eval.specs.Setting.{Setting}
 use Rattle.stxpath_values.specs.declared.fault.EvalFault.{EvalFault}
 use Rattle.stxpath_values.specs.declared.value.Atom.{Atom}
 use Rattle.result_writer.specs.Target.{nothing}
-use Rattle.template_machine.specs.Buffers.{Copy, closed}
+use Rattle.event_buffers.specs.Buffers.{on_group, taken_off}
+use Rattle.event_buffers.specs.Declaring.{declared_by}
+use Rattle.event_buffers.specs.Layer.{laid}
 use Rattle.template_machine.specs.Job.{Does, Given, Here, Self, State}
 use Rattle.template_machine.specs.Trail.{path_of, place_of}
 use Rattle.template_machine.specs.Values.{atoms_of, got, selected, setting}
@@ -21,47 +22,34 @@ use Rattle.template_machine.specs.Variables.{declared, first_some, newest, older
 use Rattle.var_store.specs.Variables.{value_of}
 use Rattle.var_store.specs.declared.bound.Bound.{Bound}
 use Rattle.var_store.specs.Copies.{Stored}
-use Rattle.template_machine.specs.Lists.{rest_of}
 
 -- a variable of this group and name is declared
 abbrev pub is_declared_in : List Variable → (group : ℕ) → Name → Bool
 is_declared_in vs group name = list_any (λ v. v.group == group && same_name v.name name) vs
 
 -- What a declaration sees under a name: the variables of its own group and of those around it that stand earlier in the sheet.
-abbrev pub seen_by : Sheet → (earlier : List Variable) → Variable → Stored → Name → Option (List Atom)
-seen_by sheet earlier v copies name =
-    first_some (λ g. if is_declared_in earlier g name then value_of name (newest copies g) else None) (around sheet.groups v.group)
-
--- the copies of buffers of a group: one more of each, with its declared content, or the newest taken off
-abbrev pub shadowed_buffers : (group : ℕ) → List Buffer → List (List Copy) → List (List Copy)
-shadowed_buffers group [] copies = copies
-shadowed_buffers group (b ∷ bs) [] = []
-shadowed_buffers group (b ∷ bs) (c ∷ cs) =
-    (if b.group == group then closed b.content ∷ c else c) ∷ shadowed_buffers group bs cs
-
-abbrev pub unshadowed_buffers : (group : ℕ) → List Buffer → List (List Copy) → List (List Copy)
-unshadowed_buffers group [] copies = copies
-unshadowed_buffers group (b ∷ bs) [] = []
-unshadowed_buffers group (b ∷ bs) (c ∷ cs) = (if b.group == group then rest_of c else c) ∷ unshadowed_buffers group bs cs
+abbrev pub seen_before : Sheet → (earlier : List Variable) → (group : ℕ) → Stored → Name → Option (List Atom)
+seen_before sheet earlier group copies name =
+    first_some (λ g. if is_declared_in earlier g name then value_of name (newest copies g) else None) (around sheet.groups group)
 
 -- a state with new copies of a group's variables and buffers, and without them
-abbrev pub with_scope : Sheet → (group : ℕ) → State → State
-with_scope sheet group st = record st {
+abbrev pub with_scope : (group : ℕ) → State → State
+with_scope group st = record st {
   variables = shadowed st.variables group;
-  buffers = shadowed_buffers group sheet.buffers st.buffers;
+  buffers = on_group (λ copies. laid ∷ copies) group st.buffers;
 }
 
-abbrev pub without_scope : Sheet → (group : ℕ) → State → State
-without_scope sheet group st = record st {
+abbrev pub without_scope : (group : ℕ) → State → State
+without_scope group st = record st {
   variables = unshadowed st.variables group;
-  buffers = unshadowed_buffers group sheet.buffers st.buffers;
+  buffers = on_group taken_off group st.buffers;
 }
 
 module _ (given : Given) where
   -- what a declaration's expression sees
   abbrev pub declaration_setting : (earlier : List Variable) → Variable → Self → State → Setting
   declaration_setting earlier v self st = record {
-    vars = seen_by given.sheet earlier v st.variables;
+    vars = seen_before given.sheet earlier v.group st.variables;
     limits = given.limits;
     path = path_of self.trail;
     place = place_of self.trail;
@@ -102,12 +90,12 @@ module _ (given : Given) where
   abbrev pub makes_scope : (new_scope : Bool) → (group : ℕ) → Self → State → (State → Does) → Does
   makes_scope false group self st go = go st
   makes_scope true group self st go =
-      makes (λ v. v.group == group) [] given.sheet.variables self (with_scope given.sheet group st) go
+      makes (λ v. v.group == group) [] given.sheet.variables self (with_scope group st) go
 
   -- and back to the older copies
   abbrev pub ends_scope : (new_scope : Bool) → (group : ℕ) → State → State
   ends_scope false group st = st
-  ends_scope true group st = without_scope given.sheet group st
+  ends_scope true group st = without_scope group st
 
   -- a parameter's value: what was handed to it, or else that of its expression, which sees the parameters before it
   abbrev pub parameter_value : Option (List Atom) → Variable → Setting → Result (List Atom) EvalFault
@@ -133,7 +121,7 @@ abbrev pub at_start : Given → State
 at_start given = record {
   fuel = given.limits.fuel;
   variables = map (λ g. [] ∷ []) given.sheet.groups;
-  buffers = map (λ (b : Buffer). closed b.content ∷ []) given.sheet.buffers;
+  buffers = record { limit = given.limits.buffer; elements = given.limits.elements; buffers = map declared_by given.sheet.buffers };
   result = nothing;
   targets = [];
 }

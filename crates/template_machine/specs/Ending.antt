@@ -6,6 +6,8 @@ use Rattle.stx_base.specs.declared.fault.RunCode.TheVariants as code
 use Rattle.stx_base.specs.declared.fault.RunFault.{RunFault}
 use Rattle.stx_base.specs.declared.fault.XmlFault.{XmlFault}
 use Rattle.stx_base.specs.declared.part.Part.{Part}
+use Rattle.event_buffers.specs.declared.fault.BufferFault.{BufferFault}
+use Rattle.event_buffers.specs.declared.fault.BufferFault.TheVariants as buffer
 use Rattle.result_writer.specs.declared.fault.ResultFault.{ResultFault}
 use Rattle.result_writer.specs.declared.fault.ResultFault.TheVariants as result
 use Rattle.stxpath_values.specs.declared.fault.EvalFault.{EvalFault}
@@ -53,3 +55,10 @@ result_code result.UnmatchedEnd = code.UnmatchedEnd
 result_code result.WrongEnd = code.WrongEnd
 result_code result.UnclosedResult = code.UnclosedResult
 result_code result.ResultDepth = code.ResultDepth
+
+-- the code of a refusal of a buffer, for which no want of memory is a cause
+abbrev pub buffer_code : BufferFault → RunCode
+buffer_code buffer.Busy = code.BufferBusy
+buffer_code buffer.Full = code.BufferFull
+buffer_code (buffer.Result f) = result_code f
+buffer_code buffer.Memory = code.BufferFull

@@ -11,7 +11,7 @@ use Rattle.sheet_model.specs.declared.sheet.Sheet.{Sheet}
 use Rattle.stxpath_syntax.specs.declared.expr.Expr.{Expr}
 use Rattle.stxpath_syntax.specs.declared.expr.Pattern.{Pattern}
 use Rattle.xml_events.specs.Tree.{Begun, Forest, End}
-use Rattle.template_machine.specs.Buffers.{Buffers}
+use Rattle.event_buffers.specs.Buffers.{Buffers}
 use Rattle.template_machine.specs.Ending.{Said, Ending}
 use Rattle.template_machine.specs.Trail.{Trail}
 use Rattle.var_store.specs.declared.bound.Bound.{Bound}

@@ -2,10 +2,8 @@ pub mod Trail
 pub mod Ending
 pub mod Lists
 pub mod Variables
-pub mod Buffers
 pub mod Job
 pub mod Fuel
-pub mod Choice
 pub mod Values
 pub mod Putting
 pub mod Declaring

@@ -1,18 +1,22 @@
 -- What is done with a node: its children, its template's body, or, without one, what its base group passes through.
 use Rattle.sheet_model.specs.Passing.{kinds, no_kind}
 use Rattle.std.specs.Prelude.{ℕ, ◌+◌, nat_lt, Bool, true, false, ◌||◌, if◌then◌else◌, List, [], ◌∷◌, ◌++◌, map, Option, Some, None, slice_get}
+use Rattle.std.specs.Option.{option_map_or}
 use Rattle.stx_base.specs.Course.{Ret, Halt, Ask, and_then}
 use Rattle.stx_base.specs.declared.fault.Place.{Place}
 use Rattle.stx_base.specs.declared.fault.RunCode.TheVariants as code
 use Rattle.stx_base.specs.declared.name.Attr.{Attr}
 use Rattle.stx_base.specs.declared.name.Name.{Name}
+use Rattle.stx_base.specs.declared.node.NodeTest.{NodeTest}
+use Rattle.stx_base.specs.declared.node.NodeTest.TheVariants as test
 use Rattle.stx_base.specs.declared.part.Part.{Part}
 use Rattle.stx_base.specs.declared.part.Part.TheVariants as part
 use Rattle.node_stack.specs.Path.{Node, Document, Element, Chars, CData, Comment, Pi, Attribute}
 use Rattle.sheet_model.specs.declared.pass.Kinds.{Kinds}
 use Rattle.sheet_model.specs.declared.sheet.Group.{Group}
 use Rattle.sheet_model.specs.declared.sheet.Template.{Template}
-use Rattle.template_machine.specs.Choice.{Candidate, chosen}
+use Rattle.group_scope.specs.Choice.{chosen}
+use Rattle.group_scope.specs.declared.rank.Rank.{Rank}
 use Rattle.template_machine.specs.Declaring.{binds, ends_scope, makes_scope}
 use Rattle.template_machine.specs.Ending.{fault_at}
 use Rattle.match_patterns.specs.Fits.{test_of}
@@ -65,10 +69,14 @@ abbrev pub place_of : Option Group → Place
 place_of None = record { file = 0; offset = 0 }
 place_of (Some g) = g.at
 
+-- the test of an alternative of a template
+abbrev pub test_at : Template → (alternative : ℕ) → NodeTest
+test_at t n = option_map_or test_of (slice_get t.pattern.alternatives n) test.Document
+
 -- who runs as a template that was chosen
-abbrev pub run_as : Candidate → Template → (active : List ℕ) → Level → Trail → Self
+abbrev pub run_as : Rank → Template → (active : List ℕ) → Level → Trail → Self
 run_as c t active level trail =
-    record { group = t.group; test = test_of c.alternative; active = c.template ∷ active; level = level; trail = trail }
+    record { group = t.group; test = test_at t c.alternative; active = c.template ∷ active; level = level; trail = trail }
 
 -- where a body goes on after one that it called
 abbrev pub back : Here → State → Here → Here
@@ -126,7 +134,7 @@ module _ (given : Given) where
 
   -- A template's body on the current node: one more instance, new copies if the template wants them, and its parameters, which last as
   -- long as the body.
-  abbrev pub runs : Place → (handed : List Bound) → Candidate → Option Template → (active : List ℕ) → Level → Trail → Here → (Here → Does) → Does
+  abbrev pub runs : Place → (handed : List Bound) → Rank → Option Template → (active : List ℕ) → Level → Trail → Here → (Here → Does) → Does
   runs at handed c None active level trail a go = go a
   runs at handed c (Some t) active level trail a go =
       instance at level (λ more.
@@ -134,10 +142,10 @@ module _ (given : Given) where
       makes_scope given t.new_scope t.group self a.state (enters handed t self a go))
 
   -- the template that is chosen for the current node, for a base group, of those that aren't active
-  abbrev pub choice : (base : ℕ) → (active : List ℕ) → Trail → State → Option Candidate
+  abbrev pub choice : (base : ℕ) → (active : List ℕ) → Trail → State → Option Rank
   choice base active trail st = chosen given.sheet base active (pattern_setting given trail st)
 
-  abbrev pub template_at : Candidate → Option Template
+  abbrev pub template_at : Rank → Option Template
   template_at c = slice_get given.sheet.templates c.template
 
   -- children that aren't gone are skipped

@@ -2,7 +2,8 @@
 use Rattle.stxpath_values.specs.declared.value.Atom.{Atom}
 use Rattle.stxpath_syntax.specs.declared.expr.Expr.{Expr}
 use Rattle.stx_base.specs.declared.name.Name.{Name}
-use Rattle.template_machine.specs.Buffers.{forest, is_free, newest}
+use Rattle.event_buffers.specs.Buffers.{busy_at, read_at}
+use Rattle.event_buffers.specs.Forest.{forest}
 use Rattle.std.specs.Prelude.{Some, None, ◌≡◌, ℕ, List, [], ◌∷◌, ◌++◌, None, map, false, ◌+◌, nat_lt, true, Bool}
 use Rattle.stx_base.specs.Course.{Ask, Ret, Same, and_then}
 use Rattle.stx_base.specs.declared.fault.Place.{Place}
@@ -107,18 +108,18 @@ pub record Resumes (given : Given) : Type 0 where
   -- a buffer is written by a list of instructions
   pub writing :
       (at : Place) (id : ℕ) (clear : Bool) (is : List Instr) (self : Self) (ws : List Wait) (f : Future) (a : Here)
-      → is_free (newest a.state.buffers id).usage ≡ true
+      → busy_at a.state.buffers id ≡ None
       → and_then (writes given at (Some id) clear is self a) (rest given ws f)
       ≡ Ask (Body is self (with_state a (begins_writing id clear a.state))) (rest given (Written id at ∷ ws) f)
   -- a buffer's nodes are processed, and another document's, and the body goes on where it was
   pub reading :
       (at : Place) (base : ℕ) (handed : List Bound) (id : ℕ) (self : Self) (spot : Spot) (ws : List Wait) (f : Future)
       (st : State)
-      → is_free (newest st.buffers id).usage ≡ true
+      → busy_at st.buffers id ≡ None
       → nat_lt (sources_open self.level.source) given.limits.sources ≡ true
       → let asked = asked_of given at base handed (Opened None at (sources_open self.level.source + 1)) in
       and_then (buffer_nodes given at base handed (Some id) self (here_at spot f st)) (rest given ws (beyond spot.spent f))
-      ≡ rest given (Siblings_of asked ∷ Source_of (Some id) spot ∷ ws) f (remains (all_of (forest (newest st.buffers id).parts)) (begins_reading id st))
+      ≡ rest given (Siblings_of asked ∷ Source_of (Some id) spot ∷ ws) f (remains (all_of (forest (read_at (begins_reading id st).buffers id))) (begins_reading id st))
   pub other_document :
       (at : Place) (base : ℕ) (handed : List Bound) (name : List ℕ) (self : Self) (spot : Spot) (ws : List Wait) (f : Future)
       (st : State) (list : Forest)

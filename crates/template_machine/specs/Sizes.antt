@@ -5,19 +5,20 @@ use Rattle.stx_base.specs.declared.name.Binding.{Binding}
 use Rattle.stx_base.specs.declared.name.Name.{Name}
 use Rattle.stx_base.specs.declared.node.First.{First}
 use Rattle.stx_base.specs.declared.node.First.TheVariants as child
-use Rattle.stx_base.specs.declared.part.Part.{Part}
-use Rattle.stx_base.specs.declared.part.Part.TheVariants as part
 use Rattle.node_stack.specs.Counts.{distinct}
 use Rattle.node_stack.specs.Path.{Node, Document, Element, Chars, CData, Comment, Pi, Attribute, kind_of}
 use Rattle.node_stack.specs.Test as kind
 use Rattle.node_stack.specs.Test.{Kind}
-use Rattle.result_writer.specs.Target.{Left, dressed_in, in_force, next, nothing, settled}
+use Rattle.result_writer.specs.Target.{Left}
 use Rattle.result_writer.specs.Target as target
-use Rattle.result_writer.specs.Tag.{dressed}
 use Rattle.result_writer.specs.declared.tag.HeldTag.{HeldTag}
 use Rattle.stxpath_values.specs.declared.value.Atom.{Atom}
 use Rattle.stxpath_values.specs.declared.value.Atom.TheVariants as atom
-use Rattle.template_machine.specs.Buffers.{Copy, attrs_of, left_by}
+use Rattle.event_buffers.specs.Buffers.{Buffer}
+use Rattle.event_buffers.specs.Layer.{Layer, Shut, Writing, Reading, contents}
+use Rattle.event_buffers.specs.Layer.{State as Use}
+use Rattle.event_buffers.specs.declared.kept.Kept.{Kept}
+use Rattle.event_buffers.specs.declared.kept.Kept.TheVariants as kept
 use Rattle.template_machine.specs.Job.{State}
 use Rattle.template_machine.specs.Trail.{Stand, Trail}
 use Rattle.var_store.specs.declared.bound.Bound.{Bound}
@@ -75,27 +76,17 @@ atom_size (atom.Truth b) = 2
 abbrev pub bound_size : Bound → ℕ
 bound_size b = name_size b.name + list_size atom_size b.value
 
-abbrev pub part_size : Part → ℕ
-part_size (part.Start name scope) = 1 + name_size name + list_size binding_size scope
-part_size (part.Attribute name value) = 1 + name_size name + text_size value
-part_size (part.End name) = 1 + name_size name
-part_size (part.Chars text) = 1 + text_size text
-part_size (part.CData text) = 1 + text_size text
-part_size (part.Comment text) = 1 + text_size text
-part_size (part.Pi target text) = 1 + text_size target + text_size text
+-- what a buffer keeps: of a start tag its name, its attributes and the declarations that it writes
+abbrev pub kept_size : Kept → ℕ
+kept_size (kept.Start tag) = 1 + name_size tag.name + list_size attr_size tag.attrs + list_size binding_size tag.declared
+kept_size kept.End = 1
+kept_size (kept.Chars text) = 1 + text_size text
+kept_size (kept.CData text) = 1 + text_size text
+kept_size (kept.Comment text) = 1 + text_size text
+kept_size (kept.Pi target text) = 1 + text_size target + text_size text
 
--- Parts as a buffer keeps them behind others: of the scope of a start only the declarations that its tag writes.
-abbrev pub with_declared : Left → Part → List Part → Part
-with_declared l (part.Start name scope) ps =
-    part.Start name (dressed (in_force (settled l.elements l.held)) (record { name = name; scope = scope; attrs = attrs_of ps })).declared
-with_declared l p ps = p
-
-abbrev pub kept_parts : Left → List Part → List Part
-kept_parts l [] = []
-kept_parts l (p ∷ ps) = with_declared l p ps ∷ kept_parts (next l p) ps
-
-abbrev pub copy_size : Copy → ℕ
-copy_size c = list_size part_size (kept_parts nothing c.parts)
+abbrev pub copies_size : Buffer → ℕ
+copies_size b = all_sizes (λ c. list_size kept_size (contents b.declared c)) b.copies
 
 abbrev pub open_size : target.Element → ℕ
 open_size e = name_size e.name + list_size binding_size e.declared
@@ -126,9 +117,14 @@ pub record Moment : Type 0 where
 abbrev pub levels : Moment → ℕ
 levels m = length m.lists
 
--- the open elements of all targets: the output's, and those of each copy of a buffer
+abbrev pub written_size : Use → ℕ
+written_size Shut = 0
+written_size (Writing t) = left_size t.left
+written_size Reading = 0
+
+-- the open elements of all targets: the output's, and those of each copy of a buffer that is written
 abbrev pub targets_size : State → ℕ
-targets_size st = left_size st.result + all_sizes (all_sizes (λ (c : Copy). left_size (left_by nothing c.parts))) st.buffers
+targets_size st = left_size st.result + all_sizes (λ (b : Buffer). all_sizes (λ (c : Layer). written_size c.state) b.copies) st.buffers.buffers
 
 -- all that the run needs of what came before
 abbrev pub held : Moment → ℕ
@@ -142,5 +138,5 @@ held m =
     + all_sizes (list_size atom_size) m.items
     + all_sizes name_size m.names
     + list_size bound_size m.params
-    + all_sizes (all_sizes copy_size) m.state.buffers
+    + all_sizes copies_size m.state.buffers.buffers
     + targets_size m.state

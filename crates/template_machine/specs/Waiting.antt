@@ -1,8 +1,7 @@
 -- What is left of a run: what waits, the innermost first, and what is still to come of the open lists.
-use Rattle.std.specs.Prelude.{ℕ, Bool, true, false, if◌then◌else◌, List, [], ◌∷◌, Option, Some, None}
+use Rattle.std.specs.Prelude.{ℕ, Bool, true, false, List, [], ◌∷◌, Option, Some, None}
 use Rattle.stx_base.specs.Course.{Ask, Halt, and_then}
 use Rattle.stx_base.specs.declared.fault.Place.{Place}
-use Rattle.stx_base.specs.declared.fault.RunCode.TheVariants as code
 use Rattle.stx_base.specs.declared.name.Attr.{Attr}
 use Rattle.stx_base.specs.declared.name.Name.{Name}
 use Rattle.stx_base.specs.declared.part.Part.{Part}
@@ -14,14 +13,14 @@ use Rattle.stxpath_values.specs.declared.value.Atom.{Atom}
 use Rattle.var_store.specs.declared.bound.Bound.{Bound}
 use Rattle.xml_events.specs.Document.{inner, outer}
 use Rattle.xml_events.specs.Tree.{Forest, Future}
+use Rattle.event_buffers.specs.Buffers.{unclosed_at}
 use Rattle.template_machine.specs.Acting.{cut_to, ends_reading, ends_writing, turns}
 use Rattle.template_machine.specs.Declaring.{ends_scope}
-use Rattle.template_machine.specs.Ending.{fault_at}
 use Rattle.template_machine.specs.Fuel.{skip}
 use Rattle.template_machine.specs.Job.{Asked, Does, Given, Here, Loop, Nodes, Self, Source, State, with_state}
 use Rattle.template_machine.specs.Meaning.{body, ending_of}
 use Rattle.template_machine.specs.Passing.{attributes, finish}
-use Rattle.template_machine.specs.Putting.{is_whole, puts}
+use Rattle.template_machine.specs.Putting.{puts, unless_refused}
 
 -- Where a body goes on once a source or its attributes are over: whether its node's children are gone, the earlier nodes of its list, and
 -- its locals. Its children, if they aren't gone, and the siblings that remain are still to come.
@@ -93,7 +92,7 @@ module _ (given : Given) where
   rest (Turns at name items is self before ∷ ws) f a = and_then (turns given at name items is self (cut_to before a)) (rest ws f)
   rest (Test test is at self ∷ ws) f a = Ask (Loop test is at self a) (rest ws f)
   rest (Written id at ∷ ws) f a =
-      if is_whole a.state id then rest ws f (with_state a (ends_writing id a.state)) else Halt (fault_at code.UnclosedResult at)
+      unless_refused (unclosed_at a.state.buffers id) at (rest ws f (with_state a (ends_writing id a.state)))
   rest (Template_of t caller ∷ ws) f a = rest ws f (record a { locals = caller; state = ends_scope given t.new_scope t.group a.state })
   rest (Procedure_of caller ∷ ws) f a = rest ws f (record a { locals = caller })
   rest (Finish source ∷ ws) f a = and_then (finish given source a) (rest ws f)
