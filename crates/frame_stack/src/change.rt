@@ -30,7 +30,7 @@ impl Frame {
     }
 
     /// A loop has bound so many items.
-    pub(crate) fn set_turn(&mut self, bound: u32)
+    pub(crate) fn set_turn(&mut self, bound: usize)
         ensures { self.new ≡ with_turn bound self.old }
     {
         if let Frame::Loop { turn } = self {

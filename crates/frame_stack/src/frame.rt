@@ -34,7 +34,7 @@ pub enum Frame {
     },
     /// A loop: how many items it has bound so far, and 0 where it goes by a test.
     Loop {
-        turn: u32,
+        turn: usize,
     },
     /// Siblings that a body asked for.
     Region {

@@ -127,7 +127,7 @@ impl Frames {
     }
 
     /// Says how many items the loop at a place has bound. Allocates nothing.
-    pub fn set_turn(&mut self, place: usize, bound: u32)
+    pub fn set_turn(&mut self, place: usize, bound: usize)
         requires { place < length self.old.frames }
         ensures { self.new ≡ with_frames (changed (with_turn bound) place self.old.frames) self.old }
     {
