@@ -9,9 +9,9 @@ use Rattle.std.proofs.lemmas.Bool.Decides.{nat_tests}
 use Rattle.std.proofs.lemmas.Str.{encode_ascii}
 use Rattle.stx_base.specs.Character.{is_char, is_space}
 use Rattle.result_writer.specs.Allowed.{are_chars, ends_in, has_pair, is_good_comment, is_good_data, is_good_target}
-use Rattle.xml_tokens.specs.Judged.{holds}
+use Rattle.xml_tokens.specs.Judged.{holds, is_target}
 use Rattle.xml_tokens.specs.Places.{begins, first_word}
-use Rattle.xml_tokens.specs.Sayable.{is_comment, is_data, is_literal, is_target}
+use Rattle.xml_tokens.specs.Sayable.{is_comment, is_data, is_literal}
 
 not_true : (t : Bool) → not t ≡ true → t ≡ false
 not_true true h = absurd cc

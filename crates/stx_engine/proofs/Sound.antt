@@ -25,7 +25,8 @@ use Rattle.xml_events.specs.Document.{Closes, Item, Opens, Says, Stands, at_end,
 use Rattle.xml_events.specs.Lexed.{answered, lexed_from, lexed_within, unread}
 use Rattle.xml_events.specs.Tree.{Why, Need, Bad, Mark, Fresh, Leaf, Chars, CData, Comment, Pi, Element, Forest, End, Cut, Single, Nested, Future}
 use Rattle.stx_engine.specs.Accepted.{DocumentsAreTaken, DocumentsNest, declares_names, is_good, is_good_element, is_good_leaf}
-use Rattle.xml_tokens.specs.Sayable.{LexemesAreSayable, is_comment, is_data, is_literal, is_sayable, is_target}
+use Rattle.xml_tokens.specs.Judged.{is_target}
+use Rattle.xml_tokens.specs.Sayable.{LexemesAreSayable, is_comment, is_data, is_literal, is_sayable}
 use Rattle.stx_engine.proofs.Accepted.{takes-good}
 use Rattle.stx_engine.proofs.Declared.{runs-nest}
 use Rattle.stx_engine.proofs.Named.{declared-prefixes, is_good_path, tag-good, take-good}

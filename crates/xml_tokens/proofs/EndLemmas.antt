@@ -10,11 +10,11 @@ use Rattle.stx_base.specs.Character.{is_char, is_name}
 use Rattle.stx_base.specs.declared.fault.XmlKind.TheVariants.{LexemeTooLong}
 use Rattle.stx_base.specs.declared.limits.Limits.{Limits}
 use Rattle.xml_tokens.specs.Judged.{judged}
-use Rattle.xml_tokens.specs.Look.{reader, passed, IsDue, TakesEnd}
+use Rattle.xml_tokens.specs.inside.Look.{reader, passed, IsDue, TakesEnd}
 use Rattle.xml_tokens.specs.Places.{begins}
 use Rattle.xml_tokens.specs.Reader.{Reader, at_shape, coming, due, end_at, fed, is_last, lexeme_or_fault, mark, mark_len, mark_len_of, seen}
 use Rattle.xml_tokens.specs.Shape.{shape_len}
-use Rattle.xml_tokens.specs.Simple.{end_of}
+use Rattle.xml_tokens.specs.inside.Simple.{end_of}
 use Rattle.xml_tokens.specs.Spelling.{Spells}
 use Rattle.xml_tokens.specs.declared.lexeme.Body.TheVariants as body
 use Rattle.xml_tokens.specs.declared.lexeme.Ending.{Ending}

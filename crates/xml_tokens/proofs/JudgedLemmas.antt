@@ -3,7 +3,7 @@ use Rattle.std.proofs.Common.{◌≡◌, ℕ, Bool, true, false, not, List, Err,
 use Rattle.std.specs.Prelude.{Result, unwrap_or}
 use Rattle.stx_base.specs.declared.fault.XmlKind.{XmlKind}
 use Rattle.xml_tokens.specs.declared.lexeme.Body.{Body}
-use Rattle.xml_tokens.specs.Spans.{char_fault}
+use Rattle.xml_tokens.specs.inside.Spans.{char_fault}
 use Rattle.std.specs.List.{list_all}
 use Rattle.std.specs.Str.{chars, is_utf8}
 use Rattle.std.proofs.lemmas.Str.{IsUtf8-from_is_utf8, is_utf8-from_IsUtf8}

@@ -1,8 +1,7 @@
 -- What lexemes say is spelled so.
-use Rattle.std.proofs.Common.{◌≡◌, inl, inr, ℕ, suc, ◌+◌, ◌-◌, ◌<◌, Bool, true, false, not, ◌&&◌, ◌||◌, List, [], ◌∷◌, ◌++◌, Option, Some, None, Result, Ok, Err, IsUtf8, length, length-append, take, drop, map, refl, sym, ap, ◌∙◌, arith, subst, cond, encode_utf8_all}
-use Rattle.std.specs.Prelude.{bytes_eq, codes, nat_lt, slice_get, if◌then◌else◌}
+use Rattle.std.proofs.Common.{◌≡◌, inl, inr, ℕ, suc, ◌+◌, ◌-◌, ◌<◌, Bool, true, false, not, ◌&&◌, ◌||◌, List, [], ◌∷◌, ◌++◌, Option, Some, None, Result, Ok, Err, IsUtf8, length, length-append, take, drop, refl, sym, ap, ◌∙◌, arith, subst, cond, encode_utf8_all}
+use Rattle.std.specs.Prelude.{codes, nat_lt, slice_get, if◌then◌else◌}
 use Rattle.std.specs.List.{list_all, list_any, position_or_len, prefix_len}
-use Rattle.std.specs.Char.{to_ascii_lowercase}
 use Rattle.std.specs.Option.{option_map_or}
 use Rattle.std.specs.Result.{result_map_both}
 use Rattle.std.specs.Str.{chars, is_utf8}
@@ -10,7 +9,7 @@ use Rattle.std.proofs.lemmas.Bool.Decides.{nat_tests}
 use Rattle.std.proofs.lemmas.List.{take-append-drop}
 use Rattle.std.proofs.lemmas.List.Folds.{list_all-append}
 use Rattle.std.proofs.lemmas.Str.{IsUtf8-from_is_utf8, chars-append}
-use Rattle.stx_base.specs.Character.{is_char, is_ncname, is_space}
+use Rattle.stx_base.specs.Character.{is_char, is_space}
 use Rattle.stx_base.specs.declared.fault.XmlKind.{XmlKind}
 use Rattle.stx_base.specs.declared.fault.XmlKind.TheVariants as kind
 use Rattle.xml_tokens.specs.Places.{begins, first_byte, first_word}
@@ -196,32 +195,26 @@ good-parts front rest f r good =
     (record { utf8 = f; chars = parts.0 }, record { utf8 = r; chars = parts.1 })
 
 spells-instruction : (first : Bool) (inside bytes : List ℕ) (body : Body) → (first && is_declaration inside) ≡ false → IsGood inside → holds (codes "?>") inside ≡ false → bytes ≡ enclosed (codes "<?") (codes "?>") inside → instruction inside ≡ Ok body → Spells first body bytes
-spells-instruction first inside bytes body declares good closer whole h = by_target (is_target target) refl h where
+spells-instruction first inside bytes body declares good closer whole h = by_target (is_target (chars target)) refl h where
   target : List ℕ
   target = take (position_or_len is_space inside) inside
 
   behind : List ℕ
   behind = drop (position_or_len is_space inside) inside
 
-  by_target : (t : Bool) → is_target target ≡ t → cond t (Ok (Pi (chars target) (chars (lines (after_space behind))))) (Err kind.BadPi) ≡ Ok body → Spells first body bytes
+  by_target : (t : Bool) → is_target (chars target) ≡ t → cond t (Ok (Pi (chars target) (chars (lines (after_space behind))))) (Err kind.BadPi) ≡ Ok body → Spells first body bytes
   by_target false e k = absurd cc
   by_target true e k =
       let cut = utf8-front (λ b. not (is_space b)) not_space-low inside good.utf8 in
       let parts : target ++ behind ≡ inside = take-append-drop (position_or_len is_space inside) inside in
       let g = good-parts target behind cut.0 cut.1 (subst IsGood (sym parts) good) in
       let again : encode_utf8_all (chars target) ≡ target = again-bytes target g.0 in
-      let is = two (is_ncname (chars target)) (not (bytes_eq (map to_ascii_lowercase target) (codes "xml"))) e in
-      let other : bytes_eq (map to_ascii_lowercase (encode_utf8_all (chars target))) (codes "xml") ≡ false = ap (λ l. bytes_eq (map to_ascii_lowercase l) (codes "xml")) again ∙ not_false (bytes_eq (map to_ascii_lowercase target) (codes "xml")) is.1 in
       let b = behind-spelled behind (word-ends inside) in
       let content = good-behind-space behind g.1 in
       let all_parts : encode_utf8_all (chars target) ++ behind ≡ inside = ap (λ l. l ++ behind) again ∙ parts in
       let all : Spells first (Pi (chars target) (chars (lines (after_space behind)))) bytes =
-      (behind, after_space behind, is.0, other, b, spells-lines (after_space behind) content, ap (holds (codes "?>")) all_parts ∙ closer, ap (λ l. first && is_declaration l) all_parts ∙ declares, whole ∙ ap (enclosed (codes "<?") (codes "?>")) (sym all_parts)) in
+      (behind, after_space behind, e, b, spells-lines (after_space behind) content, ap (holds (codes "?>")) all_parts ∙ closer, ap (λ l. first && is_declaration l) all_parts ∙ declares, whole ∙ ap (enclosed (codes "<?") (codes "?>")) (sym all_parts)) in
       subst (λ (x : Body). Spells first x bytes) (ok-same (Pi (chars target) (chars (lines (after_space behind)))) body k) all where
-        not_false : (t : Bool) → not t ≡ true → t ≡ false
-        not_false true q = absurd cc
-        not_false false q = refl
-
         good-behind-space : (l : List ℕ) → IsGood l → IsGood (after_space l)
         good-behind-space l q = good-behind (take (prefix_len is_space l) l) (after_space l) (space-is l).0 (subst IsGood (space-is l).1 q)
 

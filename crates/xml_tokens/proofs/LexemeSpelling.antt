@@ -137,25 +137,23 @@ behind-after behind inside (inr (first, space, s, whole, other)) = ap after_spac
   stopped [] k = refl
   stopped (b ∷ bs) k = ap not k
 
-read-instruction : (first : Bool) (target text behind inside : List ℕ) → is_ncname target ≡ true → bytes_eq (map to_ascii_lowercase (encode_utf8_all target)) (codes "xml") ≡ false → SpellsBehind behind inside →
+read-instruction : (first : Bool) (target text behind inside : List ℕ) → is_target target ≡ true → SpellsBehind behind inside →
     SpellsLines text inside → (first && is_declaration (encode_utf8_all target ++ behind)) ≡ false →
     let bytes = enclosed (codes "<?") (codes "?>") (encode_utf8_all target ++ behind) in by_form first (form bytes) bytes ≡ Ok (Pi target text)
-read-instruction first target text behind inside is other b lines_ declares =
+read-instruction first target text behind inside good b lines_ declares =
     let t = encode_utf8_all target in
     let all = t ++ behind in
+    let is = (two (is_ncname target) (not (bytes_eq (map to_ascii_lowercase t) (codes "xml"))) good).0 in
     let name = ncname-name target is in
     let again : chars t ≡ target = text-again target (name-chars target name) in
     let len : position_or_len is_space all ≡ length t = prefix-append (λ b. not (is_space b)) t behind (no-space t (name-bytes target name).bytes) (behind-stops behind inside b) in
     let front : take (position_or_len is_space all) all ≡ t = ap (λ n. take n all) len ∙ take-append_seam t behind in
     let rest : drop (position_or_len is_space all) all ≡ behind = ap (λ n. drop n all) len ∙ drop-append_seam t behind in
-    let good : is_target t ≡ true = both_true (is_ncname (chars t)) (not (bytes_eq (map to_ascii_lowercase t) (codes "xml"))) (ap is_ncname again ∙ is) (ap not other) in
     ap (λ o. option_map_or (instruction_or_declaration first) o (Err kind.BadPi)) (between-of (codes "<?") (codes "?>") all)
     ∙ (ap (λ x. if x then declaration (drop 3 all) else instruction all) declares
-    ∙ (ap (λ l. if is_target l then Ok (Pi (chars l) (chars (lines (after_space (drop (position_or_len is_space all) all))))) else Err kind.BadPi) front
-    ∙ (ap (λ x. if x then Ok (Pi (chars t) (chars (lines (after_space (drop (position_or_len is_space all) all))))) else Err kind.BadPi) good
-    ∙ (λ i. Ok (Pi (again i) ((ap (λ l. chars (lines (after_space l))) rest ∙ (ap (λ l. chars (lines l)) (behind-after behind inside b) ∙ lines-again text inside lines_)) i)))))) where
-      both_true : (s t : Bool) → s ≡ true → t ≡ true → (s && t) ≡ true
-      both_true s t a b = rw (a, b) refl
+    ∙ (ap (λ l. if is_target (chars l) then Ok (Pi (chars l) (chars (lines (after_space (drop (position_or_len is_space all) all))))) else Err kind.BadPi) front
+    ∙ (ap (λ x. if x then Ok (Pi (chars t) (chars (lines (after_space (drop (position_or_len is_space all) all))))) else Err kind.BadPi) (ap is_target again ∙ good)
+    ∙ (λ i. Ok (Pi (again i) ((ap (λ l. chars (lines (after_space l))) rest ∙ (ap (λ l. chars (lines l)) (behind-after behind inside b) ∙ lines-again text inside lines_)) i))))))
 
 -- document type declarations
 last-byte : (front : List ℕ) (b : ℕ) → drop (length (front ++ b ∷ []) - 1) (front ++ b ∷ []) ≡ b ∷ []
@@ -188,7 +186,7 @@ by-form-read : (first : Bool) (body : Body) (bytes : List ℕ) → Spells first 
 by-form-read first (Chars t blank) bytes h = read-text first t blank bytes h
 by-form-read first (CData t) bytes h = ap (λ l. by_form first (form l) l) h.3 ∙ read-cdata first t h.0 h.1
 by-form-read first (Comment t) bytes h = ap (λ l. by_form first (form l) l) h.4 ∙ read-comment first t h.0 h.1 h.2 h.3
-by-form-read first (Pi target t) bytes (behind, inside, is, other, b, l, closer, plain, e) = ap (λ x. by_form first (form x) x) e ∙ read-instruction first target t behind inside is other b l plain
+by-form-read first (Pi target t) bytes (behind, inside, good, b, l, closer, plain, e) = ap (λ x. by_form first (form x) x) e ∙ read-instruction first target t behind inside good b l plain
 by-form-read first Doctype bytes h = ap (λ l. by_form first (form l) l) h.2 ∙ read-doctype first h.0 h.1
 by-form-read first Declaration bytes h = ap (λ f. by_form f (form bytes) bytes) h.0 ∙ (ap (λ l. by_form true (form l) l) h.1.2 ∙ read-declaration h.1.0 h.1.1)
 by-form-read first (Start name attrs empty) bytes h = ap (λ l. by_form first (form l) l) h.2 ∙ read-tag first (Start name attrs empty) h.0 h.1

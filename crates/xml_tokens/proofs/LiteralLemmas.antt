@@ -3,7 +3,7 @@ use Rattle.std.proofs.Common.{◌≡◌, ℕ, suc, ◌+◌, Bool, true, false, n
 use Rattle.std.specs.List.{list_all, list_any, position_or_len}
 use Rattle.std.proofs.lemmas.List.{append-nil}
 use Rattle.xml_tokens.specs.Texts.{both, said, first_part, is_ampersand, literal, all_of}
-use Rattle.xml_tokens.specs.Spans.{is_changed, is_literal}
+use Rattle.xml_tokens.specs.inside.Spans.{is_changed, is_literal}
 use Rattle.xml_tokens.specs.declared.text.Context.{Context}
 use Rattle.xml_tokens.proofs.ListLemmas.{none-all, two}
 use Rattle.xml_tokens.proofs.TextLemmas.{cut-none, literal-none, parts-none}

@@ -6,7 +6,7 @@ use Rattle.std.proofs.lemmas.Bool.Decides.{nat_tests}
 use Rattle.std.proofs.lemmas.Str.{chars-IsAscii}
 use Rattle.stx_base.specs.Character.{is_name, is_name_char, is_name_start}
 use Rattle.xml_tokens.specs.Tags.{is_name_byte, named}
-use Rattle.xml_tokens.specs.Spans.{cut_name, is_ascii_name_byte, is_wide_at}
+use Rattle.xml_tokens.specs.inside.Spans.{cut_name, is_ascii_name_byte, is_wide_at}
 use Rattle.xml_tokens.proofs.PlainLemmas.{ascii-name}
 
 -- what is no byte beyond ASCII

@@ -7,7 +7,7 @@ use Rattle.std.proofs.lemmas.List.Sums.{prefix_len_passes}
 use Rattle.memchr.specs.Find.{IsFirstByte, is_byte}
 use Rattle.xml_tokens.specs.Places.{first_outside, is_outside, is_quote, quote_after}
 use Rattle.xml_tokens.specs.Shape.{ends_declaration}
-use Rattle.xml_tokens.specs.Resume.{IsUnmarked, ending_test, is_unmarked}
+use Rattle.xml_tokens.specs.inside.Resume.{IsUnmarked, ending_test, is_unmarked}
 use Rattle.xml_tokens.proofs.PlaceLemmas.{first_outside-step}
 use Rattle.xml_tokens.proofs.ScanLemmas.{no_pass, tail_is}
 

@@ -3,7 +3,7 @@ use Rattle.std.proofs.Common.{◌≡◌, ℕ, Bool, true, false, List, ◌++◌,
 use Rattle.std.specs.Option.{option_map_or}
 use Rattle.std.specs.Prelude.{if◌then◌else◌}
 use Rattle.xml_tokens.specs.Texts.{after_ampersand, all_of, both, first_part, is_ampersand, later_parts, literal, said}
-use Rattle.xml_tokens.specs.Spans.{parts_of}
+use Rattle.xml_tokens.specs.inside.Spans.{parts_of}
 use Rattle.xml_tokens.specs.declared.text.Context.{Context}
 use Rattle.xml_tokens.specs.declared.text.BadText.{BadText}
 use Rattle.xml_tokens.specs.declared.text.BadText.TheVariants.{Reference, Entity}

@@ -8,12 +8,12 @@ use Rattle.std.proofs.lemmas.Bool.Decides.{nat_tests}
 use Rattle.std.proofs.lemmas.Str.{chars-IsAscii, IsUtf8-from_ascii}
 use Rattle.stx_base.specs.Character.{is_char, is_name, is_name_char, is_name_start, is_space}
 use Rattle.stx_base.specs.declared.fault.XmlKind.TheVariants as kind
-use Rattle.xml_tokens.specs.PlainTags.{is_low_char}
+use Rattle.xml_tokens.specs.inside.PlainTags.{is_low_char}
 use Rattle.xml_tokens.specs.Places.{begins, first_word}
 use Rattle.xml_tokens.specs.Shape.{form}
 use Rattle.xml_tokens.specs.Texts.{said, is_ampersand}
 use Rattle.xml_tokens.specs.Judged.{by_form, judged, kind_of}
-use Rattle.xml_tokens.specs.Spans.{chars_said, is_changed, is_easy, is_easy_byte, is_literal, is_plain, is_plain_byte}
+use Rattle.xml_tokens.specs.inside.Spans.{chars_said, is_changed, is_easy, is_easy_byte, is_literal, is_plain, is_plain_byte}
 use Rattle.xml_tokens.specs.declared.form.Form.TheVariants as form
 use Rattle.xml_tokens.specs.declared.lexeme.Body.TheVariants.{Chars}
 use Rattle.xml_tokens.specs.declared.text.Context.TheVariants.{Content}

@@ -8,11 +8,11 @@ use Rattle.stx_base.specs.declared.limits.Limits.{Limits}
 use Rattle.stx_base.specs.declared.fault.XmlKind.TheVariants.{LexemeTooLong}
 use Rattle.xml_tokens.specs.Reader.{at_shape, lexeme_or_fault}
 use Rattle.xml_tokens.specs.declared.lexeme.Step.TheVariants as step
-use Rattle.xml_tokens.specs.PlainTags.{is_low_char, is_plain_in_value, AreFirst, IsPlainAttribute, SpellFirst, SpellsPlainTag}
+use Rattle.xml_tokens.specs.inside.PlainTags.{is_low_char, is_plain_in_value, AreFirst, IsPlainAttribute, SpellFirst, SpellsPlainTag}
 use Rattle.xml_tokens.specs.Shape.{shape_len}
 use Rattle.xml_tokens.specs.Judged.{judged}
-use Rattle.xml_tokens.specs.Simple.{IsBareName}
-use Rattle.xml_tokens.specs.Spans.{is_break, is_changed, is_literal}
+use Rattle.xml_tokens.specs.inside.Simple.{IsBareName}
+use Rattle.xml_tokens.specs.inside.Spans.{is_break, is_changed, is_literal}
 use Rattle.xml_tokens.specs.Spelling.{slash, SpellsAttribute, SpellsAttributes, SpellsText}
 use Rattle.xml_tokens.specs.Texts.{is_ampersand}
 use Rattle.xml_tokens.specs.declared.lexeme.Body.TheVariants as body

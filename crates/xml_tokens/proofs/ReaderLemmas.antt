@@ -9,8 +9,8 @@ use Rattle.stx_base.specs.declared.limits.Limits.{Limits}
 use Rattle.xml_tokens.specs.Places.{begins, is_part}
 use Rattle.xml_tokens.specs.Shape.{shape_len}
 use Rattle.xml_tokens.specs.Reader.{Reader, bad, is_undecided_at, mark, mark_len, mark_len_of, seen, is_cut, is_last, is_open, coming, place, size, due, after, at_shape, at_rest, at_shape_or_rest, step_or_need, step_of, IsAnswer}
-use Rattle.xml_tokens.specs.Look.{reader, rest_ending, is_mark_open, GoesOn, begun_scan, IsDue, IsShapeDue}
-use Rattle.xml_tokens.specs.Resume.{Resumes, AlwaysResumes}
+use Rattle.xml_tokens.specs.inside.Look.{reader, rest_ending, is_mark_open, GoesOn, begun_scan, IsDue, IsShapeDue}
+use Rattle.xml_tokens.specs.inside.Resume.{Resumes, AlwaysResumes}
 use Rattle.xml_tokens.specs.declared.lexeme.Ending.{Ending}
 use Rattle.xml_tokens.specs.declared.lexeme.Ending.TheVariants as ending
 use Rattle.xml_tokens.specs.declared.lexeme.Lexeme.{Lexeme}

@@ -14,7 +14,7 @@ use Rattle.stx_base.specs.declared.fault.XmlKind.TheVariants.{LexemeTooLong, Inp
 use Rattle.xml_tokens.specs.Places.{is_part}
 use Rattle.xml_tokens.specs.Shape.{form, shape_len}
 use Rattle.xml_tokens.specs.Reader.{Reader, bad, is_undecided, is_undecided_at, mark, mark_len, mark_len_of, seen, is_cut, is_last, is_open, coming, place, size, due, after, at_shape, at_rest, at_shape_or_rest, lexeme_or_fault, step_or_need, step_of}
-use Rattle.xml_tokens.specs.Look.{is_mark_open}
+use Rattle.xml_tokens.specs.inside.Look.{is_mark_open}
 use Rattle.xml_tokens.specs.Judged.{judged}
 use Rattle.xml_tokens.specs.Run.{Taken, Lexes, IsDrained, document}
 use Rattle.xml_tokens.specs.declared.form.Form.{Form}

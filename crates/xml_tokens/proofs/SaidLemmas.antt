@@ -2,7 +2,7 @@
 use Rattle.std.proofs.Common.{◌≡◌, ℕ, List, [], ◌∷◌, ◌++◌, Option, Some, None, Result, Ok, Err, refl, sym, ap, ◌∙◌}
 use Rattle.xml_tokens.specs.Texts.{both, worse}
 use Rattle.xml_tokens.specs.Tags.{attr_said, attrs_said}
-use Rattle.xml_tokens.specs.Spans.{IsRead, worse_of}
+use Rattle.xml_tokens.specs.inside.Spans.{IsRead, worse_of}
 use Rattle.xml_tokens.specs.declared.text.BadText.{BadText}
 use Rattle.xml_tokens.specs.declared.text.BadText.TheVariants.{Reference, Entity}
 use Rattle.xml_tokens.specs.declared.lexeme.RawAttr.{RawAttr}

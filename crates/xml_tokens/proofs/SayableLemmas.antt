@@ -194,8 +194,8 @@ body-is first (Start name attrs empty) bytes h = tag-is (Start name attrs empty)
 body-is first (End name) bytes h = tag-is (End name) h.0 h.1
 body-is first (Comment text) bytes h = and_from _ _ (literal-chars text h.0 h.1) (comment-is text h.0 h.1 h.2 h.3)
 body-is first (Pi target text) bytes h =
-    let d = data-inside (encode_utf8_all target) h.0 h.1 h.4 h.6 in
-    and_from _ _ (and_from _ _ (and_from _ _ h.2 (ap not h.3)) (literal-chars text h.1 h.5)) (data-is text h.1 h.5 d.0 d.1)
+    let d = data-inside (encode_utf8_all target) h.0 h.1 h.3 h.5 in
+    and_from _ _ (and_from _ _ h.2 (literal-chars text h.1 h.4)) (data-is text h.1 h.4 d.0 d.1)
 body-is first Doctype bytes h = refl
 body-is first Declaration bytes h = refl
 

@@ -5,7 +5,7 @@ use Rattle.std.proofs.lemmas.List.{drop-append-le, get_or_append_left, append-ni
 use Rattle.memchr.specs.Find.{IsFirstByte}
 use Rattle.xml_tokens.specs.Places.{begins, first_byte, first_word, is_outside, quote_after, first_outside}
 use Rattle.xml_tokens.specs.Shape.{form, text_end, is_less, behind, shape_len, end_by}
-use Rattle.xml_tokens.specs.Resume.{Resumes, AlwaysResumes, IsFound, IsTextFound, IsWordFound, IsOutsideFound, end_from, ending_test}
+use Rattle.xml_tokens.specs.inside.Resume.{Resumes, AlwaysResumes, IsFound, IsTextFound, IsWordFound, IsOutsideFound, end_from, ending_test}
 use Rattle.std.proofs.Math.Seq.{drop-append_seam}
 use Rattle.xml_tokens.specs.declared.form.Form.{Form}
 use Rattle.xml_tokens.specs.declared.form.Form.TheVariants.{Text, Comment, CData, Instruction, Declaration, Tag, Undecided}

@@ -268,7 +268,7 @@ lexemes-cut first ended (Chars text blank) (b ∷ bs) more h follows = text-shap
   none_less false t e = refl
 lexemes-cut first ended (CData text) bytes more h follows = ap (λ l. shape_len ended (l ++ more)) h.3 ∙ (cdata-shape ended h.0 more h.2 ∙ ap (λ l. Some (length l)) (sym h.3))
 lexemes-cut first ended (Comment text) bytes more h follows = ap (λ l. shape_len ended (l ++ more)) h.4 ∙ (comment-shape ended h.0 more h.2 ∙ ap (λ l. Some (length l)) (sym h.4))
-lexemes-cut first ended (Pi target text) bytes more (behind, inside, is, differs, b, l, closer, plain, e) follows =
+lexemes-cut first ended (Pi target text) bytes more (behind, inside, good, b, l, closer, plain, e) follows =
     ap (λ x. shape_len ended (x ++ more)) e ∙ (instruction-shape ended (encode_utf8_all target ++ behind) more closer ∙ ap (λ x. Some (length x)) (sym e))
 lexemes-cut first ended Doctype bytes more h follows = ap (λ l. shape_len ended (l ++ more)) h.2 ∙ (doctype-shape ended h.0 more h.1 ∙ ap (λ l. Some (length l)) (sym h.2))
 lexemes-cut first ended Declaration bytes more h follows =

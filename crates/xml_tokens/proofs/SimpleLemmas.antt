@@ -1,10 +1,8 @@
--- Simple lexemes are whole shapes, and these say what they do.
-use Rattle.std.proofs.Common.{◌≡◌, ℕ, zero, suc, ◌+◌, ◌<◌, ◌≤◌, Bool, true, false, ◌&&◌, ◌||◌, nat_lt, List, [], ◌∷◌, ◌++◌, Option, Some, None, Ok, length, length-append, append_assoc, take, drop, refl, sym, ap, ◌∙◌, arith, subst, cond, chars, IsUtf8}
+-- Names of ASCII, and texts that say themselves.
+use Rattle.std.proofs.Common.{◌≡◌, ℕ, zero, suc, ◌+◌, ◌<◌, ◌≤◌, Bool, true, false, ◌&&◌, ◌||◌, nat_lt, List, [], ◌∷◌, ◌++◌, Option, Some, None, length, length-append, append_assoc, take, drop, refl, sym, ap, ◌∙◌, arith, subst, cond, chars, IsUtf8}
 use Rattle.std.specs.List.{list_all, list_any, prefix_len}
 use Rattle.std.proofs.lemmas.Bool.Decides.{nat_tests}
-use Rattle.std.proofs.lemmas.List.{append-nil, take-append-drop}
-use Rattle.std.proofs.lemmas.List.Folds.{list_all-append}
-use Rattle.std.proofs.lemmas.Str.{encodes-chars}
+use Rattle.std.proofs.lemmas.List.{take-append-drop}
 use Rattle.stx_base.specs.Character.{is_char, is_name_char, is_name_start, is_space}
 use Rattle.stx_base.specs.declared.limits.Limits.{Limits}
 use Rattle.stx_base.specs.declared.fault.XmlKind.TheVariants.{LexemeTooLong}
@@ -12,21 +10,18 @@ use Rattle.xml_tokens.specs.Reader.{at_shape, lexeme_or_fault}
 use Rattle.xml_tokens.specs.declared.lexeme.Step.TheVariants as step
 use Rattle.xml_tokens.specs.Shape.{form, is_less, shape_len}
 use Rattle.xml_tokens.specs.Judged.{judged}
-use Rattle.xml_tokens.specs.Spans.{cut_name, is_ascii_name_byte, is_plain, is_plain_byte}
-use Rattle.xml_tokens.specs.Spelling.{Spells}
+use Rattle.xml_tokens.specs.inside.Spans.{cut_name, is_ascii_name_byte, is_plain, is_plain_byte}
 use Rattle.xml_tokens.specs.Tags.{after_byte}
-use Rattle.xml_tokens.specs.Simple.{body_of, bytes_of, BeginsWith, IsBareName, IsBefore, IsSimple}
+use Rattle.xml_tokens.specs.inside.Simple.{IsBareName, IsBefore}
 use Rattle.xml_tokens.specs.declared.form.Form.TheVariants as form
 use Rattle.xml_tokens.specs.declared.lexeme.Body.TheVariants as body
-use Rattle.xml_tokens.specs.declared.simple.Simple.{Simple}
-use Rattle.xml_tokens.specs.declared.simple.Simple.TheVariants.{Start, End, Text}
 use Rattle.xml_tokens.proofs.AttributeLemmas.{after_byte-same, some_if}
-use Rattle.xml_tokens.proofs.LexemeSpelling.{lexemes-read, text-form}
+use Rattle.xml_tokens.proofs.LexemeSpelling.{text-form}
 use Rattle.xml_tokens.proofs.ListLemmas.{all-none, prefix-all, two}
 use Rattle.xml_tokens.proofs.NameLemmas.{one-more}
-use Rattle.xml_tokens.specs.PlainTags.{is_low_char}
-use Rattle.xml_tokens.proofs.PlainLemmas.{ascii-name, low-chars, low-utf8, others, plain-judged}
-use Rattle.xml_tokens.proofs.ShapeSpelling.{lexemes-cut, text-shape}
+use Rattle.xml_tokens.specs.inside.PlainTags.{is_low_char}
+use Rattle.xml_tokens.proofs.PlainLemmas.{ascii-name, low-utf8, others, plain-judged}
+use Rattle.xml_tokens.proofs.ShapeSpelling.{text-shape}
 use Rattle.xml_tokens.proofs.TagSpelling.{name_char-char}
 
 pub both_true : (s t : Bool) → s ≡ true → t ≡ true → (s && t) ≡ true
@@ -43,15 +38,6 @@ module _ (name : List ℕ) (is : IsBareName name) where
   pub name-utf8 : IsUtf8 name
   name-utf8 = low-utf8 name (name-low name is.0)
 
-  tag-low : list_all is_low_char (name ++ 62 ∷ []) ≡ true
-  tag-low = list_all-append is_low_char name (62 ∷ []) ∙ both_true (list_all is_low_char name) true (name-low name is.0) refl
-
-  spells-start : (first : Bool) → Spells first (body.Start (chars name) [] false) (60 ∷ (name ++ 62 ∷ []))
-  spells-start first = (name, ([], is.1, sym (append-nil _ ∙ encodes-chars name name-utf8), ([], refl, refl)), refl)
-
-  spells-end : (first : Bool) → Spells first (body.End (chars name)) (60 ∷ 47 ∷ (name ++ 62 ∷ []))
-  spells-end first = (47 ∷ name, ([], is.1, refl, ap (λ l. 47 ∷ l) (sym (append-nil _ ∙ encodes-chars name name-utf8))), refl)
-
 -- a text that says itself has no `<`
 text-first : (text more : List ℕ) → is_plain text ≡ true → list_any is_less text ≡ false → form (text ++ more) ≡ form.Text
 text-first [] more is less = absurd cc
@@ -60,37 +46,14 @@ text-first (b ∷ bs) more is less = text-form b (bs ++ more) (none_less (is_les
   none_less true t e = absurd cc
   none_less false t e = refl
 
--- a simple lexeme is a whole shape
-pub simple-shape : (simple : Simple) (bytes : List ℕ) → BeginsWith simple bytes → (ended : Bool) → shape_len ended bytes ≡ Some (length (bytes_of simple))
-simple-shape (Start name) bytes (is, (more, e, follows)) ended =
-    ap (shape_len ended) e ∙ lexemes-cut false ended (body.Start (chars name.now) [] false) (60 ∷ (name.now ++ 62 ∷ [])) more (spells-start name.now is false) (follows ended)
-simple-shape (End name) bytes (is, (more, e, follows)) ended =
-    ap (shape_len ended) e ∙ lexemes-cut false ended (body.End (chars name.now)) (60 ∷ 47 ∷ (name.now ++ 62 ∷ [])) more (spells-end name.now is false) (follows ended)
-simple-shape (Text text) bytes (is, (more, e, follows)) ended =
-    let less = all-none is_less text.now (others text.now is).0 in
-    ap (shape_len ended) e ∙ text-shape ended (list_all is_space text.now) (chars text.now) text.now more less (follows ended) (text-first text.now more is less)
-
--- and says this
-pub simple-judged : (simple : Simple) → IsSimple simple → (first : Bool) → judged first (bytes_of simple) ≡ Ok (body_of simple)
-simple-judged (Start name) is first =
-    let bytes : List ℕ = 60 ∷ (name.now ++ 62 ∷ []) in
-    let low : list_all is_low_char bytes ≡ true = tag-low name.now is in
-    lexemes-read first (body.Start (chars name.now) [] false) bytes (low-utf8 bytes low) (low-chars bytes low) (spells-start name.now is first)
-simple-judged (End name) is first =
-    let bytes : List ℕ = 60 ∷ 47 ∷ (name.now ++ 62 ∷ []) in
-    let low : list_all is_low_char bytes ≡ true = tag-low name.now is in
-    lexemes-read first (body.End (chars name.now)) bytes (low-utf8 bytes low) (low-chars bytes low) (spells-end name.now is first)
-simple-judged (Text text) is first = plain-judged text.now is first
-
 pub take-front : (front more : List ℕ) → take (length front) (front ++ more) ≡ front
 take-front [] more = refl
 take-front (b ∷ bs) more = ap (λ l. b ∷ l) (take-front bs more)
 
--- it is the front of the bytes
-pub simple-front : (simple : Simple) (bytes : List ℕ) → BeginsWith simple bytes → (length (bytes_of simple) ≤ length bytes) × (bytes_of simple ≡ take (length (bytes_of simple)) bytes)
-simple-front simple bytes (is, (more, e, follows)) = (
-  omega (arith, ap length e, length-append (bytes_of simple) more),
-  sym (ap (take (length (bytes_of simple))) e ∙ take-front (bytes_of simple) more),
+pub before-front : (b : ℕ) (front bytes : List ℕ) → IsBefore b front bytes → (length front ≤ length bytes) × (front ≡ take (length front) bytes)
+before-front b front bytes (more, e) = (
+  omega (arith, ap length e, length-append front (b ∷ more)),
+  sym (ap (take (length front)) e ∙ take-front front (b ∷ more)),
 )
 
 -- a name that is cut off
@@ -144,9 +107,17 @@ text-found n bytes text rest more some front back e =
 pub not_less : (n m : ℕ) → n ≤ m → nat_lt m n ≡ false
 not_less n m h = grind (arith, nat_tests)
 
--- what is due at it, where it isn't too long
-module _ (limits : Limits) (simple : Simple) (is : IsSimple simple) (at : ℕ) (first : Bool) where
-  pub simple-due : length (bytes_of simple) ≤ limits.lexeme → at_shape limits first (bytes_of simple) at ≡ step.Lexeme (record { offset = at; body = body_of simple })
-  simple-due h =
-      ap (λ t. cond t (step.Bad (record { kind = LexemeTooLong; offset = at })) (lexeme_or_fault (judged first (bytes_of simple)) at)) (not_less (length (bytes_of simple)) limits.lexeme h)
-      ∙ ap (λ j. lexeme_or_fault j at) (simple-judged simple is first)
+-- a text that says itself
+module _ (text : List ℕ) (is : is_plain text ≡ true) where
+  -- is a whole shape before a `<`
+  pub text-whole : (bytes : List ℕ) → IsBefore 60 text bytes → (ended : Bool) → shape_len ended bytes ≡ Some (length text)
+  text-whole bytes (more, e) ended =
+      let less = all-none is_less text (others text is).0 in
+      ap (shape_len ended) e ∙ text-shape ended (list_all is_space text) (chars text) text (60 ∷ more) less refl (text-first text (60 ∷ more) is less)
+
+  -- and due, where it isn't too long
+  pub text-due : (limits : Limits) (at : ℕ) (first : Bool) → length text ≤ limits.lexeme →
+      at_shape limits first text at ≡ step.Lexeme (record { offset = at; body = body.Chars (chars text) (list_all is_space text) })
+  text-due limits at first h =
+      ap (λ t. cond t (step.Bad (record { kind = LexemeTooLong; offset = at })) (lexeme_or_fault (judged first text) at)) (not_less (length text) limits.lexeme h)
+      ∙ ap (λ j. lexeme_or_fault j at) (plain-judged text is first)

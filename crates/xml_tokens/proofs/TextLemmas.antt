@@ -11,7 +11,7 @@ use Rattle.std.proofs.lemmas.Bool.Decides.{nat_tests}
 use Rattle.std.proofs.lemmas.List.Sums.{prefix_len-le-length, position_or_len_is, passes_at_first}
 use Rattle.memchr.specs.Find.{IsFirstByte}
 use Rattle.xml_tokens.specs.Texts.{as_feed, lines_behind, lines, as_space, literal, is_ampersand, first_part, later_parts}
-use Rattle.xml_tokens.specs.Spans.{IsFirstOf, is_break, is_changed, break_as, behind_break, cut_at}
+use Rattle.xml_tokens.specs.inside.Spans.{IsFirstOf, is_break, is_changed, break_as, behind_break, cut_at}
 use Rattle.xml_tokens.specs.declared.text.Context.{Context}
 use Rattle.xml_tokens.specs.declared.text.Context.TheVariants.{Content, Value}
 

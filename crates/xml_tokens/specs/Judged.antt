@@ -1,5 +1,5 @@
 -- What a whole shape says, or the first fault that it has (XML 1.0, 2.2 to 2.8, 3.1 and 4.1).
-use Rattle.std.specs.Prelude.{ℕ, ◌+◌, ◌-◌, Bool, true, false, not, ◌&&◌, ◌||◌, ◌==◌, nat_le, List, Option, Some, None, Result, Ok, Err, is_some, length, take, drop, map, slice_get, bytes_eq, if◌then◌else◌, codes}
+use Rattle.std.specs.Prelude.{ℕ, ◌+◌, ◌-◌, Bool, true, false, not, ◌&&◌, ◌||◌, ◌==◌, nat_le, List, Option, Some, None, Result, Ok, Err, is_some, length, take, drop, map, slice_get, bytes_eq, encode_utf8_all, if◌then◌else◌, codes}
 use Rattle.std.specs.List.{list_all, position_or_len}
 use Rattle.std.specs.Char.{to_ascii_lowercase}
 use Rattle.std.specs.Option.{option_map_or}
@@ -55,13 +55,13 @@ cdata inside = Ok (CData (chars (lines inside)))
 -- a target that a processing instruction may have: an NCName other than `xml` in any case of letters (PITarget; XML 1.0, 2.6, and
 -- Namespaces in XML 1.0, 7)
 abbrev pub is_target : List ℕ → Bool
-is_target name = is_ncname (chars name) && not (bytes_eq (map to_ascii_lowercase name) (codes "xml"))
+is_target target = is_ncname target && not (bytes_eq (map to_ascii_lowercase (encode_utf8_all target)) (codes "xml"))
 
 -- a processing instruction's bytes: its target ends with them or at white space (PI; XML 1.0, 2.6)
 abbrev pub instruction : List ℕ → Result Body XmlKind
 instruction inside =
     let len = position_or_len is_space inside in
-    if is_target (take len inside) then Ok (Pi (chars (take len inside)) (chars (lines (after_space (drop len inside))))) else Err kind.BadPi
+    if is_target (chars (take len inside)) then Ok (Pi (chars (take len inside)) (chars (lines (after_space (drop len inside))))) else Err kind.BadPi
 
 -- whether an instruction at the very start of a document is to be an XML declaration: behind `xml` comes white space or a `?`
 abbrev pub is_declaration : List ℕ → Bool

@@ -1,4 +1,3 @@
-pub mod PlainTags
 pub mod Places
 pub mod Shape
 pub mod Cuts
@@ -7,11 +6,7 @@ pub mod Texts
 pub mod Tags
 pub mod Prolog
 pub mod Judged
-pub mod Spans
 pub mod Reader
 pub mod Sayable
 pub mod Run
-pub mod Resume
-pub mod Simple
-pub mod Look
-pub mod Lexer
+pub mod inside

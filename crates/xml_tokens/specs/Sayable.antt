@@ -1,11 +1,10 @@
 -- What lexemes can say: which characters and names stand in them (XML 1.0, 2.2, 2.5, 2.6, 2.11 and 3.1).
-use Rattle.std.specs.Prelude.{◌≡◌, ℕ, ◌-◌, Bool, true, false, not, ◌&&◌, ◌==◌, List, None, length, drop, map, slice_get, bytes_eq, encode_utf8_all, codes}
-use Rattle.std.specs.Char.{to_ascii_lowercase}
+use Rattle.std.specs.Prelude.{◌≡◌, ℕ, ◌-◌, Bool, true, false, not, ◌&&◌, ◌==◌, List, None, length, drop, slice_get, encode_utf8_all, codes}
 use Rattle.std.specs.List.{list_all}
 use Rattle.std.specs.Option.{option_map_or}
-use Rattle.stx_base.specs.Character.{is_char, is_name, is_ncname, is_space}
+use Rattle.stx_base.specs.Character.{is_char, is_name, is_space}
 use Rattle.xml_tokens.specs.Places.{begins}
-use Rattle.xml_tokens.specs.Judged.{holds}
+use Rattle.xml_tokens.specs.Judged.{holds, is_target}
 use Rattle.xml_tokens.specs.Reader.{Reader, due}
 use Rattle.xml_tokens.specs.declared.lexeme.Body.{Body}
 use Rattle.xml_tokens.specs.declared.lexeme.Body.TheVariants.{Chars, CData, Start, End, Comment, Pi, Doctype, Declaration}
@@ -19,10 +18,6 @@ is_literal c = is_char c && not (c == 13)
 -- no `--`, and no `-` at the end
 abbrev pub is_comment : List ℕ → Bool
 is_comment text = let bytes = encode_utf8_all text in not (holds (codes "--") bytes) && not (begins (drop (length bytes - 1) bytes) (codes "-"))
-
--- an NCName other than `xml`, in whatever case
-abbrev pub is_target : List ℕ → Bool
-is_target target = is_ncname target && not (bytes_eq (map to_ascii_lowercase (encode_utf8_all target)) (codes "xml"))
 
 -- no `?>`, and no white space at the beginning
 abbrev pub is_data : List ℕ → Bool

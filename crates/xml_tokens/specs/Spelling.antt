@@ -1,17 +1,17 @@
 -- How XML spells lexemes: which bytes say what, apart from how they are read.
-use Rattle.std.specs.Prelude.{◌≡◌, ◌≢◌, ◌⊎◌, ◌-◌, ◌&&◌, ℕ, ◌<◌, Bool, true, false, ◌==◌, List, [], ◌∷◌, ◌++◌, Some, Ok, length, map, drop, bytes_eq, encode_utf8, encode_utf8_all, slice_get, if◌then◌else◌, codes}
+use Rattle.std.specs.Prelude.{◌≡◌, ◌≢◌, ◌⊎◌, ◌-◌, ◌&&◌, ℕ, ◌<◌, Bool, true, false, ◌==◌, List, [], ◌∷◌, ◌++◌, Some, Ok, length, drop, encode_utf8, encode_utf8_all, slice_get, if◌then◌else◌, codes}
 use Rattle.std.specs.List.{list_all, list_any}
-use Rattle.std.specs.Char.{is_digit, to_ascii_lowercase}
+use Rattle.std.specs.Char.{is_digit}
 use Rattle.std.specs.Option.{option_map_or}
 use Rattle.std.specs.Str.{chars, IsUtf8}
 use Rattle.std.specs.Str.Parse.{digits_value}
-use Rattle.stx_base.specs.Character.{is_char, is_space, is_name, is_ncname}
+use Rattle.stx_base.specs.Character.{is_char, is_space, is_name}
 use Rattle.xml_tokens.specs.Places.{begins, is_quote}
 use Rattle.xml_tokens.specs.Shape.{is_less, shape_len}
 use Rattle.xml_tokens.specs.Tags.{tag}
 use Rattle.xml_tokens.specs.Texts.{as_space, lines, predefined, said}
 use Rattle.xml_tokens.specs.Prolog.{is_encoding, is_standalone, is_version}
-use Rattle.xml_tokens.specs.Judged.{holds, is_declaration, judged}
+use Rattle.xml_tokens.specs.Judged.{holds, is_declaration, is_target, judged}
 use Rattle.xml_tokens.specs.declared.text.Context.{Context}
 use Rattle.xml_tokens.specs.declared.text.Context.TheVariants.{Content, Value}
 use Rattle.xml_tokens.specs.declared.lexeme.RawAttr.{RawAttr}
@@ -176,7 +176,7 @@ Spells first (Comment text) bytes =
     (inside : List ℕ) × SpellsLines text inside × (holds (codes "--") inside ≡ false) × (begins (drop (length inside - 1) inside) (codes "-") ≡ false)
     × (bytes ≡ enclosed (codes "<!--") (codes "-->") inside)
 Spells first (Pi target text) bytes =
-    (behind inside : List ℕ) × (is_ncname target ≡ true) × (bytes_eq (map to_ascii_lowercase (encode_utf8_all target)) (codes "xml") ≡ false) × SpellsBehind behind inside × SpellsLines text inside
+    (behind inside : List ℕ) × (is_target target ≡ true) × SpellsBehind behind inside × SpellsLines text inside
     × (holds (codes "?>") (encode_utf8_all target ++ behind) ≡ false) × ((first && is_declaration (encode_utf8_all target ++ behind)) ≡ false) × (bytes ≡ enclosed (codes "<?") (codes "?>") (encode_utf8_all target ++ behind))
 Spells first Doctype bytes = (inside : List ℕ) × SpellsDoctype inside × (bytes ≡ enclosed (codes "<!DOCTYPE") (codes ">") inside)
 Spells first Declaration bytes = (first ≡ true) × ((inside : List ℕ) × SpellsDeclaration inside × (bytes ≡ enclosed (codes "<?xml") (codes "?>") inside))

@@ -6,8 +6,8 @@ ghost use Rattle.stx_base.specs.Character as class;
 ghost use Rattle.xml_tokens.specs.Judged as spec;
 ghost use Rattle.xml_tokens.specs.Shape.{form};
 ghost use Rattle.xml_tokens.specs.Tags as tags;
-ghost use Rattle.xml_tokens.specs.Spans as span;
-ghost use Rattle.xml_tokens.specs.Spans.{IsEase, IsJudged};
+ghost use Rattle.xml_tokens.specs.inside.Spans as span;
+ghost use Rattle.xml_tokens.specs.inside.Spans.{IsEase, IsJudged};
 
 use crate::cut::{head, tail};
 use crate::form::{Form, begins, form_of};
@@ -297,7 +297,7 @@ fn word_len(bytes: &[u8]) -> usize
 /// A target that an instruction may have (PITarget; XML 1.0, 2.6, and Namespaces in XML 1.0, 7).
 fn is_target(name: &[u8]) -> bool
     requires { IsUtf8 name.now }
-    ensures { result ≡ spec.is_target name.now }
+    ensures { result ≡ spec.is_target (chars name.now) }
 {
     match std::str::from_utf8(name) {
         Ok(text) => is_ncname(text) && !name.eq_ignore_ascii_case(b"xml"),

@@ -3,17 +3,19 @@ ghost use Rattle.std.specs.Str.{chars};
 ghost use Rattle.stx_base.specs.Character.{is_name};
 ghost use Rattle.xml_tokens.specs.Reader as spec;
 ghost use Rattle.xml_tokens.specs.Reader.{after, begun, end_at, fed, mark_len_of, is_undecided_at, IsAnswer, MayWant, Shrinks};
-ghost use Rattle.xml_tokens.specs.PlainTags.{BeginsWithTag, SpellsPlainTag};
-ghost use Rattle.xml_tokens.specs.Simple.{bytes_of, BeginsWith, IsSimple};
-ghost use Rattle.xml_tokens.specs.Look.{begun_scan, reader, passed, rest_ending, TakesEnd, GoesOn, IsDue, IsShapeDue};
+ghost use Rattle.xml_tokens.specs.inside.PlainTags.{BeginsWithTag, SpellsPlainTag};
+ghost use Rattle.xml_tokens.specs.inside.Simple.{IsBefore};
+ghost use Rattle.xml_tokens.specs.inside.Spans.{is_plain};
+ghost use Rattle.xml_tokens.specs.inside.Look.{begun_scan, reader, passed, rest_ending, TakesEnd, GoesOn, IsDue, IsShapeDue};
 
 use crate::cut::{head, tail};
 use crate::form::{Form, begins, form_of, is_part};
-use crate::judge::{Unread, judge};
+use crate::judge::{Unread, is_blank, judge};
 use crate::lexeme::{Body, Ending, Lexeme, Step};
 use crate::plain_tag::{PlainTag, plain_tag};
 use crate::scan::{Found, Scan, search};
-use crate::simple::{Simple, after_end_of, first_simple};
+use crate::simple::{after_end_of, plain_text};
+use crate::text::text_from_spare;
 use std::alloc::Global;
 use std::marker::Model;
 use stx_base::{Limits, Memory, Spare, XmlFault, XmlKind};
@@ -38,7 +40,7 @@ impl Model for Lexer {
 
     ghost Value = { Reader };
 
-    ghost use Rattle.xml_tokens.specs.Lexer.{reader_of, IsSound};
+    ghost use Rattle.xml_tokens.specs.inside.Lexer.{reader_of, IsSound};
 
     ghost view = { reader_of };
 
@@ -245,8 +247,8 @@ fn look(
     let mark = mark_len(offset, seen);
     let bytes = tail(seen, mark);
     let at = offset + mark as u64;
-    if let Some(simple) = unsearched(scan, bytes) {
-        return at_simple(alloc, limits, simple, at, mark, spare);
+    if let Some(text) = unsearched_text(scan, bytes) {
+        return at_text(limits, text, at, mark, spare);
     }
     match unsearched_tag(alloc, scan, bytes, spare) {
         Ok(None) => {}
@@ -266,19 +268,19 @@ fn look(
     }
 }
 
-/// The simple lexeme at the front. A search that has begun goes on, so that no byte is passed over again.
+/// The text at the front, if it is short and says itself. A search that has begun goes on, so that no byte is passed over again.
 #[inline(always)]
-fn unsearched(scan: Scan, bytes: &[u8]) -> Option<Simple<'_>>
-    ensures { IfSome result (λ simple. BeginsWith simple bytes.now) }
+fn unsearched_text(scan: Scan, bytes: &[u8]) -> Option<&[u8]>
+    ensures { IfSome result (λ text. (is_plain text.now ≡ true) × IsBefore 60 text.now bytes.now) }
 {
     if scan.searched == 0 {
-        first_simple(bytes)
+        plain_text(bytes)
     } else {
         None
     }
 }
 
-/// The same of a start tag with attributes.
+/// The start tag at the front, if it is written as most are.
 #[inline(always)]
 fn unsearched_tag(
     alloc: Global,
@@ -312,25 +314,20 @@ fn at_shape(alloc: Global, limits: &Limits, bytes: &[u8], first: bool, at: u64, 
     }
 }
 
-/// What a simple lexeme behind a byte order mark of `mark` bytes gives.
-fn at_simple(
-    alloc: Global,
-    limits: &Limits,
-    simple: Simple<'_>,
-    at: u64,
-    mark: usize,
-    spare: &mut Spare,
-) -> Due
-    requires simple { IsSimple simple }
-    requires within { mark + length (bytes_of simple) < 2 ^ 64 }
-    ensures { (first : Bool) → IsShapeDue limits.now first (bytes_of simple.entry) at mark result }
+/// What a text that says itself gives, behind a byte order mark of `mark` bytes; it is made of what is spare.
+fn at_text(limits: &Limits, bytes: &[u8], at: u64, mark: usize, spare: &mut Spare) -> Due
+    requires plain { is_plain bytes.now ≡ true }
+    requires within { mark + length bytes.now < 2 ^ 64 }
+    ensures { (first : Bool) → IsShapeDue limits.now first bytes.now at mark result }
 {
-    let len = simple.len();
-    if len as u64 > limits.lexeme {
+    if bytes.len() as u64 > limits.lexeme {
         return Due::Over(bad(XmlKind::LexemeTooLong, at));
     }
-    match simple.body(alloc, spare) {
-        Ok(body) => Due::Lexeme(body, at, mark + len),
+    match text_from_spare(bytes, spare) {
+        Ok(text) => {
+            let blank = is_blank(bytes);
+            Due::Lexeme(Body::Chars { text, blank }, at, mark + bytes.len())
+        }
         Err(Memory) => Due::Over(Ending::Memory),
     }
 }

@@ -1,8 +1,8 @@
-//! Start tags with attributes as most are written: one look at their bytes shows them whole and without fault.
+//! Start tags as most are written: one look at their bytes shows them whole and without fault.
 ghost use Rattle.std.specs.Prelude.{◌≡◌, ◌≤◌, ◌++◌, ◌∷◌, length, IfOk, IfSome};
 ghost use Rattle.std.specs.List.{prefix_len};
-ghost use Rattle.xml_tokens.specs.PlainTags as spec;
-ghost use Rattle.xml_tokens.specs.PlainTags.{AreFirst, BeginsWithTag, IsPlainAttribute};
+ghost use Rattle.xml_tokens.specs.inside.PlainTags as spec;
+ghost use Rattle.xml_tokens.specs.inside.PlainTags.{AreFirst, BeginsWithTag, IsPlainAttribute};
 ghost use Rattle.xml_tokens.specs.Spelling.{slash};
 
 use crate::lexeme::RawAttr;

@@ -4,7 +4,7 @@ ghost use Rattle.std.specs.Char.{is_ascii_digit};
 ghost use Rattle.std.specs.List.{list_all};
 ghost use Rattle.std.specs.Option.{option_map, option_copied};
 ghost use Rattle.xml_tokens.specs.Prolog as spec;
-ghost use Rattle.xml_tokens.specs.Spans as span;
+ghost use Rattle.xml_tokens.specs.inside.Spans as span;
 
 use crate::cut::tail;
 use crate::form::{begins, is_word};

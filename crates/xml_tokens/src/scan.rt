@@ -2,8 +2,8 @@ ghost use Rattle.std.specs.Prelude.{◌≡◌, ◌≤◌, ◌<◌, ◌+◌, ◌+
 ghost use Rattle.std.specs.List.{prefix_len};
 ghost use Rattle.xml_tokens.specs.Places as places;
 ghost use Rattle.xml_tokens.specs.Places.{first_outside, first_word};
-ghost use Rattle.xml_tokens.specs.Resume as resume;
-ghost use Rattle.xml_tokens.specs.Resume.{AlwaysResumes, IsFound, IsTextFound, IsWordFound, IsOutsideFound, IsUnmarked, ending_test};
+ghost use Rattle.xml_tokens.specs.inside.Resume as resume;
+ghost use Rattle.xml_tokens.specs.inside.Resume.{AlwaysResumes, IsFound, IsTextFound, IsWordFound, IsOutsideFound, IsUnmarked, ending_test};
 
 use crate::cut::place_of;
 use crate::form::{Form, begins, form_of};

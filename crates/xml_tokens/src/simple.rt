@@ -1,92 +1,16 @@
-//! Lexemes that one look at their bytes shows whole and without fault, as most are.
-ghost use Rattle.std.specs.Prelude.{◌≡◌, ◌≤◌, ◌<◌, ◌^◌, ◌∷◌, ◌++◌, true, length, IfOk, IfSome};
+//! A text, or an end tag of a known name, that one look at its bytes shows whole and without fault, as most are.
+ghost use Rattle.std.specs.Prelude.{◌≡◌, ◌≤◌, ◌++◌, true, length, IfSome};
 ghost use Rattle.std.specs.List.{prefix_len};
-ghost use Rattle.xml_tokens.specs.Spans as span;
-ghost use Rattle.xml_tokens.specs.Simple.{body_of, bytes_of, end_of, BeginsWith, IsBareName, IsBefore, IsSimple};
+ghost use Rattle.xml_tokens.specs.inside.Spans as span;
+ghost use Rattle.xml_tokens.specs.inside.Simple.{end_of, IsBefore};
 
 use crate::cut::head;
 use crate::form::is_word;
-use crate::judge::is_blank;
-use crate::lexeme::Body;
 use crate::tables::is_plain_byte;
-use crate::tag::{after_byte, bare_named};
-use crate::text::text_from_spare;
-use std::alloc::Global;
-use stx_base::{List, Memory, Spare};
+use crate::tag::after_byte;
 
 /// The end of a longer text is sought in bulk.
 const NEAR: usize = 32;
-
-/// A tag that is a name of ASCII alone, or a text that says itself.
-#[derive(Clone, Copy)]
-pub enum Simple<'a> {
-    Start(&'a [u8]),
-    End(&'a [u8]),
-    Text(&'a [u8]),
-}
-
-impl Simple<'_> {
-    /// How many bytes it takes.
-    #[inline]
-    pub fn len(self) -> usize
-        requires { length (bytes_of self) < 2 ^ 64 }
-        ensures { result ≡ length (bytes_of self.entry) }
-    {
-        match self {
-            Simple::Start(name) => name.len() + 2,
-            Simple::End(name) => name.len() + 3,
-            Simple::Text(text) => text.len(),
-        }
-    }
-
-    /// What it says; its text is made of what is spare.
-    #[inline]
-    pub fn body(self, alloc: Global, spare: &mut Spare) -> Result<Body, Memory>
-        requires { IsSimple self }
-        ensures { IfOk result (λ body. body ≡ body_of self.entry) }
-    {
-        match self {
-            Simple::Start(name) => {
-                let name = text_from_spare(name, spare)?;
-                let attrs = List::new(alloc);
-                Ok(Body::Start {
-                    name,
-                    attrs,
-                    empty: false,
-                })
-            }
-            Simple::End(name) => {
-                let name = text_from_spare(name, spare)?;
-                Ok(Body::End { name })
-            }
-            Simple::Text(bytes) => {
-                let text = text_from_spare(bytes, spare)?;
-                let blank = is_blank(bytes);
-                Ok(Body::Chars { text, blank })
-            }
-        }
-    }
-}
-
-/// The simple lexeme that the bytes begin with, if one is whole.
-pub fn first_simple(bytes: &[u8]) -> Option<Simple<'_>>
-    ensures { IfSome result (λ simple. BeginsWith simple bytes.now) }
-{
-    match after_byte(b'<', bytes) {
-        Some(inside) => bare_tag(inside),
-        None => Some(Simple::Text(plain_text(bytes)?)),
-    }
-}
-
-/// A tag that is a name alone, by the bytes behind its `<`.
-fn bare_tag(inside: &[u8]) -> Option<Simple<'_>>
-    ensures { IfSome result (λ simple. BeginsWith simple (60 ∷ inside.now)) }
-{
-    match after_byte(b'/', inside) {
-        Some(rest) => Some(Simple::End(bare_name(rest)?)),
-        None => Some(Simple::Start(bare_name(inside)?)),
-    }
-}
 
 /// What follows the end tag of a name, where the bytes begin with that and no white space stands in it.
 #[inline]
@@ -107,19 +31,8 @@ pub fn after_end_of<'b>(name: &[u8], bytes: &'b [u8]) -> Option<&'b [u8]>
     }
 }
 
-/// A name of ASCII before a `>`.
-fn bare_name(bytes: &[u8]) -> Option<&[u8]>
-    ensures { IfSome result (λ name. IsBareName name.now × IsBefore 62 name.now bytes.now) }
-{
-    let (name, rest) = bare_named(bytes)?;
-    match after_byte(b'>', rest) {
-        Some(_) => Some(name),
-        None => None,
-    }
-}
-
-/// A text that says itself before a `<`.
-fn plain_text(bytes: &[u8]) -> Option<&[u8]>
+/// A text that says itself before a `<`, if the bytes begin with one.
+pub fn plain_text(bytes: &[u8]) -> Option<&[u8]>
     ensures { IfSome result (λ text. (span.is_plain text.now ≡ true) × IsBefore 60 text.now bytes.now) }
 {
     let len = plain_len(head(bytes, bytes.len().min(NEAR)));

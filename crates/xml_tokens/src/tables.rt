@@ -1,7 +1,7 @@
 //! Which bytes of ASCII may stand where, each told by one load from a table, where the ranges take several comparisons.
 ghost use Rattle.std.specs.Prelude.{◌≡◌};
-ghost use Rattle.xml_tokens.specs.PlainTags as tags;
-ghost use Rattle.xml_tokens.specs.Spans as span;
+ghost use Rattle.xml_tokens.specs.inside.PlainTags as tags;
+ghost use Rattle.xml_tokens.specs.inside.Spans as span;
 
 // Each byte of a text that says itself stands at its own place, and `<`, which is none, at every other place.
 static PLAIN_BYTES: [u8; 256] = *b"\

@@ -4,9 +4,9 @@ ghost use Rattle.std.specs.Option.{option_map, option_copied};
 ghost use Rattle.std.specs.Str.{chars};
 ghost use Rattle.stx_base.specs.Character.{is_space};
 ghost use Rattle.xml_tokens.specs.Places as places;
-ghost use Rattle.xml_tokens.specs.Simple.{IsBareName};
+ghost use Rattle.xml_tokens.specs.inside.Simple.{IsBareName};
 ghost use Rattle.xml_tokens.specs.Tags as spec;
-ghost use Rattle.xml_tokens.specs.Spans as span;
+ghost use Rattle.xml_tokens.specs.inside.Spans as span;
 
 use crate::cut::{head, tail};
 use crate::lexeme::{Body, RawAttr};

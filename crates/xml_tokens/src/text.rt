@@ -1,4 +1,4 @@
-ghost use Rattle.std.specs.Prelude.{◌≡◌, ◌≤◌, ◌<◌, ◌++◌, ◌==◌, ◌||◌, ◌&&◌, Bool, not, nat_lt, true, length, encode_utf8, IfOk, IfSome, IsUtf8};
+ghost use Rattle.std.specs.Prelude.{◌≡◌, ◌≤◌, ◌<◌, ◌++◌, ◌==◌, ◌||◌, ◌&&◌, Bool, not, true, length, encode_utf8, IfOk, IfSome, IsUtf8};
 ghost use Rattle.std.specs.Char.{IsScalar, is_digit};
 ghost use Rattle.std.specs.List.{list_all, list_any};
 ghost use Rattle.std.specs.Option.{option_copied, option_map, SomeIff};
@@ -6,8 +6,8 @@ ghost use Rattle.std.specs.Str.{chars};
 ghost use Rattle.std.specs.Str.Parse.{digits_value};
 ghost use Rattle.stx_base.specs.Character as class;
 ghost use Rattle.xml_tokens.specs.Texts as spec;
-ghost use Rattle.xml_tokens.specs.Spans as span;
-ghost use Rattle.xml_tokens.specs.Spans.{IsKept};
+ghost use Rattle.xml_tokens.specs.inside.Spans as span;
+ghost use Rattle.xml_tokens.specs.inside.Spans.{IsKept};
 ghost use Rattle.xml_tokens.specs.declared.text.Context.{Context as Spelled};
 ghost use Rattle.xml_tokens.specs.declared.text.Context.TheVariants as context;
 
@@ -15,7 +15,7 @@ use crate::cut::{head, place_of, tail};
 use crate::form::{begins, is_word};
 use memchr::{memchr, memchr2, memchr3};
 use std::alloc::{AllocError, Global};
-use stx_base::{Memory, Spare, Text, is_ascii_name_byte, is_char, is_name, is_name_start};
+use stx_base::{Memory, Spare, Text, is_char, is_name};
 
 /// Where bytes stand that say a text.
 #[derive(Clone, Copy, Debug, PartialEq, Eq)]
@@ -355,16 +355,7 @@ pub fn is_name_of(bytes: &[u8]) -> bool
     requires { IsUtf8 bytes.now }
     ensures { result ≡ class.is_name (chars bytes.now) }
 {
-    match bytes {
-        [first, ..] if are_ascii_name_bytes(bytes) => is_name_start(char::from(*first)),
-        _ => is_name(str_of(bytes)),
-    }
-}
-
-fn are_ascii_name_bytes(bytes: &[u8]) -> bool
-    ensures { result ≡ list_all (λ b. nat_lt b 128 && class.is_name_char b) bytes.now }
-{
-    bytes.iter().all(|b| is_ascii_name_byte(*b))
+    is_name(str_of(bytes))
 }
 
 /// The Char whose number these digits write.

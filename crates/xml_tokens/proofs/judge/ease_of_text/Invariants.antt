@@ -1,6 +1,6 @@
 use Rattle.std.proofs.Common.{◌≡◌, not, take}
 use Rattle.std.specs.List.{list_all}
-use Rattle.xml_tokens.specs.Spans.{is_easy_byte}
+use Rattle.xml_tokens.specs.inside.Spans.{is_easy_byte}
 use Rattle.xml_tokens.specs.Texts.{is_ampersand}
 use Rattle.xml_tokens.proofs.judge.ease_of_text.Given as goal
 

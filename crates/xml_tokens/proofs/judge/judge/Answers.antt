@@ -1,5 +1,5 @@
 use Rattle.std.proofs.Common.{sym, ◌∙◌, subst, Ok}
-use Rattle.xml_tokens.specs.Spans.{IsEase, IsJudged}
+use Rattle.xml_tokens.specs.inside.Spans.{IsEase, IsJudged}
 use Rattle.xml_tokens.specs.declared.lexeme.Body.TheVariants.{Chars}
 use Rattle.xml_tokens.proofs.JudgedLemmas.{judged-fault, judged-sound, sound-utf8}
 use Rattle.xml_tokens.proofs.PlainLemmas.{easy-judged, easy-unbroken, easy-utf8, literal-judged}

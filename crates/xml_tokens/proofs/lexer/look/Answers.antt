@@ -1,12 +1,11 @@
 use Rattle.std.proofs.Common.{◌≡◌, ap, ◌∙◌, ◌==◌, drop, length, refl, subst, IfSome}
 use Rattle.xml_tokens.specs.Reader.{coming, is_last, seen, mark_len, mark_len_of}
-use Rattle.xml_tokens.specs.Look.{reader}
-use Rattle.xml_tokens.specs.PlainTags.{BeginsWithTag}
-use Rattle.xml_tokens.specs.Simple.{bytes_of}
+use Rattle.xml_tokens.specs.inside.Look.{reader}
+use Rattle.xml_tokens.specs.inside.PlainTags.{BeginsWithTag}
 use Rattle.xml_tokens.proofs.WholeLemmas.{whole-within}
 use Rattle.xml_tokens.proofs.ReaderLemmas.{look-whole, look-over, look-need}
 use Rattle.xml_tokens.proofs.PlainTagLemmas.{tag-front, tag-shape}
-use Rattle.xml_tokens.proofs.SimpleLemmas.{simple-front, simple-shape}
+use Rattle.xml_tokens.proofs.SimpleLemmas.{before-front, text-whole}
 use Rattle.xml_tokens.proofs.lexer.look.Goals as goal
 
 pub head-requires : goal.head-requires
@@ -17,10 +16,11 @@ returns-in-Some c =
     let r = reader c.args.limits.now c.args.unread.now c.args.offset c.args.ended in
     let e_mark : c.mark_len-mark.result ≡ mark_len r = c.mark_len-mark.ensures.value ∙ ap (mark_len_of c.args.offset) c.front-seen.ensures in
     let e_bytes : c.tail-bytes.result.now ≡ coming r = c.tail-bytes.ensures ∙ (ap (drop c.mark_len-mark.result) c.front-seen.ensures ∙ ap (λ n. drop n (seen r)) e_mark) in
-    let simple = c.in-Some.simple in
-    let front = simple-front simple c.tail-bytes.result.now c.in-Some.ensures in
-    look-whole c.args.limits.now c.args.unread.now c.args.offset c.args.ended (is_last r) c.mark_len-mark.result c.tail-bytes.result.now refl e_mark e_bytes
-    (length (bytes_of simple)) (bytes_of simple) c.at_simple.result front.0 front.1 (simple-shape simple c.tail-bytes.result.now c.in-Some.ensures (is_last r)) (c.at_simple.ensures (c.args.offset == 0))
+    let bytes = c.tail-bytes.result.now in
+    let text = c.in-Some.text.now in
+    let front = before-front 60 text bytes c.in-Some.ensures.1 in
+    look-whole c.args.limits.now c.args.unread.now c.args.offset c.args.ended (is_last r) c.mark_len-mark.result bytes refl e_mark e_bytes
+    (length text) text c.at_text.result front.0 front.1 (text-whole text c.in-Some.ensures.0 bytes c.in-Some.ensures.1 (is_last r)) (c.at_text.ensures (c.args.offset == 0))
 
 pub returns-in-Ok-Some : goal.returns-in-Ok-Some
 returns-in-Ok-Some c =

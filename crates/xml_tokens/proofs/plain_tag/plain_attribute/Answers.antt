@@ -1,7 +1,7 @@
 use Rattle.std.proofs.Common.{sym, ap, ◌∙◌, ◌∷◌, ◌++◌, take, drop, subst, ◌≡◌, true}
 use Rattle.std.specs.List.{list_all, prefix_len}
 use Rattle.std.proofs.lemmas.List.{take-append-drop}
-use Rattle.xml_tokens.specs.PlainTags.{is_plain_in_value}
+use Rattle.xml_tokens.specs.inside.PlainTags.{is_plain_in_value}
 use Rattle.xml_tokens.proofs.AttributeLemmas.{after_byte-same}
 use Rattle.xml_tokens.proofs.ListLemmas.{prefix-all}
 use Rattle.xml_tokens.proofs.plain_tag.plain_attribute.Goals as goal

@@ -1,5 +1,5 @@
 use Rattle.std.proofs.Common.{sym, subst}
-use Rattle.xml_tokens.specs.PlainTags.{AreFirst}
+use Rattle.xml_tokens.specs.inside.PlainTags.{AreFirst}
 use Rattle.xml_tokens.proofs.AttributeLemmas.{after_byte-same}
 use Rattle.xml_tokens.proofs.SimpleLemmas.{name-utf8}
 use Rattle.xml_tokens.proofs.PlainTagLemmas.{one-more-first, value-utf8}

@@ -1,5 +1,5 @@
 use Rattle.std.proofs.Common.{length}
-use Rattle.xml_tokens.specs.PlainTags.{AreFirst}
+use Rattle.xml_tokens.specs.inside.PlainTags.{AreFirst}
 use Rattle.xml_tokens.proofs.plain_tag.plain_attributes.Given as goal
 
 -- those so far are read

@@ -1,5 +1,5 @@
 use Rattle.std.proofs.Common.{◌≡◌, ◌++◌, ◌-◌, sym, ap, subst, length, length-append, arith, IfSome}
-use Rattle.xml_tokens.specs.PlainTags.{AreFirst, SpellsPlainTag}
+use Rattle.xml_tokens.specs.inside.PlainTags.{AreFirst, SpellsPlainTag}
 use Rattle.xml_tokens.proofs.AttributeLemmas.{after_byte-same}
 use Rattle.xml_tokens.proofs.SimpleLemmas.{name-utf8}
 use Rattle.xml_tokens.proofs.PlainTagLemmas.{tag_bytes, tag-begins, tag-spelled}

@@ -1,7 +1,7 @@
 use Rattle.std.proofs.Common.{refl, sym, arith, ◌≢◌, true, false, subst}
 use Rattle.std.specs.Prelude.{codes}
 use Rattle.xml_tokens.specs.Shape.{form}
-use Rattle.xml_tokens.specs.Resume.{IsWordFound}
+use Rattle.xml_tokens.specs.inside.Resume.{IsWordFound}
 use Rattle.xml_tokens.specs.declared.form.Form.TheVariants.{Text, Comment, CData, Instruction, Declaration, Tag, Undecided}
 use Rattle.xml_tokens.proofs.FormLemmas.{comment-length, cdata-length, instruction-length}
 use Rattle.xml_tokens.proofs.ScanLemmas.{within-now, found-text, found-word, found-outside}

@@ -1,5 +1,5 @@
 use Rattle.std.proofs.Common.{◌≡◌, refl, length, sym, ◌∙◌, arith}
-use Rattle.xml_tokens.specs.Resume.{ending_test}
+use Rattle.xml_tokens.specs.inside.Resume.{ending_test}
 use Rattle.xml_tokens.proofs.ScanLemmas.{outside-found, outside-none, outside-more}
 use Rattle.xml_tokens.proofs.scan.search_outside.Goals as goal
 

@@ -1,6 +1,6 @@
 use Rattle.std.proofs.Common.{◌≡◌, ◌≤◌, ◌-◌, ◌++◌, ℕ, List, length, drop}
 use Rattle.xml_tokens.specs.Places.{first_outside}
-use Rattle.xml_tokens.specs.Resume.{ending_test}
+use Rattle.xml_tokens.specs.inside.Resume.{ending_test}
 use Rattle.xml_tokens.proofs.scan.search_outside.Given as goal
 
 abbrev pub invariant-loop-at : goal.invariant-loop-at

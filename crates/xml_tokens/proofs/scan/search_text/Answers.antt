@@ -1,6 +1,6 @@
 use Rattle.std.proofs.Common.{ap, drop, refl, Some, None, subst, sym}
 use Rattle.xml_tokens.specs.Shape.{text_end, is_less}
-use Rattle.xml_tokens.specs.Resume.{IsTextFound}
+use Rattle.xml_tokens.specs.inside.Resume.{IsTextFound}
 use Rattle.xml_tokens.proofs.ScanLemmas.{first_byte-of, text-none, text-none-here, tail-first}
 use Rattle.xml_tokens.proofs.scan.search_text.Goals as goal
 

@@ -1,5 +1,5 @@
 use Rattle.std.proofs.Common.{ℕ, ◌<◌, get_or, sym, subst}
-use Rattle.xml_tokens.specs.Resume.{IsUnmarked}
+use Rattle.xml_tokens.specs.inside.Resume.{IsUnmarked}
 use Rattle.xml_tokens.proofs.OutsideLemmas.{outside-passed}
 use Rattle.xml_tokens.proofs.scan.unmarked_len.Goals as goal
 

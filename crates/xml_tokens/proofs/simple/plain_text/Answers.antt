@@ -1,6 +1,6 @@
 use Rattle.std.proofs.Common.{sym, ap, ◌∙◌, arith, take, drop}
 use Rattle.std.specs.List.{prefix_len}
-use Rattle.xml_tokens.specs.Spans.{is_plain_byte}
+use Rattle.xml_tokens.specs.inside.Spans.{is_plain_byte}
 use Rattle.xml_tokens.proofs.SimpleLemmas.{text-found}
 use Rattle.xml_tokens.proofs.simple.plain_text.Goals as goal
 

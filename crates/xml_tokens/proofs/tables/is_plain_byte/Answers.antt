@@ -1,5 +1,5 @@
 use Rattle.std.proofs.Common.{◌≡◌, refl, arith}
-use Rattle.xml_tokens.specs.Spans.{is_plain_byte}
+use Rattle.xml_tokens.specs.inside.Spans.{is_plain_byte}
 use Rattle.xml_tokens.specs.declared.tables.TheConstants.{PLAIN_BYTES}
 use Rattle.stx_base.proofs.TableLemmas.{read, table_of}
 use Rattle.xml_tokens.proofs.tables.is_plain_byte.Goals as goal

@@ -1,5 +1,5 @@
 use Rattle.std.proofs.Common.{◌≡◌, refl, arith}
-use Rattle.xml_tokens.specs.PlainTags.{is_plain_in_value}
+use Rattle.xml_tokens.specs.inside.PlainTags.{is_plain_in_value}
 use Rattle.xml_tokens.specs.declared.tables.TheConstants.{VALUE_BYTES}
 use Rattle.stx_base.proofs.TableLemmas.{read, table_of}
 use Rattle.xml_tokens.proofs.tables.is_plain_in_value.Goals as goal

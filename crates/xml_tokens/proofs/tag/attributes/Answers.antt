@@ -4,7 +4,7 @@ use Rattle.std.specs.List.{prefix_len}
 use Rattle.std.proofs.lemmas.List.{append-nil}
 use Rattle.stx_base.specs.Character.{is_space}
 use Rattle.xml_tokens.specs.Tags.{attributes, attribute, after_space, tag_end, attrs_said, attr_said}
-use Rattle.xml_tokens.specs.Spans.{IsRead}
+use Rattle.xml_tokens.specs.inside.Spans.{IsRead}
 use Rattle.xml_tokens.proofs.AttributeLemmas.{before, attributes-end, attributes-joined, attributes-bad, attributes-next, attribute-shorter, attribute-utf8, after_space-utf8, before-first}
 use Rattle.xml_tokens.proofs.SaidLemmas.{read-ok, read-err}
 use Rattle.xml_tokens.proofs.tag.attributes.Goals as goal

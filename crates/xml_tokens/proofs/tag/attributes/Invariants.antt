@@ -1,7 +1,7 @@
 use Rattle.std.proofs.Common.{◌≡◌, ℕ, List, length, suc, IsUtf8}
 use Rattle.std.specs.Option.{option_map}
 use Rattle.xml_tokens.specs.Tags.{attributes, attrs_said}
-use Rattle.xml_tokens.specs.Spans.{IsRead}
+use Rattle.xml_tokens.specs.inside.Spans.{IsRead}
 use Rattle.xml_tokens.proofs.AttributeLemmas.{before}
 use Rattle.xml_tokens.proofs.tag.attributes.Given as goal
 

@@ -1,6 +1,6 @@
 use Rattle.std.proofs.Common.{◌<◌, sym, ap, ◌∙◌, subst, arith}
 use Rattle.std.specs.List.{prefix_len}
-use Rattle.xml_tokens.specs.Spans.{cut_name, is_ascii_name_byte}
+use Rattle.xml_tokens.specs.inside.Spans.{cut_name, is_ascii_name_byte}
 use Rattle.xml_tokens.proofs.SimpleLemmas.{name-cut}
 use Rattle.xml_tokens.proofs.tag.bare_named.Goals as goal
 

@@ -1,5 +1,5 @@
 use Rattle.std.proofs.Common.{sym, ap, ◌∙◌}
-use Rattle.xml_tokens.specs.Spans.{cut_name, is_wide_at}
+use Rattle.xml_tokens.specs.inside.Spans.{cut_name, is_wide_at}
 use Rattle.xml_tokens.proofs.NameLemmas.{ascii-named}
 use Rattle.xml_tokens.proofs.tag.named.Goals as goal
 

@@ -1,7 +1,7 @@
 use Rattle.std.proofs.Common.{◌≡◌, not, sym, true, arith}
 use Rattle.std.specs.List.{list_all}
 use Rattle.xml_tokens.specs.declared.text.Context.{Context}
-use Rattle.xml_tokens.specs.Spans.{is_changed}
+use Rattle.xml_tokens.specs.inside.Spans.{is_changed}
 use Rattle.xml_tokens.specs.Texts.{is_ampersand}
 use Rattle.xml_tokens.proofs.TextLemmas.{parts-none, parts-some, cut-all, cut-utf8}
 use Rattle.xml_tokens.proofs.text.cut_at_ampersand.Goals as goal

@@ -1,7 +1,7 @@
 use Rattle.std.proofs.Common.{sym, ap, ◌∙◌, is_some}
 use Rattle.memchr.specs.Find.{is_byte2}
 use Rattle.xml_tokens.specs.Texts.{is_ampersand}
-use Rattle.xml_tokens.specs.Spans.{is_break, is_changed, is_literal}
+use Rattle.xml_tokens.specs.inside.Spans.{is_break, is_changed, is_literal}
 use Rattle.xml_tokens.specs.declared.text.Context.TheVariants.{Content}
 use Rattle.xml_tokens.proofs.LiteralLemmas.{turned, neither-test}
 use Rattle.xml_tokens.proofs.TextLemmas.{first-any}

@@ -1,6 +1,6 @@
 use Rattle.std.proofs.Common.{sym, subst}
 use Rattle.memchr.specs.Find.{is_byte, is_byte3}
-use Rattle.xml_tokens.specs.Spans.{IsFirstOf, is_changed}
+use Rattle.xml_tokens.specs.inside.Spans.{IsFirstOf, is_changed}
 use Rattle.xml_tokens.proofs.TextLemmas.{first-place}
 use Rattle.xml_tokens.proofs.text.next_break.Goals as goal
 

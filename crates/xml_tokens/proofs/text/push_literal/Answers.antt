@@ -3,7 +3,7 @@ use Rattle.std.proofs.lemmas.Str.{IsUtf8-append}
 use Rattle.std.specs.Prelude.{is_ok}
 use Rattle.std.specs.declared.alloc.AllocError.{AllocError}
 use Rattle.xml_tokens.specs.Texts.{literal}
-use Rattle.xml_tokens.specs.Spans.{break_as, behind_break}
+use Rattle.xml_tokens.specs.inside.Spans.{break_as, behind_break}
 use Rattle.xml_tokens.proofs.TextLemmas.{literal-next, literal-none, front-utf8, behind-utf8, break-utf8}
 use Rattle.xml_tokens.proofs.text.push_literal.Goals as goal
 

@@ -1,5 +1,5 @@
 use Rattle.std.proofs.Common.{◌==◌, not, sym, arith}
-use Rattle.xml_tokens.specs.Spans.{is_changed}
+use Rattle.xml_tokens.specs.inside.Spans.{is_changed}
 use Rattle.xml_tokens.proofs.TextLemmas.{cut-all, cut-utf8}
 use Rattle.xml_tokens.proofs.text.push_part.Goals as goal
 

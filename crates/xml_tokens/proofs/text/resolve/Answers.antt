@@ -2,7 +2,7 @@ use Rattle.std.proofs.Common.{◌≡◌, ◌++◌, ℕ, Option, Some, Ok, Err, B
 use Rattle.std.proofs.lemmas.Str.{IsUtf8-nil}
 use Rattle.std.specs.Option.{option_copied}
 use Rattle.xml_tokens.specs.Texts.{after_ampersand, all_of, literal}
-use Rattle.xml_tokens.specs.Spans.{parts_of, IsKept, IsPushed}
+use Rattle.xml_tokens.specs.inside.Spans.{parts_of, IsKept, IsPushed}
 use Rattle.xml_tokens.specs.declared.text.BadText.TheVariants.{Reference}
 use Rattle.xml_tokens.proofs.PartLemmas.{joined, so_far, next-part, first-part, known-part, unknown-part, bad-part, next-smaller}
 use Rattle.xml_tokens.proofs.text.resolve.Goals as goal

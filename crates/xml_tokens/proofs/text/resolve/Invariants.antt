@@ -1,7 +1,7 @@
 use Rattle.std.proofs.Common.{◌≡◌, ◌+◌, ◌++◌, IsUtf8, IfSome, length}
 use Rattle.std.specs.Option.{option_copied, option_map_or}
 use Rattle.xml_tokens.specs.Texts.{all_of, both, said}
-use Rattle.xml_tokens.specs.Spans.{parts_of, IsKept}
+use Rattle.xml_tokens.specs.inside.Spans.{parts_of, IsKept}
 use Rattle.xml_tokens.proofs.PartLemmas.{so_far}
 use Rattle.xml_tokens.proofs.text.resolve.Given as goal
 

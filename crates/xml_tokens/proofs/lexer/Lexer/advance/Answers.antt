@@ -1,7 +1,7 @@
 use Rattle.std.proofs.Common.{◌≡◌, sym, ap, ◌∙◌, drop, refl, subst, Some}
 use Rattle.xml_tokens.specs.Reader.{Reader, IsAnswer, after}
-use Rattle.xml_tokens.specs.Lexer.{reader_of}
-use Rattle.xml_tokens.specs.Look.{passed}
+use Rattle.xml_tokens.specs.inside.Lexer.{reader_of}
+use Rattle.xml_tokens.specs.inside.Look.{passed}
 use Rattle.xml_tokens.specs.declared.lexeme.Lexeme.{Lexeme}
 use Rattle.xml_tokens.specs.declared.lexeme.Step.{Step}
 use Rattle.xml_tokens.specs.declared.lexeme.Step.TheVariants as step

@@ -1,7 +1,7 @@
 use Rattle.std.proofs.Common.{◌≡◌, ℕ, sym, ap, ◌∙◌, arith, length, drop, subst, List, ◌++◌, length-append}
 use Rattle.std.proofs.lemmas.List.{drop-append-le}
-use Rattle.xml_tokens.specs.Look.{GoesOn}
-use Rattle.xml_tokens.specs.Lexer.{reader_of}
+use Rattle.xml_tokens.specs.inside.Look.{GoesOn}
+use Rattle.xml_tokens.specs.inside.Lexer.{reader_of}
 use Rattle.xml_tokens.proofs.ReaderLemmas.{goes-on-more}
 use Rattle.xml_tokens.proofs.lexer.Lexer.feed.Goals as goal
 

@@ -1,6 +1,6 @@
 use Rattle.std.proofs.Common.{◌≡◌, ◌++◌, ◌-◌, ◌∙◌, ap, sym, arith, drop, length, length-append, None}
 use Rattle.xml_tokens.specs.Reader.{Reader}
-use Rattle.xml_tokens.specs.Simple.{end_of}
+use Rattle.xml_tokens.specs.inside.Simple.{end_of}
 use Rattle.xml_tokens.proofs.EndLemmas.{end-taken, not-some}
 use Rattle.xml_tokens.proofs.lexer.Lexer.take_end_of.Goals as goal
 

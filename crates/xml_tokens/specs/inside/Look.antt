@@ -3,7 +3,7 @@ use Rattle.std.specs.Prelude.{◌≡◌, ◌⊎◌, ℕ, ◌+◌, ◌≤◌, Boo
 use Rattle.stx_base.specs.declared.limits.Limits.{Limits}
 use Rattle.stx_base.specs.declared.fault.XmlKind.TheVariants.{LexemeTooLong, Truncated, InputTooLong}
 use Rattle.xml_tokens.specs.Reader.{Reader, mark, seen, coming, size, bad, due, after, at_shape, end_at, step_of}
-use Rattle.xml_tokens.specs.Resume.{AlwaysResumes}
+use Rattle.xml_tokens.specs.inside.Resume.{AlwaysResumes}
 use Rattle.xml_tokens.specs.Places.{is_part}
 use Rattle.xml_tokens.specs.declared.lexeme.Ending.{Ending}
 use Rattle.xml_tokens.specs.declared.lexeme.Ending.TheVariants as ending

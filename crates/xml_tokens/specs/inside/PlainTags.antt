@@ -2,8 +2,8 @@
 use Rattle.std.specs.Prelude.{◌≡◌, ℕ, Bool, true, not, ◌&&◌, ◌==◌, nat_lt, List, ◌∷◌, ◌++◌, length}
 use Rattle.std.specs.List.{list_all}
 use Rattle.stx_base.specs.Character.{is_char}
-use Rattle.xml_tokens.specs.Simple.{IsBareName}
-use Rattle.xml_tokens.specs.Spans.{is_break}
+use Rattle.xml_tokens.specs.inside.Simple.{IsBareName}
+use Rattle.xml_tokens.specs.inside.Spans.{is_break}
 use Rattle.xml_tokens.specs.Spelling.{Spells, SpellsAttributes}
 use Rattle.xml_tokens.specs.declared.lexeme.Body.TheVariants as body
 use Rattle.xml_tokens.specs.declared.lexeme.RawAttr.{RawAttr}

@@ -1,7 +1,7 @@
 -- What the lexer's fields mean.
 use Rattle.std.specs.Prelude.{◌+◌, ◌≤◌, length, drop}
 use Rattle.xml_tokens.specs.Reader.{Reader}
-use Rattle.xml_tokens.specs.Look.{GoesOn}
+use Rattle.xml_tokens.specs.inside.Look.{GoesOn}
 use Rattle.xml_tokens.specs.declared.lexer.Lexer.TheInside.{Inside}
 
 abbrev pub reader_of : Inside → Reader
