@@ -14,7 +14,7 @@ use Rattle.std.proofs.lemmas.Option.{slice_get-map}
 use Rattle.std.proofs.lemmas.Str.{encodes-chars}
 use Rattle.stx_base.specs.declared.name.Binding.{Binding}
 use Rattle.xml_names.specs.Scope.{same, last_uri}
-use Rattle.xml_names.specs.InForce.{bindings_of, last_place, hidden_by, IsIndexed}
+use Rattle.xml_names.specs.inside.InForce.{bindings_of, last_place, hidden_by, IsIndexed}
 use Rattle.xml_names.specs.declared.in_force.Declared.{Declared}
 use Rattle.xml_names.specs.declared.in_force.InForce.TheInside.{Inside}
 use Rattle.xml_names.proofs.Places.{uri-none, uri-some, last_place-more, hidden_by-more}

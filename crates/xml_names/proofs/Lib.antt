@@ -10,4 +10,4 @@ pub mod Paths
 pub mod Nearest
 pub mod Taken
 pub mod Plain
-pub mod Settled
+pub mod Reserved

@@ -6,7 +6,7 @@ use Rattle.std.specs.Option.{option_or}
 use Rattle.std.proofs.lemmas.Bool.{and_parts, or_parts, not-true, cases_Bool}
 use Rattle.stx_base.specs.declared.name.Binding.{Binding}
 use Rattle.xml_names.specs.Scope.{same, last_uri, declared_on, unless_empty, bound, xml_uri}
-use Rattle.xml_names.specs.Laws.{declares, AreSilent}
+use Rattle.xml_names.specs.Laws.{declares, AreSilent, DefaultsElements}
 use Rattle.xml_names.proofs.Paths.{bound-is}
 use Rattle.xml_names.proofs.Places.{last_uri-append}
 use Rattle.xml_names.proofs.Texts.{same-true, same-refl}
@@ -70,6 +70,18 @@ takes-away outer inner before behind b none others other gone =
 
 pub binds-nothing : (path : List (List Binding)) (prefix : List ℕ) → AreSilent path prefix → prefix ≢ codes "xml" → bound path prefix ≡ None
 binds-nothing path prefix none other = bound-is path (declared_on path) refl prefix (different prefix (codes "xml") other) ∙ ap unless_empty (are-silent path prefix none)
+
+-- an element without a prefix
+pub defaults-elements : DefaultsElements
+defaults-elements outer inner before behind b name is none others plain =
+    let path = outer ++ (before ++ b ∷ behind) ∷ inner in
+    let own : declares behind b.prefix ≡ false = ap (declares behind) is ∙ none in
+    let inside : AreSilent inner b.prefix = ap (λ p. list_all (λ t. not (declares t p)) inner) is ∙ others in
+    let last : last_uri (declared_on path) [] ≡ Some b.uri = ap (last_uri (declared_on path)) (sym is) ∙ nearest outer inner before behind b own inside in
+    ap (λ p. unwrap_or (bound path p) []) plain ∙ (ap (λ o. unwrap_or (unless_empty o) []) last ∙ whole b.uri) where
+      whole : (uri : List ℕ) → unwrap_or (unless_empty (Some uri)) [] ≡ uri
+      whole [] = refl
+      whole (c ∷ cs) = refl
 
 -- what is bound is never bound to nothing
 pub bound-full : (path : List (List Binding)) (p : List ℕ) → is_some (bound path p) ≡ true → unwrap_or (bound path p) [] ≢ []

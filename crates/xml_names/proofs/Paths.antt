@@ -6,7 +6,7 @@ use Rattle.stx_base.specs.declared.name.Binding.{Binding}
 use Rattle.stx_base.specs.declared.name.Name.{Name}
 use Rattle.xml_names.specs.QName.{has_colon}
 use Rattle.xml_names.specs.Scope.{same, last_uri, declared_on, unless_empty, bound, xml_uri, is_empty, attribute_uri, attribute_name}
-use Rattle.xml_names.specs.Scopes.{parted, total}
+use Rattle.xml_names.specs.inside.Scopes.{parted, total}
 use Rattle.xml_names.proofs.QNames.{prefix_of-none, local_of-none}
 
 -- one element more

@@ -7,7 +7,7 @@ use Rattle.std.proofs.lemmas.List.{append-nil, length-append, map_push}
 use Rattle.std.proofs.lemmas.Option.{slice_get-get_or}
 use Rattle.stx_base.specs.declared.name.Binding.{Binding}
 use Rattle.xml_names.specs.Scope.{same, last_uri}
-use Rattle.xml_names.specs.InForce.{last_place, hidden_by}
+use Rattle.xml_names.specs.inside.InForce.{last_place, hidden_by}
 use Rattle.xml_names.specs.declared.in_force.Declared.{Declared}
 
 or-assoc : {X : Type 0} (a b c : Option X) → option_or a (option_or b c) ≡ option_or (option_or a b) c

@@ -12,7 +12,8 @@ use Rattle.stx_base.specs.declared.name.Name.{Name}
 use Rattle.xml_tokens.specs.declared.lexeme.RawAttr.{RawAttr}
 use Rattle.xml_names.specs.QName.{has_colon, prefix_of, local_of, is_qname}
 use Rattle.xml_names.specs.Scope.{same, bound, declared_on, unless_empty, last_uri, xml_uri, attribute_name, element_name}
-use Rattle.xml_names.specs.Tag.{declared_prefix, declaration, declarations, into, attribute, attributes, has_bad_name, is_bad_binding, has_bad_binding, is_good_binding, is_plain, is_plain_name, plain_attribute, is_prefix_bound, is_element_bound, is_attribute_bound, has_undeclared_prefix, has_twins, same_written, same_expanded, has_duplicate, scope_fault, name_fault, resolved}
+use Rattle.xml_names.specs.Tag.{declared_prefix, declaration, declarations, into, attribute, attributes, has_bad_name, is_bad_binding, has_bad_binding, is_good_binding, is_prefix_bound, is_element_bound, is_attribute_bound, has_undeclared_prefix, has_twins, same_written, same_expanded, has_duplicate, scope_fault, name_fault, resolved}
+use Rattle.xml_names.specs.inside.Plain.{is_plain, is_plain_name, plain_attribute}
 use Rattle.xml_names.specs.declared.resolved.Resolved.{Resolved}
 use Rattle.xml_names.proofs.QNames.{ncname-none, prefix_of-none, local_of-none, whole-qname}
 use Rattle.xml_names.proofs.Paths.{unprefixed-name, same-names}

@@ -12,7 +12,8 @@ use Rattle.std.proofs.lemmas.List.Quantifiers.{position-Some}
 use Rattle.std.proofs.lemmas.List.Sums.{fails_before_first}
 use Rattle.std.proofs.lemmas.Str.{encode_ascii, encodes-chars, chars-append, chars-IsAscii, IsUtf8-from_ascii, IsUtf8-take, IsCharBoundary-before_ascii}
 use Rattle.stx_base.specs.Character.{is_ncname, is_ncname_char, is_name_char, is_name_start}
-use Rattle.xml_names.specs.QName.{is_colon, has_colon, prefix_of, local_of, is_qname, IsCut, IsQName}
+use Rattle.xml_names.specs.QName.{is_colon, has_colon, prefix_of, local_of, is_qname, IsQName}
+use Rattle.xml_names.specs.inside.Parts.{IsCut}
 
 -- the first colon stands behind a front without one
 position-first : (front back : List ℕ) → list_any is_colon front ≡ false → position_or_len is_colon (front ++ 0x3A ∷ back) ≡ length front

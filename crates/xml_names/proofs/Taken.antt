@@ -13,6 +13,7 @@ use Rattle.xml_tokens.specs.declared.lexeme.RawAttr.{RawAttr}
 use Rattle.xml_names.specs.QName.{prefix_of, local_of, is_qname}
 use Rattle.xml_names.specs.Scope.{same, bound, is_empty, attribute_name}
 use Rattle.xml_names.specs.Tag.{has_bad_name, has_bad_binding, has_undeclared_prefix, has_duplicate, has_twins, same_written, same_expanded, name_fault, scope_fault, into, attributes, attribute, declaration, declared_prefix, is_element_bound, is_attribute_bound, is_prefix_bound, resolved}
+use Rattle.xml_names.specs.Laws.{DefaultsNoAttributes}
 use Rattle.xml_names.proofs.Nearest.{bound-full}
 use Rattle.xml_names.proofs.QNames.{spelled}
 use Rattle.xml_names.proofs.Texts.{same-true, same-refl}
@@ -115,6 +116,28 @@ binds-attributes path name attrs i a taken at =
     let here = into path attrs in
     let from = comes-of (attribute here) (λ x. is_attribute_bound here x.name) attrs i a (bounds path name attrs taken).1 at in
     attribute-bound here from.0 a from.1 from.2
+
+-- one without a prefix is in no namespace
+unprefixed : (path : List (List Binding)) (x : RawAttr) (a : Attr) → attribute path x ≡ Some a → a.name.prefix ≡ [] → a.name.uri ≡ []
+unprefixed path x a e = by_test (is_some (declared_prefix x.name)) e where
+  made : Attr
+  made = record { name = attribute_name path x.name; value = x.value }
+
+  none : (p : List ℕ) → p ≡ [] → (if is_empty p then [] else unwrap_or (bound path p) []) ≡ []
+  none [] h = refl
+  none (c ∷ cs) h = absurd (cc)
+
+  by_test : (t : Bool) → (if t then None else Some made) ≡ Some a → a.name.prefix ≡ [] → a.name.uri ≡ []
+  by_test true s = absurd (cc)
+  by_test false s = let is : made ≡ a = cc in subst (λ y. y.name.prefix ≡ [] → y.name.uri ≡ []) is (none (prefix_of x.name))
+
+pub defaults-no-attributes : DefaultsNoAttributes
+defaults-no-attributes path name attrs i a at =
+    let from = comes-of (attribute (into path attrs)) (λ x. true) attrs i a (any attrs) at in
+    unprefixed (into path attrs) from.0 a from.1 where
+      any : (xs : List RawAttr) → list_all (λ x. true) xs ≡ true
+      any [] = refl
+      any (x ∷ xs) = any xs
 
 -- what two items of a mapped list come of, where no two are alike
 pub record ComeApart {X Y : Type 0} (f : X → Option Y) (p : X → Bool) (alike : X → X → Bool) (y z : Y) : Type 0 where

@@ -1,12 +1,12 @@
 -- What laws of the definitions say.
-use Rattle.std.specs.Prelude.{◌≡◌, ◌≢◌, ℕ, ◌<◌, ◌-◌, Bool, true, false, not, List, [], ◌∷◌, ◌++◌, Some, None, codes, length, take, slice_get, unwrap_or}
+use Rattle.std.specs.Prelude.{◌≡◌, ◌≢◌, ◌↔◌, ℕ, ◌<◌, Bool, true, false, not, List, [], ◌∷◌, ◌++◌, Some, None, codes, map, slice_get}
 use Rattle.std.specs.List.{list_all, list_any}
 use Rattle.stx_base.specs.declared.name.Attr.{Attr}
 use Rattle.stx_base.specs.declared.name.Binding.{Binding}
 use Rattle.xml_tokens.specs.declared.lexeme.RawAttr.{RawAttr}
 use Rattle.xml_names.specs.QName.{prefix_of, local_of, is_qname, IsQName}
-use Rattle.xml_names.specs.Scope.{same, xml_uri, bound, element_name, attribute_name}
-use Rattle.xml_names.specs.Tag.{name_fault, resolved}
+use Rattle.xml_names.specs.Scope.{same, xml_uri, xmlns_uri, bound, element_name}
+use Rattle.xml_names.specs.Tag.{declarations, has_bad_binding, name_fault, resolved}
 
 -- A name is a QName only where it is spelled as one.
 abbrev pub QNamesAreSpelled : Type 0
@@ -49,16 +49,35 @@ TakesAway =
 abbrev pub BindsNothing : Type 0
 BindsNothing = (path : List (List Binding)) (prefix : List ℕ) → AreSilent path prefix → prefix ≢ codes "xml" → bound path prefix ≡ None
 
--- But for `xml`, which always is.
+-- no tag binds what may not be bound
+abbrev pub AreGood : (tags : List (List RawAttr)) → Type 0
+AreGood tags = list_any has_bad_binding tags ≡ false
+
+-- But for `xml`, which always is bound, and to its namespace no other prefix.
 abbrev pub BindsXml : Type 0
-BindsXml = (path : List (List Binding)) → bound path (codes "xml") ≡ Some xml_uri
+BindsXml = (tags : List (List RawAttr)) (prefix : List ℕ) → AreGood tags → (bound (map declarations tags) prefix ≡ Some xml_uri) ↔ (prefix ≡ codes "xml")
 
--- An element without a prefix is in the default namespace, an attribute in none.
+-- `xmlns` never is bound, nor any prefix to its namespace.
+abbrev pub BindsNoXmlns : Type 0
+BindsNoXmlns = (tags : List (List RawAttr)) (prefix : List ℕ) → AreGood tags → (bound (map declarations tags) (codes "xmlns") ≡ None) × (bound (map declarations tags) prefix ≢ Some xmlns_uri)
+
+-- An element without a prefix has the namespace of the nearest default declaration, and none where that is empty.
 abbrev pub DefaultsElements : Type 0
-DefaultsElements = (path : List (List Binding)) (name : List ℕ) → prefix_of name ≡ [] → (element_name path name).uri ≡ unwrap_or (bound path []) []
+DefaultsElements =
+    (outer inner : List (List Binding)) (before behind : List Binding) (b : Binding) (name : List ℕ)
+    → b.prefix ≡ []
+    → declares behind [] ≡ false
+    → AreSilent inner []
+    → prefix_of name ≡ []
+    → (element_name (outer ++ (before ++ b ∷ behind) ∷ inner) name).uri ≡ b.uri
 
+-- An attribute without a prefix has none, whatever is declared.
 abbrev pub DefaultsNoAttributes : Type 0
-DefaultsNoAttributes = (path : List (List Binding)) (name : List ℕ) → prefix_of name ≡ [] → (attribute_name path name).uri ≡ []
+DefaultsNoAttributes =
+    (path : List (List Binding)) (name : List ℕ) (attrs : List RawAttr) (i : ℕ) (a : Attr)
+    → slice_get (resolved path name attrs).attrs i ≡ Some a
+    → a.name.prefix ≡ []
+    → a.name.uri ≡ []
 
 -- In a taken tag a name that has a prefix has a namespace.
 abbrev pub BindsElement : Type 0
@@ -95,8 +114,3 @@ DeclaresOnce =
     → slice_get (resolved path name attrs).decls i ≡ Some a
     → slice_get (resolved path name attrs).decls j ≡ Some b
     → a.prefix ≢ b.prefix
-
--- What is entered last is left first.
-abbrev pub LeavesAsBefore : Type 0
-LeavesAsBefore =
-    (path : List (List Binding)) (tag : List Binding) → take (length (path ++ tag ∷ []) - 1) (path ++ tag ∷ []) ≡ path

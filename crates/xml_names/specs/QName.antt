@@ -1,7 +1,6 @@
 -- Qualified names (Namespaces in XML 1.0, 4).
-use Rattle.std.specs.Prelude.{◌≡◌, ◌⊎◌, ℕ, Bool, true, not, ◌&&◌, ◌||◌, ◌==◌, List, [], ◌∷◌, ◌++◌, if◌then◌else◌, length, take}
+use Rattle.std.specs.Prelude.{◌≡◌, ◌⊎◌, ℕ, Bool, true, not, ◌&&◌, ◌||◌, ◌==◌, List, [], ◌∷◌, ◌++◌, if◌then◌else◌}
 use Rattle.std.specs.List.{list_any, before_first, after_first}
-use Rattle.std.specs.Str.{chars, IsCharBoundary}
 use Rattle.stx_base.specs.Character.{is_ncname}
 
 abbrev pub is_colon : ℕ → Bool
@@ -26,11 +25,3 @@ is_qname name = (not (has_colon name) || is_ncname (prefix_of name)) && is_ncnam
 abbrev pub IsQName : (name prefix local : List ℕ) → Type 0
 IsQName name prefix local =
     (is_ncname local ≡ true) × (((prefix ≡ []) × (name ≡ local)) ⊎ ((is_ncname prefix ≡ true) × (name ≡ prefix ++ 0x3A ∷ local)))
-
--- a name's bytes as its parts have them, where it has a colon
-pub record IsCut (bs front back : List ℕ) : Type 0 where
-  pub some : has_colon (chars bs) ≡ true
-  pub before : front ≡ take (length front) bs
-  pub place : IsCharBoundary bs (length front)
-  pub prefix : prefix_of (chars bs) ≡ chars front
-  pub local : local_of (chars bs) ≡ chars back

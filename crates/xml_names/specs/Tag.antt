@@ -2,7 +2,6 @@
 use Rattle.std.specs.Prelude.{◌≡◌, ℕ, Bool, true, false, not, ◌&&◌, ◌||◌, List, [], ◌∷◌, ◌++◌, Option, Some, None, is_some, codes, if◌then◌else◌}
 use Rattle.std.specs.List.{filter_map, list_all, list_any}
 use Rattle.std.specs.Option.{option_map, option_map_or}
-use Rattle.stx_base.specs.Character.{is_ncname}
 use Rattle.stx_base.specs.declared.fault.XmlKind.{XmlKind}
 use Rattle.stx_base.specs.declared.fault.XmlKind.TheVariants as kind
 use Rattle.stx_base.specs.declared.name.Attr.{Attr}
@@ -66,18 +65,6 @@ is_bad_binding a = option_map_or (λ prefix. not (is_good_binding prefix a.value
 abbrev pub has_bad_binding : List RawAttr → Bool
 has_bad_binding attrs = list_any is_bad_binding attrs
 
--- a name without a prefix, and of no declaration
-abbrev pub is_plain_name : (name : List ℕ) → Bool
-is_plain_name name = is_ncname name && not (same name (codes "xmlns"))
-
--- no name of a tag has a prefix, and it declares nothing
-abbrev pub is_plain : (name : List ℕ) → List RawAttr → Bool
-is_plain name attrs = is_ncname name && list_all (λ a. is_plain_name a.name) attrs
-
--- an attribute without a prefix, which is in no namespace
-abbrev pub plain_attribute : RawAttr → Attr
-plain_attribute a = record { name = record { uri = []; local = a.name; prefix = [] }; value = a.value }
-
 -- a prefix that a name has is bound (Namespaces in XML 1.0, 5)
 abbrev pub is_prefix_bound : (path : List (List Binding)) → (prefix : List ℕ) → Bool
 is_prefix_bound path prefix = is_empty prefix || is_some (bound path prefix)
@@ -91,14 +78,6 @@ is_attribute_bound path name = is_some (declared_prefix name) || is_prefix_bound
 
 abbrev pub has_undeclared_prefix : (path : List (List Binding)) → (name : List ℕ) → List RawAttr → Bool
 has_undeclared_prefix path name attrs = not (is_element_bound path name && list_all (λ a. is_attribute_bound path a.name) attrs)
-
--- a name of no declaration that has a bound prefix or none
-abbrev pub is_settled_name : (path : List (List Binding)) → (name : List ℕ) → Bool
-is_settled_name path name = is_qname name && (not (same name (codes "xmlns")) && is_element_bound path name)
-
--- each name of a tag is one
-abbrev pub is_settled : (path : List (List Binding)) → (name : List ℕ) → List RawAttr → Bool
-is_settled path name attrs = is_settled_name path name && list_all (λ a. is_settled_name path a.name) attrs
 
 -- some two items are alike
 abbrev pub has_twins : {X : Type 0} → (X → X → Bool) → List X → Bool

@@ -35,7 +35,7 @@ impl Model for InForce {
 
     ghost Value = { List Binding };
 
-    ghost use Rattle.xml_names.specs.InForce.{bindings_of, IsIndexed};
+    ghost use Rattle.xml_names.specs.inside.InForce.{bindings_of, IsIndexed};
 
     ghost view = { bindings_of };
 

@@ -1,5 +1,5 @@
 //! Laws about the definitions that the contract of `Scopes` cites. They do nothing.
-ghost use Rattle.xml_names.specs.Laws.{BindsAttributes, BindsElement, BindsNearest, BindsNothing, BindsXml, DeclaresOnce, DefaultsElements, DefaultsNoAttributes, LeavesAsBefore, NamesOnce, QNamesAreSpelled, SpelledQNamesAreRead, TakesAway};
+ghost use Rattle.xml_names.specs.Laws.{BindsAttributes, BindsElement, BindsNearest, BindsNoXmlns, BindsNothing, BindsXml, DeclaresOnce, DefaultsElements, DefaultsNoAttributes, NamesOnce, QNamesAreSpelled, SpelledQNamesAreRead, TakesAway};
 
 /// A name is taken apart exactly as it is spelled (Namespaces in XML 1.0, 4).
 pub fn qnames()
@@ -13,7 +13,7 @@ pub fn scope()
     ensures taken_away { TakesAway }
     ensures nothing { BindsNothing }
     ensures xml { BindsXml }
-    ensures left { LeavesAsBefore }
+    ensures xmlns { BindsNoXmlns }
 {}
 
 /// The default namespace is that of elements alone (Namespaces in XML 1.0, 6.2).

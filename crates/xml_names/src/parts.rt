@@ -2,7 +2,7 @@ ghost use Rattle.std.specs.Prelude.{◌≡◌, false, MatchOption, encode_utf8_a
 ghost use Rattle.std.specs.List.{position};
 ghost use Rattle.std.specs.Str.{chars, IsCharBoundary};
 ghost use Rattle.xml_names.specs.QName as spec;
-ghost use Rattle.xml_names.specs.QName.{IsCut};
+ghost use Rattle.xml_names.specs.inside.Parts.{IsCut};
 
 use stx_base::{Text, is_ncname};
 

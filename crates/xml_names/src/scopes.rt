@@ -2,11 +2,11 @@ ghost use Rattle.std.specs.Prelude.{◌≡◌, ◌<◌, ◌-◌, ◌++◌, ◌�
 ghost use Rattle.std.specs.List.{list_all};
 ghost use Rattle.std.specs.Option.{option_map};
 ghost use Rattle.std.specs.Str.{chars};
-ghost use Rattle.stx_base.specs.Character as class;
 ghost use Rattle.xml_names.specs.QName.{is_qname};
 ghost use Rattle.xml_names.specs.Scope as scope;
 ghost use Rattle.xml_names.specs.Scope.{bound, same};
 ghost use Rattle.xml_names.specs.Tag as spec;
+ghost use Rattle.xml_names.specs.inside.Plain as plain;
 ghost use Rattle.xml_names.specs.Tag.{declarations, name_fault, resolved, scope_fault, IsCause};
 
 use crate::declaration::{XML_URI, declarations, declared_prefix, has_bad_binding};
@@ -35,7 +35,7 @@ impl Model for Scopes {
 
     ghost Value = { List (List Binding) };
 
-    ghost use Rattle.xml_names.specs.Scopes.{path_of, IsCounted};
+    ghost use Rattle.xml_names.specs.inside.Scopes.{path_of, IsCounted};
 
     ghost view = { path_of };
 
@@ -79,7 +79,7 @@ impl Scopes {
         if is_plain(&name, attrs.as_slice()) {
             self.enter_plain(name, attrs, spare)
         } else {
-            self.enter_any(name, attrs, spare)
+            self.enter_judged(name, attrs, spare)
         }
     }
 
@@ -91,7 +91,7 @@ impl Scopes {
         attrs: List<RawAttr>,
         spare: &mut Spare,
     ) -> Result<Resolved, NameFault>
-        requires { spec.is_plain name attrs ≡ true }
+        requires { plain.is_plain name attrs ≡ true }
         ensures taken { OnOk result (name_fault self.old name attrs ≡ None) }
         ensures fault { IfErr result (IsCause (name_fault self.old name attrs)) }
         ensures value { IfOk result (λ tag. tag ≡ resolved self.old name attrs) }
@@ -106,46 +106,6 @@ impl Scopes {
         let decls = List::new(self.alloc);
         self.declare_nothing()?;
         Ok(Resolved { name, attrs, decls })
-    }
-
-    #[inline(never)]
-    fn enter_any(
-        &mut self,
-        name: Text,
-        attrs: List<RawAttr>,
-        spare: &mut Spare,
-    ) -> Result<Resolved, NameFault>
-        ensures taken { OnOk result (name_fault self.old name attrs ≡ None) }
-        ensures fault { IfErr result (IsCause (name_fault self.old name attrs)) }
-        ensures value { IfOk result (λ tag. tag ≡ resolved self.old name attrs) }
-        ensures ok { OnOk result (self.new ≡ self.old ++ declarations attrs ∷ []) }
-        ensures err { OnErr result (self.new ≡ self.old) }
-    {
-        if self.is_settled(name.as_str(), attrs.as_slice()) {
-            self.enter_settled(name, attrs, spare)
-        } else {
-            self.enter_judged(name, attrs, spare)
-        }
-    }
-
-    /// Most tags with prefixes declare nothing either, and where these are bound no fault is left but an attribute that stands twice.
-    #[inline(always)]
-    fn enter_settled(
-        &mut self,
-        name: Text,
-        attrs: List<RawAttr>,
-        spare: &mut Spare,
-    ) -> Result<Resolved, NameFault>
-        requires { spec.is_settled self.old name attrs ≡ true }
-        ensures taken { OnOk result (name_fault self.old name attrs ≡ None) }
-        ensures fault { IfErr result (IsCause (name_fault self.old name attrs)) }
-        ensures value { IfOk result (λ tag. tag ≡ resolved self.old name attrs) }
-        ensures ok { OnOk result (self.new ≡ self.old ++ declarations attrs ∷ []) }
-        ensures err { OnErr result (self.new ≡ self.old) }
-    {
-        let tag = self.expand(name, attrs, List::new(self.alloc), spare)?;
-        self.declare_nothing()?;
-        Ok(tag)
     }
 
     /// Asks a tag for its faults one by one.
@@ -279,40 +239,6 @@ impl Scopes {
         }
         let name = self.element_name(name, spare)?;
         Ok(Resolved { name, attrs, decls })
-    }
-
-    /// Whether each name of a tag is of no declaration, and has a bound prefix or none.
-    #[inline(always)]
-    fn is_settled(&self, name: &str, attrs: &[RawAttr]) -> bool
-        ensures { result ≡ spec.is_settled self.now (chars name.now) attrs.now }
-    {
-        self.is_settled_name(name) && self.are_attributes_settled(attrs)
-    }
-
-    #[inline(always)]
-    fn are_attributes_settled(&self, attrs: &[RawAttr]) -> bool
-        ensures { result ≡ list_all (λ a. spec.is_settled_name self.now a.name) attrs.now }
-    {
-        attrs
-            .iter()
-            .all(|attr| self.is_settled_name(attr.name.as_str()))
-    }
-
-    #[inline(always)]
-    fn is_settled_name(&self, name: &str) -> bool
-        ensures { result ≡ spec.is_settled_name self.now (chars name.now) }
-    {
-        match cut(name) {
-            Some(parts) => self.are_settled(parts.prefix, parts.local),
-            None => is_plain_name(name),
-        }
-    }
-
-    #[inline(always)]
-    fn are_settled(&self, prefix: &str, local: &str) -> bool
-        ensures { result ≡ ((class.is_ncname (chars prefix.now) && class.is_ncname (chars local.now)) && (not (same (chars prefix.now) (codes "xmlns")) && spec.is_prefix_bound self.now (chars prefix.now))) }
-    {
-        is_ncname(prefix) && is_ncname(local) && self.is_element_bound(prefix)
     }
 
     #[inline(always)]
@@ -461,19 +387,19 @@ fn has_bad_name(name: &Text, attrs: &[RawAttr]) -> bool
 
 /// Whether a tag has no prefix and declares nothing.
 fn is_plain(name: &Text, attrs: &[RawAttr]) -> bool
-    ensures { result ≡ spec.is_plain name.now attrs.now }
+    ensures { result ≡ plain.is_plain name.now attrs.now }
 {
     is_ncname(name.as_str()) && are_plain(attrs)
 }
 
 fn are_plain(attrs: &[RawAttr]) -> bool
-    ensures { result ≡ list_all (λ a. spec.is_plain_name a.name) attrs.now }
+    ensures { result ≡ list_all (λ a. plain.is_plain_name a.name) attrs.now }
 {
     attrs.iter().all(|attr| is_plain_name(attr.name.as_str()))
 }
 
 fn is_plain_name(name: &str) -> bool
-    ensures { result ≡ spec.is_plain_name (chars name.now) }
+    ensures { result ≡ plain.is_plain_name (chars name.now) }
 {
     is_ncname(name) && !is_word(name, "xmlns")
 }
@@ -485,7 +411,7 @@ fn plain_attributes(
     attrs: List<RawAttr>,
     spare: &mut Spare,
 ) -> Result<List<Attr>, Memory>
-    ensures { IfOk result (λ made. made ≡ map spec.plain_attribute attrs) }
+    ensures { IfOk result (λ made. made ≡ map plain.plain_attribute attrs) }
 {
     if attrs.is_empty() {
         return Ok(List::new(alloc));

@@ -3,7 +3,8 @@ use Rattle.std.specs.Prelude.{MatchOption}
 use Rattle.std.specs.List.{position}
 use Rattle.std.specs.Str.{chars}
 use Rattle.std.proofs.lemmas.Str.{IsCharBoundary-before_ascii, IsCharBoundary-after_ascii}
-use Rattle.xml_names.specs.QName.{is_colon, has_colon, IsCut}
+use Rattle.xml_names.specs.QName.{is_colon, has_colon}
+use Rattle.xml_names.specs.inside.Parts.{IsCut}
 use Rattle.xml_names.proofs.QNames.{no-place, place-within, place-ascii, cut-there}
 use Rattle.xml_names.proofs.parts.cut.Goals as goal
 

@@ -1,7 +1,7 @@
 use Rattle.std.proofs.Common.{◌≡◌, ◌∙◌, sym, ap, subst, map, [], encode_utf8_all}
 use Rattle.std.specs.Prelude.{string_bytes}
 use Rattle.std.specs.BTreeMap.{get_by_text}
-use Rattle.xml_names.specs.InForce.{hidden_by}
+use Rattle.xml_names.specs.inside.InForce.{hidden_by}
 use Rattle.xml_names.proofs.Index.{HasPlaces, with-last}
 use Rattle.xml_names.proofs.in_force.InForce.push.Goals as goal
 

@@ -1,6 +1,6 @@
 use Rattle.std.proofs.Common.{◌∙◌, sym, ap, ◌++◌, ◌∷◌, [], length, arith}
 use Rattle.std.proofs.lemmas.List.{length-append}
-use Rattle.xml_names.specs.Scopes.{parted, total}
+use Rattle.xml_names.specs.inside.Scopes.{parted, total}
 use Rattle.xml_names.proofs.Paths.{parted-more, total-more}
 use Rattle.xml_names.proofs.scopes.Scopes.declare.Goals as goal
 

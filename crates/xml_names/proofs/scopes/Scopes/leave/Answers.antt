@@ -1,6 +1,6 @@
 use Rattle.std.proofs.Common.{◌∙◌, sym, ap, length, take, ◌-◌, arith}
 use Rattle.std.proofs.lemmas.List.{length-take}
-use Rattle.xml_names.specs.Scopes.{parted, total}
+use Rattle.xml_names.specs.inside.Scopes.{parted, total}
 use Rattle.xml_names.proofs.Paths.{parted-less, total-more}
 use Rattle.xml_names.proofs.scopes.Scopes.leave.Goals as goal
 
