@@ -1,4 +1,4 @@
-ghost use Rattle.std.specs.Prelude.{◌≡◌, ◌<◌, true, pos, [], ◌∷◌, length, is_some, nat_eq, map, slice_get, option_map, IfOk, IfErr};
+ghost use Rattle.std.specs.Prelude.{◌≡◌, ◌<◌, ◌^◌, true, pos, [], ◌∷◌, length, is_some, nat_eq, map, slice_get, option_map, IfOk, IfErr};
 ghost use Rattle.std.specs.List.{concat as concat_all, starts_with as list_starts_with, ends_with as list_ends_with};
 ghost use Rattle.std.specs.Ordering.{int_eq};
 ghost use Rattle.std.specs.Str.{chars};
@@ -104,7 +104,7 @@ pub fn call_lent<'a>(
             argument(args, 1),
             argument(args, 2),
         ),
-        Fun::Count => whole(argument(args, 0).len() as u64),
+        Fun::Count => Ok(whole(argument(args, 0).len() as u64)),
         Fun::Empty => Ok(truth(argument(args, 0).len() == 0)),
         Fun::Exists => Ok(truth(argument(args, 0).len() != 0)),
         Fun::Sum => sum(argument(args, 0)),
@@ -159,13 +159,11 @@ fn truth<'a>(b: bool) -> Sequence<'a>
 }
 
 /// A count as a whole number.
-fn whole<'a>(n: u64) -> Result<Sequence<'a>, EvalStop>
-    ensures { IsSequence result (spec.whole_value (pos n)) }
+fn whole<'a>(n: u64) -> Sequence<'a>
+    requires { n < 2 ^ 63 }
+    ensures { Ok (sequence_of result) ≡ spec.whole_value (pos n) }
 {
-    match i64::try_from(n) {
-        Ok(n) => Ok(one(AtomRef::Whole(n))),
-        Err(_) => Err(EvalStop::Fault(EvalFault::Overflow)),
-    }
+    one(AtomRef::Whole(n as i64))
 }
 
 fn string<'a>(alloc: Global, text: &Sequence<'a>) -> Result<Sequence<'a>, EvalStop>
@@ -219,7 +217,7 @@ fn string_length<'a>(text: Atoms<'_>) -> Result<Sequence<'a>, EvalStop>
 {
     let mut buffer = Buffer::new();
     let text = text_of(text, &mut buffer)?;
-    whole(texts::count(text))
+    Ok(whole(texts::count(text)))
 }
 
 /// An argument that may be left out, as a whole number.

@@ -1,6 +1,6 @@
 //! Atoms that are lent, and sequences that are lent where they stand or made.
 
-ghost use Rattle.std.specs.Prelude.{◌≡◌, ◌-◌, ◌≤◌, ◌∷◌, [], length, take, drop, IfOk};
+ghost use Rattle.std.specs.Prelude.{◌≡◌, ◌-◌, ◌<◌, ◌^◌, ◌≤◌, ◌∷◌, [], length, take, drop, IfOk};
 ghost use Rattle.stxpath_values.specs.Lent.{atom_of, atoms_of, sequence_of};
 
 use crate::lists::copies;
@@ -65,7 +65,8 @@ impl AtomRef<'_> {
 impl Atoms<'_> {
     /// How many they are. Allocates nothing.
     pub fn len(self) -> usize
-        ensures { result ≡ length (atoms_of self.entry) }
+        ensures value { result ≡ length (atoms_of self.entry) }
+        ensures bound { result < 2 ^ 63 }
     {
         match self {
             Atoms::One(_) => 1,

@@ -1,4 +1,4 @@
-ghost use Rattle.std.specs.Prelude.{◌≡◌, ℕ, ◌++◌, ◌==◌, length, nat_lt, map, position, if◌then◌else◌, OnOk, IfOk};
+ghost use Rattle.std.specs.Prelude.{◌≡◌, ◌<◌, ◌^◌, ℕ, ◌++◌, ◌==◌, length, nat_lt, map, position, if◌then◌else◌, OnOk, IfOk};
 ghost use Rattle.std.specs.Option.{option_or};
 ghost use Rattle.std.specs.BTreeMap as tree;
 ghost use Rattle.std.specs.Ordering.{nat_cmp};
@@ -186,7 +186,8 @@ fn atom_len(atom: &Atom) -> u64
 
 /// How many characters a text has.
 pub fn count(text: &str) -> u64
-    ensures { result ≡ length (chars text.now) }
+    ensures value { result ≡ length (chars text.now) }
+    ensures bound { result < 2 ^ 63 }
 {
     text.chars().count() as u64
 }

@@ -12,7 +12,7 @@ returns c =
     let n = c.in_ok-n.n in
     let b : Ok n ≡ as_whole (atoms_of c.args.n) = c.in_ok-n.ensures in
     let xs = sequence_of c.args.items.now in
-    let size : c.len.result ≡ length xs = c.len.ensures ∙ ap length c.lent.ensures in
+    let size : c.len.result ≡ length xs = c.len.ensures.value ∙ ap length c.lent.ensures in
     let e = at_place n c.selected-bounds.result.from c.selected-bounds.result.to xs (λ i l.
     let short : i < c.len.result = omega (arith, size) in
     ap (λ z. is_within z (Some (pos 1)) (pos (i + 1))) (sym (to_z-of_z {w = w64} {z = n} (search rules))) ∙ c.selected-bounds.ensures.within i short) in
