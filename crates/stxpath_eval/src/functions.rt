@@ -133,12 +133,12 @@ fn level(stack: &NodeStack, place: usize) -> u64
     ensures value { result ≡ spec.level_at (path stack.now) place }
     ensures bound { result < 2 ^ 63 }
 {
-    let level = match stack.view(place) {
-        NodeView::Attribute(_) => place.saturating_sub(1),
-        _ => place,
-    };
     // A path has fewer than 2^63 nodes.
-    level.min(stack.len()) as u64
+    prove!(place < stack.len());
+    match stack.view(place) {
+        NodeView::Attribute(_) => place.saturating_sub(1) as u64,
+        _ => place as u64,
+    }
 }
 
 fn has_child(node: Option<NodeView<'_>>) -> bool
