@@ -9,7 +9,7 @@ use Rattle.stx_base.specs.declared.name.Name.{Name}
 use Rattle.stx_base.specs.declared.node.First.{First}
 use Rattle.stx_base.specs.declared.node.NodeTest.TheVariants as test
 use Rattle.node_stack.specs.Counts.{capped, none}
-use Rattle.node_stack.specs.Names.{again_of, elements_of}
+use Rattle.node_stack.specs.Few.{elements_among, times_among}
 use Rattle.node_stack.specs.Open.{element_of, leaf_of, open_in, placed, KeepsOwn}
 use Rattle.node_stack.specs.Path.{Node, Element, Pi, kind_of, parked}
 use Rattle.node_stack.specs.Stack.{waiting}
@@ -38,15 +38,15 @@ like_names f a b c d n false y e i h = refl
 
 -- the counts of an element
 pub element_kept : (t : Tally) (name : Name) (attrs : List Attr) (decls : List Binding) (first : First) (o : Own)
-    → o.alike ≡ capped (min 18446744073709551615 (times (again_of t.namespaces (encode_utf8_all name.uri) (encode_utf8_all name.local))) - 1)
-    → o.of_namespace ≡ capped (elements_of t.namespaces (encode_utf8_all name.uri) - 1)
+    → o.alike ≡ capped (min 18446744073709551615 (times_among t.names (encode_utf8_all name.uri) (encode_utf8_all name.local)) - 1)
+    → o.of_namespace ≡ capped (min 18446744073709551615 (elements_among t.names (encode_utf8_all name.uri)) - 1)
     → o.of_kind ≡ capped (t.elements - 1) → o.nodes ≡ capped (t.nodes - 1)
     → KeepsOwn t None (Element name attrs decls first) o
 element_kept t name attrs decls first o alike space kind nodes test.Document = refl
 element_kept t name attrs decls first o alike space kind nodes (test.Name n) =
-    like_names (λ u l. times (again_of t.namespaces u l)) _ _ _ _ o.alike _ _ refl refl (alike ∙ unbounded _)
+    like_names (times_among t.names) _ _ _ _ o.alike _ _ refl refl (alike ∙ unbounded _)
 element_kept t name attrs decls first o alike space kind nodes (test.Prefix b) =
-    like (elements_of t.namespaces) _ _ o.of_namespace _ refl space
+    like (elements_among t.names) _ _ o.of_namespace _ refl (space ∙ unbounded _)
 element_kept t name attrs decls first o alike space kind nodes test.AnyElement = kind
 element_kept t name attrs decls first o alike space kind nodes test.AnyNode = nodes
 element_kept t name attrs decls first o alike space kind nodes test.Chars = refl

@@ -1,3 +1,4 @@
+mod Among
 mod Counting
 mod Keeping
 mod Listing

@@ -14,7 +14,7 @@ use Rattle.std.proofs.lemmas.Map.Text.{btree_map_updates_text}
 use Rattle.std.proofs.lemmas.Slice.Eq.{bytes_eq-Decides}
 use Rattle.node_stack.specs.Names.{again_of, elements_of, names_of, CountsName, Namespaces, SameNames}
 use Rattle.node_stack.specs.Times.{more, once_more, CountsText, Texts}
-use Rattle.node_stack.specs.declared.tally.Namespace.{Namespace}
+use Rattle.node_stack.specs.declared.names.Namespace.{Namespace}
 
 -- a namespace by its URI
 abbrev Found : Type 0

@@ -1,14 +1,17 @@
 -- What counters tell after one node more.
-use Rattle.std.proofs.Common.{◌≡◌, ℕ, ◌+◌, ◌<◌, ◌==◌, Bool, true, false, if◌then◌else◌, List, Option, Some, None, refl, ap, ◌∙◌, arith, encode_utf8_all}
-use Rattle.std.proofs.lemmas.Bool.{eqb-true}
-use Rattle.std.specs.BTreeMap.{get_by_text, btree_map_len}
+use Rattle.std.proofs.Common.{◌≡◌, ℕ, ◌+◌, ◌<◌, ◌==◌, Bool, true, false, ◌⊎◌, inl, inr, if◌then◌else◌, List, [], length, string_bytes, Option, Some, None, refl, ap, sym, ◌∙◌, arith, encode_utf8_all}
+use Rattle.std.proofs.lemmas.Bool.{cases_eq, eqb-true}
+use Rattle.std.specs.BTreeMap.{get_by_text, btree_map_len, is_at}
+use Rattle.std.specs.Cmp.Lexicographic.{slice_cmp}
+use Rattle.std.specs.Map.{lookup}
+use Rattle.std.specs.Ordering.{nat_cmp}
 use Rattle.std.specs.Option.{is_none}
 use Rattle.stx_base.specs.declared.name.Name.{Name}
 use Rattle.stx_base.specs.declared.node.NodeTest.{NodeTest}
 use Rattle.stx_base.specs.declared.node.NodeTest.TheVariants as test
-use Rattle.node_stack.specs.Counts.{Counts, capped, counted, raised}
-use Rattle.node_stack.specs.Names.{CountsName, again_of, elements_of, names_of}
-use Rattle.node_stack.specs.Tally.{counts}
+use Rattle.node_stack.specs.Counts.{Counts, capped, counted, none, raised}
+use Rattle.node_stack.specs.Few.{CountsOne, SameCounts, elements_among, names_among, times_among, told}
+use Rattle.node_stack.specs.Tally.{before, counts, without}
 use Rattle.node_stack.specs.Test.{Element, Pi}
 use Rattle.node_stack.specs.Times.{CountsText, more, once_more, times}
 use Rattle.node_stack.specs.declared.tally.Tally.{Tally}
@@ -37,9 +40,28 @@ new_at : (o : Option ℕ) → (capped (times o) == 0) ≡ is_none o
 new_at None = refl
 new_at (Some n) = not_zero _ (omega arith)
 
+-- one more, where positions tell them apart
+one_told : (b : Bool) (old new : ℕ) → told new ≡ told (if b then old + 1 else old) → capped new ≡ (if b then raised (capped old) else capped old)
+one_told true old new h = omega arith
+one_told false old new h = omega arith
+
+one_before : (b : Bool) (old new : ℕ) → told new ≡ told (if b then old + 1 else old) → without b new ≡ capped old
+one_before true old new h = omega arith
+one_before false old new h = omega arith
+
+more_before : (old new : ℕ) → new ≡ more old → without true new ≡ capped old
+more_before old new h = omega arith
+
+-- what came never is what isn't told
+new_name : (n : ℕ) → (capped n == 0) ≡ (n == 0)
+new_name n = by_cases n (cases_eq n 0) where
+  by_cases : (n : ℕ) → (n ≡ 0) ⊎ (n ≡ 0 → ⊥) → (capped n == 0) ≡ (n == 0)
+  by_cases n (inl e) = rw e refl
+  by_cases n (inr e) = let more : 0 < n = omega arith in not_zero _ (omega arith) ∙ sym (not_zero n more)
+
 -- the counters of new are those of old with one element of the name more
 record OneElement (old new : Tally) (name : Name) : Type 0 where
-  names : CountsName old.namespaces new.namespaces (encode_utf8_all name.uri) (encode_utf8_all name.local)
+  names : CountsOne old.names new.names (encode_utf8_all name.uri) (encode_utf8_all name.local)
   targets : new.targets ≡ old.targets
   elements : new.elements ≡ more old.elements
   nodes : new.nodes ≡ more old.nodes
@@ -50,8 +72,8 @@ record OneElement (old new : Tally) (name : Name) : Type 0 where
 
 element_passing : (old new : Tally) (name : Name) → OneElement old new name → (t : NodeTest) → (counts new).passing t ≡ (counted (Element name) (counts old)).passing t
 element_passing old new name h test.Document = refl
-element_passing old new name h (test.Name n) = ap (λ o. capped (times o)) (h.names.counted _ _) ∙ times_at _ _
-element_passing old new name h (test.Prefix b) = ap capped (h.names.elements _) ∙ count_at _ _
+element_passing old new name h (test.Name n) = one_told _ _ _ (h.names.counted _ _)
+element_passing old new name h (test.Prefix b) = one_told _ _ _ (h.names.elements _)
 element_passing old new name h test.AnyElement = ap capped h.elements ∙ count_at true _
 element_passing old new name h test.AnyNode = ap capped h.nodes ∙ count_at true _
 element_passing old new name h test.Chars = ap capped h.chars
@@ -64,21 +86,21 @@ element_passing old new name h (test.AttrPrefix b) = refl
 element_passing old new name h test.AnyAttr = refl
 
 pub element_counted : (old new : Tally) (name : Name)
-    → CountsName old.namespaces new.namespaces (encode_utf8_all name.uri) (encode_utf8_all name.local)
+    → CountsOne old.names new.names (encode_utf8_all name.uri) (encode_utf8_all name.local)
     → new.targets ≡ old.targets → new.elements ≡ more old.elements → new.nodes ≡ more old.nodes
     → new.chars ≡ old.chars → new.cdata ≡ old.cdata → new.comments ≡ old.comments → new.instructions ≡ old.instructions
     → counts new ≡ counted (Element name) (counts old)
 element_counted old new name names targets elements nodes chars cdata comments instructions =
-    let o : Option ℕ = again_of old.namespaces (encode_utf8_all name.uri) (encode_utf8_all name.local) in
+    let n : ℕ = times_among old.names (encode_utf8_all name.uri) (encode_utf8_all name.local) in
     same_counts (counts new) (counted (Element name) (counts old))
     (element_passing old new name (record { names = names; targets = targets; elements = elements; nodes = nodes; chars = chars; cdata = cdata; comments = comments; instructions = instructions }))
-    (ap (λ n. n + btree_map_len new.targets) names.len ∙ ap (λ t. names_of old.namespaces + (if is_none o then 1 else 0) + btree_map_len t) targets
-    ∙ rw (new_at o) (omega arith))
+    (ap (λ k. k + btree_map_len new.targets) names.len ∙ ap (λ t. names_among old.names + (if n == 0 then 1 else 0) + btree_map_len t) targets
+    ∙ rw (new_name n) (omega arith))
 
 -- the counters of new are those of old with one instruction for the target more
 record OneInstruction (old new : Tally) (target : List ℕ) : Type 0 where
   texts : CountsText old.targets new.targets (encode_utf8_all target)
-  namespaces : new.namespaces ≡ old.namespaces
+  names : new.names ≡ old.names
   instructions : new.instructions ≡ more old.instructions
   nodes : new.nodes ≡ more old.nodes
   chars : new.chars ≡ old.chars
@@ -88,8 +110,8 @@ record OneInstruction (old new : Tally) (target : List ℕ) : Type 0 where
 
 instruction_passing : (old new : Tally) (target : List ℕ) → OneInstruction old new target → (t : NodeTest) → (counts new).passing t ≡ (counted (Pi target) (counts old)).passing t
 instruction_passing old new target h test.Document = refl
-instruction_passing old new target h (test.Name n) = ap (λ m. capped (times (again_of m (encode_utf8_all n.uri) (encode_utf8_all n.local)))) h.namespaces
-instruction_passing old new target h (test.Prefix b) = ap (λ m. capped (elements_of m (encode_utf8_all b.uri))) h.namespaces
+instruction_passing old new target h (test.Name n) = ap (λ m. capped (times_among m (encode_utf8_all n.uri) (encode_utf8_all n.local))) h.names
+instruction_passing old new target h (test.Prefix b) = ap (λ m. capped (elements_among m (encode_utf8_all b.uri))) h.names
 instruction_passing old new target h test.AnyElement = ap capped h.elements
 instruction_passing old new target h test.AnyNode = ap capped h.nodes ∙ count_at true _
 instruction_passing old new target h test.Chars = ap capped h.chars
@@ -103,11 +125,73 @@ instruction_passing old new target h test.AnyAttr = refl
 
 pub instruction_counted : (old new : Tally) (target : List ℕ)
     → CountsText old.targets new.targets (encode_utf8_all target)
-    → new.namespaces ≡ old.namespaces → new.instructions ≡ more old.instructions → new.nodes ≡ more old.nodes
+    → new.names ≡ old.names → new.instructions ≡ more old.instructions → new.nodes ≡ more old.nodes
     → new.chars ≡ old.chars → new.cdata ≡ old.cdata → new.comments ≡ old.comments → new.elements ≡ old.elements
     → counts new ≡ counted (Pi target) (counts old)
-instruction_counted old new target texts namespaces instructions nodes chars cdata comments elements =
+instruction_counted old new target texts names instructions nodes chars cdata comments elements =
     let o : Option ℕ = get_by_text old.targets (encode_utf8_all target) in
     same_counts (counts new) (counted (Pi target) (counts old))
-    (instruction_passing old new target (record { texts = texts; namespaces = namespaces; instructions = instructions; nodes = nodes; chars = chars; cdata = cdata; comments = comments; elements = elements }))
-    (ap (λ n. names_of n + btree_map_len new.targets) namespaces ∙ ap (λ n. names_of old.namespaces + n) texts.len ∙ rw (new_at o) (omega arith))
+    (instruction_passing old new target (record { texts = texts; names = names; instructions = instructions; nodes = nodes; chars = chars; cdata = cdata; comments = comments; elements = elements }))
+    (ap (λ n. names_among n + btree_map_len new.targets) names ∙ ap (λ n. names_among old.names + n) texts.len ∙ rw (new_at o) (omega arith))
+
+-- where the same names came, all is told as before
+pub same_counted : (old new : Tally) → SameCounts old.names new.names → new.targets ≡ old.targets → new.elements ≡ old.elements → new.nodes ≡ old.nodes
+    → new.chars ≡ old.chars → new.cdata ≡ old.cdata → new.comments ≡ old.comments → new.instructions ≡ old.instructions → counts new ≡ counts old
+same_counted old new names targets elements nodes chars cdata comments instructions =
+    same_counts (counts new) (counts old) passing (ap (λ k. k + btree_map_len new.targets) names.len ∙ ap (λ t. names_among old.names + btree_map_len t) targets) where
+      passing : (t : NodeTest) → (counts new).passing t ≡ (counts old).passing t
+      passing test.Document = refl
+      passing (test.Name n) = ap capped (names.counted _ _)
+      passing (test.Prefix b) = ap capped (names.elements _)
+      passing test.AnyElement = ap capped elements
+      passing test.AnyNode = ap capped nodes
+      passing test.Chars = ap capped chars
+      passing test.CData = ap capped cdata
+      passing test.Comment = ap capped comments
+      passing test.AnyPi = ap capped instructions
+      passing (test.Pi t) = ap (λ m. capped (times (get_by_text m (encode_utf8_all t)))) targets
+      passing (test.AttrName n) = refl
+      passing (test.AttrPrefix b) = refl
+      passing test.AnyAttr = refl
+
+-- a list of nothing
+pub none_counted : (t : Tally) → ((cs ds : List ℕ) → times_among t.names cs ds ≡ 0) → ((cs : List ℕ) → elements_among t.names cs ≡ 0) → names_among t.names ≡ 0
+    → t.targets.entries ≡ [] → t.elements ≡ 0 → t.nodes ≡ 0 → t.chars ≡ 0 → t.cdata ≡ 0 → t.comments ≡ 0 → t.instructions ≡ 0 → counts t ≡ none
+none_counted t named within names targets elements nodes chars cdata comments instructions =
+    same_counts (counts t) none passing (ap (λ k. k + btree_map_len t.targets) names ∙ ap (λ es. 0 + length es) targets) where
+      passing : (q : NodeTest) → (counts t).passing q ≡ 0
+      passing test.Document = refl
+      passing (test.Name n) = ap capped (named _ _)
+      passing (test.Prefix b) = ap capped (within _)
+      passing test.AnyElement = ap capped elements
+      passing test.AnyNode = ap capped nodes
+      passing test.Chars = ap capped chars
+      passing test.CData = ap capped cdata
+      passing test.Comment = ap capped comments
+      passing test.AnyPi = ap capped instructions
+      passing (test.Pi u) = ap (λ es. capped (times (lookup (is_at (λ k. slice_cmp nat_cmp (encode_utf8_all u) (string_bytes k))) es))) targets
+      passing (test.AttrName n) = refl
+      passing (test.AttrPrefix b) = refl
+      passing test.AnyAttr = refl
+
+-- without the one element itself, all is told as before
+pub element_before : (old new : Tally) (name : Name)
+    → CountsOne old.names new.names (encode_utf8_all name.uri) (encode_utf8_all name.local)
+    → new.targets ≡ old.targets → new.elements ≡ more old.elements → new.nodes ≡ more old.nodes
+    → new.chars ≡ old.chars → new.cdata ≡ old.cdata → new.comments ≡ old.comments → new.instructions ≡ old.instructions
+    → before new (Element name) ≡ (counts old).passing
+element_before old new name names targets elements nodes chars cdata comments instructions = λ i. λ q. each q i where
+  each : (q : NodeTest) → before new (Element name) q ≡ (counts old).passing q
+  each test.Document = refl
+  each (test.Name n) = one_before _ _ _ (names.counted _ _)
+  each (test.Prefix b) = one_before _ _ _ (names.elements _)
+  each test.AnyElement = more_before _ _ elements
+  each test.AnyNode = more_before _ _ nodes
+  each test.Chars = ap capped chars
+  each test.CData = ap capped cdata
+  each test.Comment = ap capped comments
+  each test.AnyPi = ap capped instructions
+  each (test.Pi t) = ap (λ m. capped (times (get_by_text m (encode_utf8_all t)))) targets
+  each (test.AttrName n) = refl
+  each (test.AttrPrefix b) = refl
+  each test.AnyAttr = refl

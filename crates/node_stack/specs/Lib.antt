@@ -1,4 +1,5 @@
 pub mod Counts
+pub mod Few
 pub mod Laws
 pub mod Listed
 pub mod Names

@@ -1,4 +1,4 @@
--- How often names came, by namespace.
+-- How often names came that are found by a map, by namespace.
 use Rattle.std.specs.Prelude.{◌≡◌, ℕ, ◌+◌, ◌&&◌, if◌then◌else◌, List, Option, sum_by}
 use Rattle.std.specs.BTreeMap.{BTreeMap, get_by_text, btree_map_len, values}
 use Rattle.std.specs.Option.{is_none, option_and_then, option_map_or}
@@ -6,7 +6,7 @@ use Rattle.std.specs.Str.{bytes_eq}
 use Rattle.std.specs.declared.alloc.Global.{Global}
 use Rattle.std.specs.declared.string.String.{String}
 use Rattle.node_stack.specs.Times.{more, once_more}
-use Rattle.node_stack.specs.declared.tally.Namespace.{Namespace}
+use Rattle.node_stack.specs.declared.names.Namespace.{Namespace}
 
 abbrev pub Namespaces : Type 0
 Namespaces = BTreeMap (String Global) Namespace

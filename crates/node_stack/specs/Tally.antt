@@ -4,7 +4,7 @@ use Rattle.std.specs.BTreeMap.{get_by_text, btree_map_len}
 use Rattle.stx_base.specs.declared.node.NodeTest.{NodeTest}
 use Rattle.stx_base.specs.declared.node.NodeTest.TheVariants as test
 use Rattle.node_stack.specs.Counts.{Counts, capped}
-use Rattle.node_stack.specs.Names.{again_of, elements_of, names_of}
+use Rattle.node_stack.specs.Few.{elements_among, names_among, times_among}
 use Rattle.node_stack.specs.Test.{Kind, CData, Element, Chars, Comment, Pi, passes}
 use Rattle.node_stack.specs.Times.{times}
 use Rattle.node_stack.specs.declared.tally.Child.{Child}
@@ -21,8 +21,8 @@ kind_of (child.Pi target) = Pi target.now
 -- how many nodes pass a test
 abbrev pub count_of : Tally → NodeTest → ℕ
 count_of t test.Document = 0
-count_of t (test.Name n) = times (again_of t.namespaces (encode_utf8_all n.uri) (encode_utf8_all n.local))
-count_of t (test.Prefix b) = elements_of t.namespaces (encode_utf8_all b.uri)
+count_of t (test.Name n) = times_among t.names (encode_utf8_all n.uri) (encode_utf8_all n.local)
+count_of t (test.Prefix b) = elements_among t.names (encode_utf8_all b.uri)
 count_of t test.AnyElement = t.elements
 count_of t test.AnyNode = t.nodes
 count_of t test.Chars = t.chars
@@ -37,7 +37,7 @@ count_of t test.AnyAttr = 0
 abbrev pub counts : Tally → Counts
 counts t = record {
   passing = λ q. capped (count_of t q);
-  names = names_of t.namespaces + btree_map_len t.targets;
+  names = names_among t.names + btree_map_len t.targets;
 }
 
 -- without the one node itself, which is counted too

@@ -3,10 +3,12 @@
 
 mod fault;
 pub mod law;
+mod names;
 mod node;
 mod open;
 mod own;
 mod parked;
+mod spare;
 mod stack;
 mod tally;
 mod test;

@@ -12,6 +12,7 @@ ghost use Rattle.node_stack.specs.declared.open.Tip.TheVariants as tips;
 
 use crate::node::{Closed, Leaf, NodeView};
 use crate::own::Own;
+use crate::spare::SpareNames;
 use crate::tally::{Child, MOST, Tally};
 use crate::test::passes;
 use stx_base::{Attr, Binding, First, List, Memory, Name, NodeTest};
@@ -41,7 +42,8 @@ impl OpenElement {
         }
     }
 
-    pub fn closed(self) -> Closed
+    /// The texts and the list of its counters are kept for others.
+    pub fn closed(self, spare: &mut SpareNames) -> Closed
         ensures { closed_node result ≡ element_of self }
     {
         let OpenElement {
@@ -49,9 +51,10 @@ impl OpenElement {
             attrs,
             decls,
             first,
-            children: _,
+            children,
             own: _,
         } = self;
+        children.give_back(spare);
         Closed::Element {
             name,
             attrs,
@@ -83,13 +86,14 @@ pub(crate) fn count_child(
     document: &mut Tally,
     elements: &mut [OpenElement],
     child: Child<'_>,
+    spare: &mut SpareNames,
 ) -> Result<(), Memory>
     ensures ok { OnOk result (HasChild document.old elements.old document.new elements.new (kind_of child.entry)) }
     ensures err { OnErr result (nodes_of document.new elements.new None ≡ nodes_of document.old elements.old None) }
 {
     match elements.last_mut() {
-        Some(element) => element.children.add(child),
-        None => document.add(child),
+        Some(element) => element.children.add(child, spare),
+        None => document.add(child, spare),
     }
 }
 

@@ -8,6 +8,7 @@ use crate::open::{
     siblings, taken_leaf, tip_is_told, tip_position, view_tip,
 };
 use crate::parked::{Parked, Waiting, put_aside};
+use crate::spare::SpareNames;
 use crate::tally::{Child, Tally};
 use std::alloc::Global;
 use stx_base::{Attr, Binding, First, List, Memory, Name, NodeTest, Text};
@@ -25,6 +26,7 @@ pub struct NodeStack {
     tip: Option<Tip>,
     /// The string value of nodes that have none.
     empty: Text,
+    spare: SpareNames,
     ghost limited: { limit + 1 < 2 ^ 32 },
     ghost bounded: { length elements.items ≤ limit },
     ghost no_text: { empty ≡ [] },
@@ -40,13 +42,15 @@ impl NodeStack {
         requires { limit + 1 < 2 ^ 32 }
         ensures { IfOk result (λ stack. path stack ≡ document_alone limit) }
     {
+        let mut spare = SpareNames::new(alloc);
         Ok(NodeStack {
             alloc,
             limit,
-            document: Tally::new(alloc),
+            document: Tally::new(alloc, &mut spare),
             elements: Vec::new(alloc),
             tip: None,
             empty: Text::new(alloc),
+            spare,
         })
     }
 
@@ -69,13 +73,14 @@ impl NodeStack {
             return Err(StackFault::Depth);
         }
         self.elements.reserve(1)?;
-        let children = Tally::new(self.alloc);
+        let children = Tally::new(self.alloc, &mut self.spare);
         // Nothing stands on the current node: at most a number is left there that no attribute has.
         self.tip = None;
         count_child(
             &mut self.document,
             &mut self.elements,
             Child::Element(&name),
+            &mut self.spare,
         )?;
         self.elements.push(OpenElement {
             name,
@@ -95,7 +100,12 @@ impl NodeStack {
         ensures err { OnErr result (path self.new ≡ path self.old) }
     {
         self.tip = None;
-        count_child(&mut self.document, &mut self.elements, child_of(&leaf))?;
+        count_child(
+            &mut self.document,
+            &mut self.elements,
+            child_of(&leaf),
+            &mut self.spare,
+        )?;
         self.tip = Some(Tip::Leaf(leaf, None));
         Ok(())
     }
@@ -107,7 +117,7 @@ impl NodeStack {
         ensures path { path self.new ≡ left (path self.old) }
     {
         match self.end() {
-            Ended::Element(element) => element.closed(),
+            Ended::Element(element) => element.closed(&mut self.spare),
             Ended::Leaf(leaf, _) => Closed::Leaf(leaf),
         }
     }

@@ -1,15 +1,11 @@
 //! Counters of the nodes that a list has had so far.
 
-ghost use Rattle.std.specs.Prelude.{◌≡◌, ◌+◌, ◌-◌, ◌^◌, min, OnOk, OnErr, None, encode_utf8_all};
-ghost use Rattle.std.specs.BTreeMap.{IsUnchanged};
-ghost use Rattle.std.specs.Option.{option_copied};
-ghost use Rattle.node_stack.specs.Counts.{capped};
-ghost use Rattle.node_stack.specs.Times as spec;
-ghost use Rattle.node_stack.specs.Times.{more, CountsText};
-ghost use Rattle.node_stack.specs.Names.{again_of, elements_of, CountsName, SameNames};
+ghost use Rattle.std.specs.Prelude.{◌≡◌, ◌-◌, ◌^◌, min, OnOk, OnErr, None};
 
+use crate::names::{Names, count_text, times};
 use crate::node::NodeView;
 use crate::own::Own;
+use crate::spare::SpareNames;
 use std::alloc::Global;
 use std::collections::BTreeMap;
 use stx_base::{Memory, Name, NodeTest, Text};
@@ -27,19 +23,11 @@ pub(crate) enum Child<'a> {
     Pi(&'a Text),
 }
 
-/// The elements of one namespace.
-#[derive(Drop)]
-pub(crate) struct Namespace {
-    elements: u64,
-    /// How often each local part came again after it first came.
-    names: BTreeMap<String, u64>,
-}
-
 /// How many nodes of each kind a list has had. Names and targets are kept once.
 #[derive(Drop)]
 pub(crate) struct Tally {
     alloc: Global,
-    namespaces: BTreeMap<String, Namespace>,
+    names: Names,
     /// How often each target came again after it first came.
     targets: BTreeMap<String, u64>,
     nodes: u64,
@@ -58,12 +46,12 @@ impl Tally {
     ghost use Rattle.node_stack.specs.Test.{Element, CData, Chars, Comment, Pi};
 
     /// Allocates nothing.
-    pub fn new(alloc: Global) -> Tally
+    pub fn new(alloc: Global, spare: &mut SpareNames) -> Tally
         ensures { counts result ≡ none }
     {
         Tally {
             alloc,
-            namespaces: BTreeMap::new(alloc),
+            names: Names::new(alloc, spare.list()),
             targets: BTreeMap::new(alloc),
             nodes: 0,
             elements: 0,
@@ -75,13 +63,13 @@ impl Tally {
     }
 
     /// Counts a node. After a refusal nothing has changed.
-    pub fn add(&mut self, child: Child<'_>) -> Result<(), Memory>
+    pub fn add(&mut self, child: Child<'_>, spare: &mut SpareNames) -> Result<(), Memory>
         ensures counts { OnOk result (counts self.new ≡ counted (kind_of child.entry) (counts self.old)) }
         ensures before { OnOk result (before self.new (kind_of child.entry) ≡ (counts self.old).passing) }
         ensures err { OnErr result (counts self.new ≡ counts self.old) }
     {
         match child {
-            Child::Element(name) => self.add_element(name),
+            Child::Element(name) => self.add_element(name, spare),
             Child::Pi(target) => self.add_instruction(target),
             Child::Chars => {
                 self.add_chars();
@@ -98,12 +86,12 @@ impl Tally {
         }
     }
 
-    fn add_element(&mut self, name: &Name) -> Result<(), Memory>
+    fn add_element(&mut self, name: &Name, spare: &mut SpareNames) -> Result<(), Memory>
         ensures counts { OnOk result (counts self.new ≡ counted (Element name.now) (counts self.old)) }
         ensures before { OnOk result (before self.new (Element name.now) ≡ (counts self.old).passing) }
         ensures err { OnErr result (counts self.new ≡ counts self.old) }
     {
-        count_name(self.alloc, &mut self.namespaces, name)?;
+        self.names.count(name, spare)?;
         self.elements = self.elements.saturating_add(1);
         self.nodes = self.nodes.saturating_add(1);
         Ok(())
@@ -145,6 +133,22 @@ impl Tally {
         self.nodes = self.nodes.saturating_add(1);
     }
 
+    /// Keeps what can be used again.
+    pub fn give_back(self, spare: &mut SpareNames) {
+        let Tally {
+            alloc: _,
+            names,
+            targets: _,
+            nodes: _,
+            elements: _,
+            chars: _,
+            cdata: _,
+            comments: _,
+            instructions: _,
+        } = self;
+        spare.keep(names);
+    }
+
     /// How many nodes pass a test, without the one node of the list that is asked about, where it passes too.
     pub fn earlier(&self, test: &NodeTest, is_passed: bool) -> u64
         ensures { result ≡ without is_passed (count_of self.now test.now) }
@@ -164,8 +168,8 @@ impl Tally {
     {
         match node {
             NodeView::Element { name, .. } => Own::beside_one(
-                times_named(&self.namespaces, name),
-                elements_within(&self.namespaces, &name.uri),
+                self.names.times(name),
+                self.names.within(&name.uri),
                 self.elements,
                 self.nodes,
             ),
@@ -187,8 +191,8 @@ impl Tally {
         ensures { result ≡ min (2 ^ 64 - 1) (count_of self.now test.now) }
     {
         match test {
-            NodeTest::Name(name) => times_named(&self.namespaces, name),
-            NodeTest::Prefix(binding) => elements_within(&self.namespaces, &binding.uri),
+            NodeTest::Name(name) => self.names.times(name),
+            NodeTest::Prefix(binding) => self.names.within(&binding.uri),
             NodeTest::AnyElement => self.elements,
             NodeTest::AnyNode => self.nodes,
             NodeTest::Chars => self.chars,
@@ -202,78 +206,4 @@ impl Tally {
             | NodeTest::AnyAttr => 0,
         }
     }
-}
-
-/// How often something came that came again so often.
-fn times(again: Option<&u64>) -> u64
-    ensures { result ≡ min (2 ^ 64 - 1) (spec.times (option_copied again.entry)) }
-{
-    match again {
-        Some(again) => again.saturating_add(1),
-        None => 0,
-    }
-}
-
-fn times_named(namespaces: &BTreeMap<String, Namespace>, name: &Name) -> u64
-    ensures { result ≡ min (2 ^ 64 - 1) (spec.times (again_of namespaces.now (encode_utf8_all name.now.uri) (encode_utf8_all name.now.local))) }
-{
-    match namespaces.get(name.uri.as_str()) {
-        Some(namespace) => times(namespace.names.get(name.local.as_str())),
-        None => 0,
-    }
-}
-
-fn elements_within(namespaces: &BTreeMap<String, Namespace>, uri: &Text) -> u64
-    ensures { result ≡ elements_of namespaces.now (encode_utf8_all uri.now) }
-{
-    match namespaces.get(uri.as_str()) {
-        Some(namespace) => namespace.elements,
-        None => 0,
-    }
-}
-
-/// Counts a name. After a refusal nothing has changed.
-fn count_name(
-    alloc: Global,
-    namespaces: &mut BTreeMap<String, Namespace>,
-    name: &Name,
-) -> Result<(), Memory>
-    ensures ok { OnOk result (CountsName namespaces.old namespaces.new (encode_utf8_all name.now.uri) (encode_utf8_all name.now.local)) }
-    ensures err { OnErr result (SameNames namespaces.old namespaces.new) }
-{
-    if let Some(namespace) = namespaces.get_mut(name.uri.as_str()) {
-        return count_local(alloc, namespace, &name.local);
-    }
-    let mut namespace = Namespace {
-        elements: 0,
-        names: BTreeMap::new(alloc),
-    };
-    count_local(alloc, &mut namespace, &name.local)?;
-    let uri = String::from_str(alloc, name.uri.as_str())?;
-    namespaces.insert(uri, namespace)?;
-    Ok(())
-}
-
-fn count_local(alloc: Global, namespace: &mut Namespace, local: &Text) -> Result<(), Memory>
-    ensures elements { OnOk result (namespace.new.elements ≡ more namespace.old.elements) }
-    ensures names { OnOk result (CountsText namespace.old.names namespace.new.names (encode_utf8_all local.now)) }
-    ensures same_elements { OnErr result (namespace.new.elements ≡ namespace.old.elements) }
-    ensures same_names { OnErr result (IsUnchanged namespace.old.names namespace.new.names) }
-{
-    count_text(alloc, &mut namespace.names, local)?;
-    namespace.elements = namespace.elements.saturating_add(1);
-    Ok(())
-}
-
-fn count_text(alloc: Global, counts: &mut BTreeMap<String, u64>, text: &Text) -> Result<(), Memory>
-    ensures ok { OnOk result (CountsText counts.old counts.new (encode_utf8_all text.now)) }
-    ensures err { OnErr result (IsUnchanged counts.old counts.new) }
-{
-    if let Some(again) = counts.get_mut(text.as_str()) {
-        *again = again.saturating_add(1);
-        return Ok(());
-    }
-    let text = String::from_str(alloc, text.as_str())?;
-    counts.insert(text, 0)?;
-    Ok(())
 }
