@@ -4,9 +4,12 @@ mod Attributed
 mod Bound
 mod Escaping
 mod Growing
+mod InFront
+mod Index
 mod Judging
 mod Nesting
 mod Opening
+mod Places
 mod Prefixing
 mod Steadying
 mod Tabling

@@ -7,7 +7,7 @@ use Rattle.stx_base.specs.declared.name.Attr.{Attr}
 use Rattle.stx_base.specs.declared.name.Binding.{Binding}
 use Rattle.stx_base.specs.declared.name.Name.{Name}
 use Rattle.result_writer.specs.Allowed.{is_empty, same}
-use Rattle.result_writer.specs.Table.{HasPassed, attribute_prefix, bound, bound_from, entered, free_from, free_prefix, has_prefix, numbered, prefixes, with_attributes, with_name}
+use Rattle.result_writer.specs.Table.{HasPassed, attribute_prefix, entered, free_from, free_prefix, has_prefix, numbered, prefixes, with_attributes, with_name}
 
 -- a prefix that the table has is passed by
 pub free_from-more : (table : List Binding) (k n : ℕ) → k < n → has_prefix table (numbered k) ≡ true → free_from table k (n - k) ≡ free_from table (k + 1) (n - (k + 1))
@@ -61,14 +61,6 @@ passed-with_name table name n h = by_test (is_empty name.uri) where
   by_test true = h
   by_test false = passed-entered table (attribute_prefix table name) name.uri n h
 
--- the last binding decides
-bound_from-last : (uri : List ℕ) (bs : List Binding) (b : Binding) (prefix : List ℕ) → bound_from uri (bs ++ b ∷ []) prefix ≡ (if same b.prefix prefix then b.uri else bound_from uri bs prefix)
-bound_from-last uri [] b prefix = refl
-bound_from-last uri (c ∷ bs) b prefix = bound_from-last (if same c.prefix prefix then c.uri else uri) bs b prefix
-
-pub bound-last : (bs : List Binding) (b : Binding) (prefix : List ℕ) → bound (bs ++ b ∷ []) prefix ≡ (if same b.prefix prefix then b.uri else bound bs prefix)
-bound-last bs b prefix = bound_from-last [] bs b prefix
-
 attribute_step : (table : List Binding) (attrs : List Attr) (i : ℕ) (a : Attr) → i < length attrs → a ≡ get_or attrs i a → drop i attrs ≡ a ∷ drop (i + 1) attrs
 attribute_step table attrs i a h e = at_drop_more (λ (l : List Attr). l) attrs i a h ∙ ap (λ x. x ∷ drop (i + 1) attrs) (sym e)
 
@@ -79,9 +71,3 @@ with_attributes-step table attrs i a h e = ap (with_attributes table) (attribute
 pub prefixes-step : (table : List Binding) (attrs : List Attr) (i : ℕ) (a : Attr) → i < length attrs → a ≡ get_or attrs i a →
     prefixes table (drop i attrs) ≡ attribute_prefix table a.name ∷ prefixes (with_name table a.name) (drop (i + 1) attrs)
 prefixes-step table attrs i a h e = ap (prefixes table) (attribute_step table attrs i a h e)
-
-pub bound-here : (bs others : List Binding) (b : Binding) (prefix : List ℕ) → bs ≡ others ++ b ∷ [] → same b.prefix prefix ≡ true → bound bs prefix ≡ b.uri
-bound-here bs others b prefix e s = ap (λ l. bound l prefix) e ∙ bound-last others b prefix ∙ ap (λ t. if t then b.uri else bound others prefix) s
-
-pub bound-before : (bs others : List Binding) (b : Binding) (prefix : List ℕ) → bs ≡ others ++ b ∷ [] → same b.prefix prefix ≡ false → bound bs prefix ≡ bound others prefix
-bound-before bs others b prefix e s = ap (λ l. bound l prefix) e ∙ bound-last others b prefix ∙ ap (λ t. if t then b.uri else bound others prefix) s

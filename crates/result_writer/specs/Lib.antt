@@ -1,6 +1,7 @@
 pub mod Allowed
 pub mod Attributes
 pub mod Escape
+pub mod InForce
 pub mod Laws
 pub mod Nodes
 pub mod Opened

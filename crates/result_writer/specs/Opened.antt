@@ -35,7 +35,7 @@ held around = held_if around.holds around.tag
 abbrev pub target_of : Inside → Target
 target_of t = record {
   limit = t.limit;
-  left = record { elements = elements (reverse t.around.elements.items) t.around.bindings.items; held = held t.around };
+  left = record { elements = elements (reverse t.around.elements.items) t.around.bindings; held = held t.around };
   last = t.around.tag.scope;
 }
 
@@ -46,8 +46,8 @@ declared_by (e ∷ outer) = declared_by outer + e.declared
 
 -- there are no other bindings, a scope that is said to be in force is, and names were judged when their elements started
 pub record IsSound (t : Inside) : Type 0 where
-  pub counted : declared_by (reverse t.around.elements.items) ≡ length t.around.bindings.items
-  pub kept : t.around.keeps ≡ true → keep_bindings t.around.bindings.items t.around.tag.scope ≡ true
+  pub counted : declared_by (reverse t.around.elements.items) ≡ length t.around.bindings
+  pub kept : t.around.keeps ≡ true → keep_bindings t.around.bindings t.around.tag.scope ≡ true
   pub opened : list_all (λ e. is_good_name e.name) t.around.elements.items ≡ true
   pub held_back : t.around.holds ≡ true → is_good_name t.around.tag.name ≡ true
 
@@ -92,15 +92,15 @@ beside_tags p = Some p
 -- what settling leaves
 pub record Settles (old : Around) (d : Option Dressed) (new : Around) : Type 0 where
   pub elements : new.elements.items ≡ old.elements.items ++ elements_of (held old) d
-  pub bindings : new.bindings.items ≡ old.bindings.items ++ declared_in d
+  pub bindings : new.bindings ≡ old.bindings ++ declared_in d
   pub scope : new.tag.scope ≡ old.tag.scope
   pub attrs : new.tag.attrs ≡ old.tag.attrs
-  pub keeps : new.keeps ≡ true → keep_bindings new.bindings.items new.tag.scope ≡ true
+  pub keeps : new.keeps ≡ true → keep_bindings new.bindings new.tag.scope ≡ true
   pub settled : new.holds ≡ false
 
 pub record SameAround (old new : Around) : Type 0 where
   pub elements : new.elements.items ≡ old.elements.items
-  pub bindings : new.bindings.items ≡ old.bindings.items
+  pub bindings : new.bindings ≡ old.bindings
   pub tag : new.tag ≡ old.tag
   pub holds : new.holds ≡ old.holds
   pub keeps : new.keeps ≡ old.keeps

@@ -7,6 +7,7 @@ mod bytes;
 mod chars;
 mod escape;
 mod fault;
+mod in_force;
 pub mod law;
 mod opened;
 mod order;

@@ -19,6 +19,7 @@ use crate::allowed::{
 use crate::attributes::Attributes;
 use crate::bytes::{append, append_byte, append_two};
 use crate::fault::{ResultFault, WriteStop};
+use crate::in_force::InForce;
 use crate::steady::{copy_unless_same, keep_bindings, keeps_names, unless_same};
 use crate::tag::{Dressed, HeldTag, append_end_tag, append_open_tag, dress};
 use crate::words::{is_empty, same_name};
@@ -60,7 +61,7 @@ pub struct Around {
     /// The innermost last.
     elements: Vec<OpenElement>,
     /// What they declared, the innermost last. So a prefix is looked up among the changes alone.
-    bindings: Vec<Binding>,
+    bindings: InForce,
     /// The last tag. Once it is settled it stays for its scope, with which the next one often comes, and for its room.
     tag: HeldTag,
     /// Whether it is held back.
@@ -99,7 +100,7 @@ impl Opened {
             limit,
             around: Around {
                 elements: Vec::new(alloc),
-                bindings: Vec::new(alloc),
+                bindings: InForce::new(alloc),
                 tag: no_tag(alloc),
                 holds: false,
                 keeps: true,
@@ -602,7 +603,7 @@ impl Around {
     /// The tag that is held back is settled: its element is open. After a refusal all is unchanged.
     #[inline(always)]
     fn settle(&mut self, alloc: Global, dressed: Option<Dressed>) -> Result<(), Memory>
-        requires { self.old.keeps ≡ true → keep_bindings self.old.bindings.items self.old.tag.scope ≡ true }
+        requires { self.old.keeps ≡ true → keep_bindings self.old.bindings self.old.tag.scope ≡ true }
         ensures ok { OnOk result (Settles self.old (dressing (held self.old) dressed) self.new) }
         ensures err { OnErr result (SameAround self.old self.new) }
     {
@@ -619,7 +620,7 @@ impl Around {
     #[inline(always)]
     fn settle_undressed(&mut self, alloc: Global) -> Result<(), Memory>
         requires holds { self.old.holds ≡ true }
-        requires keeps { self.old.keeps ≡ true → keep_bindings self.old.bindings.items self.old.tag.scope ≡ true }
+        requires keeps { self.old.keeps ≡ true → keep_bindings self.old.bindings self.old.tag.scope ≡ true }
         ensures ok { OnOk result (Settles self.old (dressing (held self.old) None) self.new) }
         ensures err { OnErr result (SameAround self.old self.new) }
     {
@@ -640,9 +641,9 @@ impl Around {
             prefixes: _prefixes,
         } = dressed;
         self.elements.reserve(1)?;
-        self.bindings.reserve(declared.len())?;
-        self.open(alloc, declared.len());
-        let _ = self.bindings.append(&mut declared.into_vec());
+        let count = declared.len();
+        self.bindings.extend(declared)?;
+        self.open(alloc, count);
         // What the tag declares is in force from here on, and most elements in it have its scope.
         self.keeps = keep_bindings(&self.bindings, self.tag.scope.as_slice());
         Ok(())
@@ -671,7 +672,7 @@ impl Around {
         requires { self.old.tag.attrs ≡ [] }
         ensures tag { self.new.tag ≡ record { name = name; scope = unwrap_or other self.old.tag.scope; attrs = [] } }
         ensures holds { self.new.holds ≡ true }
-        ensures keeps { self.new.keeps ≡ true → (other ≡ None → self.old.keeps ≡ true) × (is_some other ≡ true → keep_bindings self.old.bindings.items self.new.tag.scope ≡ true) }
+        ensures keeps { self.new.keeps ≡ true → (other ≡ None → self.old.keeps ≡ true) × (is_some other ≡ true → keep_bindings self.old.bindings self.new.tag.scope ≡ true) }
         ensures elements { self.new.elements ≡ self.old.elements }
         ensures bindings { self.new.bindings ≡ self.old.bindings }
     {

@@ -4,6 +4,7 @@ ghost use Rattle.std.specs.Prelude.{◌≡◌, [], IfOk, OnOk, length, insert, �
 ghost use Rattle.stx_base.specs.declared.name.Binding.{Binding};
 ghost use Rattle.result_writer.specs.Table.{declarations, placed, precedes};
 
+use crate::in_force::InForce;
 use crate::table::is_new;
 use std::alloc::Global;
 use stx_base::{Binding, Copied, List, Memory, Text};
@@ -30,7 +31,7 @@ fn place(sorted: &[Binding], prefix: &Text) -> usize
 /// What a tag with this table has to declare, where these bindings are in force.
 pub fn declarations(
     alloc: Global,
-    in_force: &[Binding],
+    in_force: &InForce,
     table: &List<Binding>,
 ) -> Result<List<Binding>, Memory>
     ensures { IfOk result (λ made. made ≡ declarations in_force.now table.now) }

@@ -4,6 +4,7 @@ ghost use Rattle.std.specs.Prelude.{◌≡◌, if◌then◌else◌, IfOk, OnOk};
 ghost use Rattle.result_writer.specs.Allowed.{is_empty, same};
 ghost use Rattle.result_writer.specs.Table.{attribute_prefix, bound, entered, free_prefix, HasPassed, has_prefix, is_new, is_taken, numbered, prefixes, with_attributes, with_scope};
 
+use crate::in_force::InForce;
 use crate::words::{is_empty, is_word, same};
 use std::alloc::Global;
 use stx_base::{Attr, Binding, Copied, List, Memory, Name, Text};
@@ -128,21 +129,17 @@ pub fn enter_scope(
 }
 
 /// Whether the last of the bindings of this prefix has this URI; none has the empty one.
-pub fn is_bound(in_force: &[Binding], prefix: &Text, uri: &Text) -> bool
+pub fn is_bound(in_force: &InForce, prefix: &Text, uri: &Text) -> bool
     ensures { result ≡ same (bound in_force.now prefix.now) uri.now }
 {
-    let mut rest = in_force;
-    while let Some((last, others)) = rest.split_last() {
-        if same(&last.prefix, prefix) {
-            return same(&last.uri, uri);
-        }
-        rest = others;
+    match in_force.uri(prefix) {
+        Some(bound) => same(bound, uri),
+        None => is_empty(uri),
     }
-    is_empty(uri)
 }
 
 /// Whether an entry has to be declared, where these bindings are in force.
-pub fn is_new(in_force: &[Binding], entry: &Binding) -> bool
+pub fn is_new(in_force: &InForce, entry: &Binding) -> bool
     ensures { result ≡ is_new in_force.now entry.now }
 {
     !is_word(&entry.prefix, "xml") && !is_bound(in_force, &entry.prefix, &entry.uri)

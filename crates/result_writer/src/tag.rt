@@ -9,6 +9,7 @@ ghost use Rattle.result_writer.specs.Tag.{attribute, attributes, declaration, dr
 use crate::attributes::Attributes;
 use crate::bytes::{append, append_byte, append_two};
 use crate::escape::{Context, append_escaped};
+use crate::in_force::InForce;
 use crate::order::declarations;
 use crate::steady::keeps_names;
 use crate::table::{enter, enter_attributes, enter_scope};
@@ -38,7 +39,7 @@ pub struct Dressed {
 #[inline(always)]
 pub fn dress(
     alloc: Global,
-    in_force: &[Binding],
+    in_force: &InForce,
     tag: &HeldTag,
     keeps: bool,
 ) -> Result<Option<Dressed>, Memory>
@@ -63,7 +64,7 @@ pub fn attribute_prefixes(alloc: Global, name: &Name, attrs: &[Attr]) -> Result<
 }
 
 #[inline(never)]
-fn dress_by_table(alloc: Global, in_force: &[Binding], tag: &HeldTag) -> Result<Dressed, Memory>
+fn dress_by_table(alloc: Global, in_force: &InForce, tag: &HeldTag) -> Result<Dressed, Memory>
     ensures { IfOk result (λ made. made ≡ dressed in_force.now tag.now) }
 {
     let mut table = List::new(alloc);

@@ -10,7 +10,7 @@ pub returns : goal.returns
 returns c =
     let t = c.self.inside in
     let tag = t.around.tag in
-    let es = elements (reverse t.around.elements.items) t.around.bindings.items in
+    let es = elements (reverse t.around.elements.items) t.around.bindings in
     let parts = map attribute_part c.args.attrs in
     let bare = c.requires.bare in
     let back = held_back t.around.holds tag bare.0 (ap (λ (t : Target). t.left.held) c.self.view_is ∙ bare.1) in

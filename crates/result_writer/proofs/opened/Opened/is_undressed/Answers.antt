@@ -11,11 +11,11 @@ pub returns-then-around : goal.returns-then-around
 returns-then-around c h =
     let t = c.self.inside in
     let tag = t.around.tag in
-    let bindings = t.around.bindings.items in
+    let bindings = t.around.bindings in
     let es = elements (reverse t.around.elements.items) bindings in
     let holds : t.around.holds ≡ true = c.if-not-around.false in
     let names : keeps_names bindings tag ≡ true =
-    sym (ap (λ l. keeps_names l tag) c.deref.ensures.value) ∙ sym c.keeps_names.ensures ∙ h in
+    sym c.keeps_names.ensures ∙ h in
     sym (ap (λ (t : Target). dressing t.left.held None) c.self.view_is)
     ∙ ap (λ k. dressing (held_if k tag) None) holds
     ∙ ap Some

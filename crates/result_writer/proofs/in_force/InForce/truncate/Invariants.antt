@@ -1,0 +1,9 @@
+use Rattle.std.proofs.Common.{◌≡◌, length, take}
+use Rattle.result_writer.proofs.in_force.InForce.truncate.Given as goal
+
+-- some of the last bindings are taken off
+abbrev pub invariant-loop-self : goal.invariant-loop-self
+invariant-loop-self l = take l.len l.self ≡ take l.len l.initial.self
+
+abbrev pub decreases-loop-self : goal.decreases-loop-self
+decreases-loop-self l = length l.self
