@@ -90,7 +90,7 @@ of_candidate : (s : Sheet) (base : ℕ) (active : List ℕ) (sees : (group : ℕ
 of_candidate s base active sees scope built c h is_asked test e among can =
     let q : Asked = record { sheet = s; active = active; settings = sees } in
     let key : Key = record { home = h; test = test } in
-    let (t, a, is_t, is_a, at) = found_at (stands_at s scope.words key e) s e (all_among (λ e. stands s scope.words key e ≡ true) (row scope.rows key) e (built key).only among) in
+    let (t, a, is_t, is_a, at) = found_at (stands_at s scope.words key e) s e (all_among (λ e. stands s scope.words key e ≡ true) (row scope.rows key) e (built.rows key).only among) in
     let parts = both (is_home h s.groups t) _ at in
     let priority = int_is e.priority (priority_of t a) (both (same_test (numbered scope.words (test_of a)) test) (int_eq e.priority (priority_of t a)) parts.1).1 in
     let (x, of_t, no_better) = has_category s base t c h is_asked parts.0 in
@@ -152,7 +152,7 @@ all_asked s base active seen limits path scope n is_node built r among =
     let key : Key = record { home = h; test = test } in
     let at_home = and_both (is_home h s.groups t) _ is_in (and_both (same_test test test) (int_eq (priority_of t a) (priority_of t a)) (laws-law.refl test) (int_same (priority_of t a))) in
     let e_stands = at_found false (stands_at s scope.words key e) s e t a is_t is_a ∙ at_home in
-    let (f, f_in, e_f) = any_among (is_same e) (row scope.rows key) ((built key).each e e_stands) in
+    let (f, f_in, e_f) = any_among (is_same e) (row scope.rows key) ((built.rows key).each e e_stands) in
     let e_in = subst (λ y. Among (row scope.rows key) y) (sym (entry_is e f e_f)) f_in in
     let in_ranks = among_map (λ e. ranked e x) (filter (can_be q) (row scope.rows key)) e (among_filter (can_be q) (row scope.rows key) e e_in can) in
     let passes_it = subst (λ o. node_passes (test_of a) o ≡ true) is_node (fitting_passes a (sees t.group) a_fits) in

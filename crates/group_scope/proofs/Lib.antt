@@ -15,3 +15,5 @@ mod Gathering
 mod Sorting
 mod Filled
 mod Lawful
+mod Numbering
+mod Marking

@@ -24,6 +24,16 @@ grown {E = E} {eq = eq} laws old new key e row updates is other =
       | false ↦ λ differ u. ap (λ (o : Option (List E)). unwrap_or o []) u
     ] refl (updates other)
 
+-- and where it took none
+pub ungrown : {K E : Type 0} {eq : K → K → Bool} (laws : IsEquivalence eq) (old new : List (K × List E)) (key : K) (row : List E)
+    → ((q : K) → lookup (eq q) new ≡ cond (eq key q) (Some row) (lookup (eq q) old)) → Some row ≡ lookup (eq key) old
+    → (other : K) → unwrap_or (lookup (eq other) new) [] ≡ unwrap_or (lookup (eq other) old) []
+ungrown {E = E} {eq = eq} laws old new key row updates is other =
+    elim (eq key other) as (λ b. eq key other ≡ b → lookup (eq other) new ≡ cond b (Some row) (lookup (eq other) old) → unwrap_or (lookup (eq other) new) [] ≡ unwrap_or (lookup (eq other) old) []) [
+      | true ↦ λ same u. ap (λ (o : Option (List E)). unwrap_or o []) (u ∙ is ∙ lookup_congr eq laws.congr old key other same)
+      | false ↦ λ differ u. ap (λ (o : Option (List E)). unwrap_or o []) u
+    ] refl (updates other)
+
 entered-append : (as_ bs : List (Option Home)) (test : Test) (key : Key) (e : Entry) → entered (as_ ++ bs) test key e ≡ entered as_ test key e ++ entered bs test key e
 entered-append [] bs test key e = refl
 entered-append (None ∷ as_) bs test key e = entered-append as_ bs test key e

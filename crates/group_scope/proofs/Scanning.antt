@@ -5,6 +5,7 @@ use Rattle.std.proofs.lemmas.Grind.{flat_map-append}
 use Rattle.group_scope.specs.Asking.{Asked, can_be, is_better_than_best, may_be_better, ranks, ranks_of_home, ranks_of_test}
 use Rattle.group_scope.specs.Entries.{IsBestFirst, ranked}
 use Rattle.group_scope.specs.Rank.{improved, is_better, is_better_within, number_of}
+use Rattle.group_scope.specs.Rows.{row}
 use Rattle.group_scope.specs.declared.entry.Entry.{Entry}
 use Rattle.group_scope.specs.declared.key.Home.{Home}
 use Rattle.group_scope.specs.declared.key.Test.{Test}
@@ -128,3 +129,13 @@ test_more q rows c h best tests i test l at =
     ap (λ ts. improved best (ranks_of_home q rows ts c h)) (take_more tests i test l ∙ ap (λ y. take i tests ++ y ∷ []) (sym at))
     ∙ ap (improved best) (flat_map-append (ranks_of_test q rows c h) (take i tests) (test ∷ []) ∙ ap (λ l. ranks_of_home q rows (take i tests) c h ++ l) (append-nil (ranks_of_test q rows c h test)))
     ∙ improved-append best (ranks_of_home q rows (take i tests) c h) (ranks_of_test q rows c h test)
+
+-- a home without rows adds nothing
+pub no_rows : (q : Asked) (rows : Rows) (tests : List (Option Test)) (c : Category) (h : Home) (best : Option Rank) → ((test : Test) → row rows (record { home = h; test = test }) ≡ [])
+    → best ≡ improved best (ranks_of_home q rows tests c h)
+no_rows q rows tests c h best none = sym (ap (improved best) (empty tests))
+  where
+    empty : (tests : List (Option Test)) → ranks_of_home q rows tests c h ≡ []
+    empty [] = refl
+    empty (None ∷ tests) = empty tests
+    empty (Some test ∷ tests) = ap (λ row. ranks q c row ++ ranks_of_home q rows tests c h) (none test) ∙ empty tests

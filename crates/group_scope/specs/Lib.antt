@@ -3,6 +3,7 @@ pub mod Choice
 pub mod Words
 pub mod Entries
 pub mod Homes
+pub mod Keyed
 pub mod Rows
 pub mod Filling
 pub mod Scopes

@@ -10,7 +10,7 @@ use Rattle.group_scope.specs.Choice.{priority_of}
 use Rattle.group_scope.specs.Entries.{IsBestFirst, at_entry, is_same}
 use Rattle.group_scope.specs.Homes.{is_home}
 use Rattle.group_scope.specs.Rows.{Key, row}
-use Rattle.group_scope.specs.Words.{numbered}
+use Rattle.group_scope.specs.Words.{all_are_numbered, numbered}
 use Rattle.group_scope.specs.contracts.key.TestPartialEq.TheImpl as test_eq
 use Rattle.group_scope.specs.declared.entry.Entry.{Entry}
 use Rattle.group_scope.specs.declared.key.Test.{Test}
@@ -34,6 +34,7 @@ pub record IsRow (s : Sheet) (words : Words) (key : Key) (es : List Entry) : Typ
   pub each : (e : Entry) → stands s words key e ≡ true → IsTrue (list_any (is_same e) es)
   pub best_first : IsBestFirst es
 
--- the scope was built for the sheet
-abbrev pub IsScopeOf : Sheet → Scope → Type 0
-IsScopeOf s scope = (key : Key) → IsRow s scope.words key (row scope.rows key)
+-- the scope was built for the sheet: each row has what stands under its key, and each text that the test of a last step names has a number
+pub record IsScopeOf (s : Sheet) (scope : Scope) : Type 0 where
+  pub rows : (key : Key) → IsRow s scope.words key (row scope.rows key)
+  pub words : all_are_numbered scope.words s.templates ≡ true

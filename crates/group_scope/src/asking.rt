@@ -110,6 +110,9 @@ impl<G: GroupVars> Asking<'_, G> {
         if !may_be_better(best, category) {
             return Ok(best);
         }
+        if !rows.may_have(home) {
+            return Ok(best);
+        }
         for test in tests {
             if let Some(test) = test {
                 let row = rows.get(Key { home, test: *test });

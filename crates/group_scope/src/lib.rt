@@ -8,6 +8,7 @@ mod entry;
 mod home;
 mod key;
 pub mod law;
+mod marks;
 mod plain;
 mod rank;
 mod rows;

@@ -1,10 +1,11 @@
 //! Rows of alternatives, each under its key.
 
-ghost use Rattle.std.specs.Prelude.{◌≡◌, ◌++◌, [], ◌∷◌, OnOk, if◌then◌else◌};
-ghost use Rattle.group_scope.specs.Rows as spec;
+ghost use Rattle.std.specs.Prelude.{◌≡◌, ◌++◌, [], ◌∷◌, OnOk, OnErr, false, if◌then◌else◌};
+ghost use Rattle.group_scope.specs.Keyed.{Key as UnderKey, has, row_in, same};
 
 use crate::entry::Entry;
 use crate::key::{Home, Key, Test};
+use crate::marks::Marks;
 use indexmap::IndexMap;
 use std::alloc::Global;
 use stx_base::{List, Memory};
@@ -13,21 +14,39 @@ use stx_base::{List, Memory};
 #[derive(Drop)]
 pub struct Rows {
     map: IndexMap<Key, List<Entry>>,
+    marks: Marks,
+    // There is no row of a kind of home or test that isn't marked, so it needn't be looked up.
+    ghost marked: { (key : UnderKey) → has marks key ≡ false → row_in map key ≡ [] },
 }
 
 impl Rows {
+    ghost use Rattle.std.specs.Bool.{OnFalse};
+    ghost use Rattle.group_scope.specs.Rows as spec;
+    ghost use Rattle.group_scope.specs.declared.key.Test.{Test as Under};
+
     pub fn new(alloc: Global) -> Rows
         ensures { (key : spec.Key) → spec.row result key ≡ [] }
     {
         Rows {
             map: IndexMap::new(alloc),
+            marks: Marks::none(),
         }
+    }
+
+    /// Whether there may be rows of a home.
+    pub fn may_have(&self, home: Home) -> bool
+        ensures { OnFalse result ((test : Under) → spec.row self.now (record { home = home; test = test }) ≡ []) }
+    {
+        self.marks.has_home(home)
     }
 
     /// The row under a key; empty where there is none.
     pub fn get(&self, key: Key) -> &[Entry]
         ensures { result.now ≡ spec.row self.now key }
     {
+        if !self.marks.has(key) {
+            return &[];
+        }
         match self.map.get(&key) {
             Some(row) => row.as_slice(),
             None => &[],
@@ -38,15 +57,8 @@ impl Rows {
     fn push(&mut self, alloc: Global, key: Key, entry: Entry) -> Result<(), Memory>
         ensures { OnOk result ((other : spec.Key) → spec.row self.new other ≡ if spec.same key other then spec.row self.old other ++ entry ∷ [] else spec.row self.old other) }
     {
-        match self.map.get_mut(&key) {
-            Some(row) => row.push(entry),
-            None => {
-                let mut row = List::new(alloc);
-                row.push(entry)?;
-                self.map.insert(key, row)?;
-                Ok(())
-            }
-        }
+        self.marks = self.marks.with(key);
+        add(alloc, &mut self.map, key, entry)
     }
 
     /// Appends to the rows of a test for each of several homes.
@@ -65,5 +77,26 @@ impl Rows {
             }
         }
         Ok(())
+    }
+}
+
+/// Appends to the row under a key.
+fn add(
+    alloc: Global,
+    map: &mut IndexMap<Key, List<Entry>>,
+    key: Key,
+    entry: Entry,
+) -> Result<(), Memory>
+    ensures ok { OnOk result ((other : UnderKey) → row_in map.new other ≡ if same key other then row_in map.old other ++ entry ∷ [] else row_in map.old other) }
+    ensures err { OnErr result ((other : UnderKey) → row_in map.new other ≡ row_in map.old other) }
+{
+    match map.get_mut(&key) {
+        Some(row) => row.push(entry),
+        None => {
+            let mut row = List::new(alloc);
+            row.push(entry)?;
+            map.insert(key, row)?;
+            Ok(())
+        }
     }
 }

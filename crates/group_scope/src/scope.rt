@@ -1,11 +1,11 @@
 //! The rows of a sheet.
 
-ghost use Rattle.std.specs.Prelude.{◌≡◌, ◌<◌, ◌^◌, ◌++◌, IfOk, OnOk, length};
+ghost use Rattle.std.specs.Prelude.{◌≡◌, ◌<◌, ◌^◌, ◌++◌, IfOk, OnOk, length, true};
 ghost use Rattle.sheet_model.specs.Sound.{IsSound};
 ghost use Rattle.match_patterns.specs.Fits.{test_of};
 ghost use Rattle.group_scope.specs.Filling as filling;
 ghost use Rattle.group_scope.specs.Rows.{Key as RowKey, row};
-ghost use Rattle.group_scope.specs.Words.{numbered};
+ghost use Rattle.group_scope.specs.Words.{Keeps, all_are_numbered, are_numbered, is_numbered_template, numbered};
 
 use crate::choosing::priority;
 use crate::entry::{Entry, best_first};
@@ -41,17 +41,30 @@ impl Scope {
 }
 
 /// The texts of all last tests.
-fn words_of(alloc: Global, sheet: &Sheet) -> Result<Words, Memory> {
+fn words_of(alloc: Global, sheet: &Sheet) -> Result<Words, Memory>
+    ensures { IfOk result (λ words. all_are_numbered words sheet.now.templates ≡ true) }
+{
     let mut words = Words::new(alloc);
     for template in sheet.templates.as_slice() {
-        for alternative in template.pattern.alternatives.as_slice() {
-            note(alloc, &mut words, alternative)?;
-        }
+        note_template(alloc, &mut words, template)?;
     }
     Ok(words)
 }
 
-fn note(alloc: Global, words: &mut Words, alternative: &Alternative) -> Result<(), Memory> {
+fn note_template(alloc: Global, words: &mut Words, template: &Template) -> Result<(), Memory>
+    ensures numbered { OnOk result (is_numbered_template words.new template.now ≡ true) }
+    ensures kept { OnOk result (Keeps words.old words.new) }
+{
+    for alternative in template.pattern.alternatives.as_slice() {
+        note(alloc, words, alternative)?;
+    }
+    Ok(())
+}
+
+fn note(alloc: Global, words: &mut Words, alternative: &Alternative) -> Result<(), Memory>
+    ensures numbered { OnOk result (are_numbered words.new (test_of alternative.now) ≡ true) }
+    ensures kept { OnOk result (Keeps words.old words.new) }
+{
     if let Alternative::Steps(steps) = alternative {
         if let Some(step) = steps.last() {
             words.note(alloc, &step.test)?;

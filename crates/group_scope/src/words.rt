@@ -1,6 +1,6 @@
 //! Numbers for the texts that the tests of a sheet name.
 
-ghost use Rattle.std.specs.Prelude.{◌≡◌};
+ghost use Rattle.std.specs.Prelude.{◌≡◌, OnOk, is_some, true};
 ghost use Rattle.node_stack.specs.Open.{node_of};
 ghost use Rattle.node_stack.specs.Path.{kind_of};
 ghost use Rattle.group_scope.specs.Words as spec;
@@ -25,7 +25,10 @@ impl Words {
     }
 
     /// Takes up the texts of a test.
-    pub fn note(&mut self, alloc: Global, test: &NodeTest) -> Result<(), Memory> {
+    pub fn note(&mut self, alloc: Global, test: &NodeTest) -> Result<(), Memory>
+        ensures numbered { OnOk result (spec.are_numbered self.new test.now ≡ true) }
+        ensures kept { OnOk result (spec.Keeps self.old self.new) }
+    {
         match test {
             NodeTest::Name(name) | NodeTest::AttrName(name) => self.note_name(alloc, name),
             NodeTest::Prefix(binding) | NodeTest::AttrPrefix(binding) => {
@@ -36,12 +39,19 @@ impl Words {
         }
     }
 
-    fn note_name(&mut self, alloc: Global, name: &Name) -> Result<(), Memory> {
+    fn note_name(&mut self, alloc: Global, name: &Name) -> Result<(), Memory>
+        ensures uri { OnOk result (spec.has_number self.new name.now.uri ≡ true) }
+        ensures local { OnOk result (spec.has_number self.new name.now.local ≡ true) }
+        ensures kept { OnOk result (spec.Keeps self.old self.new) }
+    {
         self.note_text(alloc, &name.uri)?;
         self.note_text(alloc, &name.local)
     }
 
-    fn note_text(&mut self, alloc: Global, text: &Text) -> Result<(), Memory> {
+    fn note_text(&mut self, alloc: Global, text: &Text) -> Result<(), Memory>
+        ensures numbered { OnOk result (spec.has_number self.new text.now ≡ true) }
+        ensures kept { OnOk result (spec.Keeps self.old self.new) }
+    {
         if self.number(text).is_none() {
             let text = String::from_str(alloc, text.as_str())?;
             self.texts.insert(text)?;
@@ -50,7 +60,8 @@ impl Words {
     }
 
     fn number(&self, text: &Text) -> Option<usize>
-        ensures { result ≡ spec.number self.now text.now }
+        ensures number { result ≡ spec.number self.now text.now }
+        ensures found { is_some result ≡ spec.has_number self.now text.now }
     {
         self.texts.get_index_of(text.as_str())
     }

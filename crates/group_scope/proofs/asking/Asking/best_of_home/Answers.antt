@@ -1,9 +1,12 @@
-use Rattle.std.proofs.Common.{None, get_or, ap, sym, ◌∙◌}
+use Rattle.std.proofs.Common.{◌≡◌, [], None, get_or, ap, sym, subst, ◌∙◌}
+use Rattle.std.specs.Bool.{OnFalse}
 use Rattle.node_stack.specs.Stack.{path}
 use Rattle.group_scope.specs.Asking.{question, ranks, ranks_of_test}
 use Rattle.group_scope.specs.Rank.{improved}
 use Rattle.group_scope.proofs.Among.{item_again}
-use Rattle.group_scope.proofs.Scanning.{test_more, too_late}
+use Rattle.group_scope.specs.Rows.{row}
+use Rattle.group_scope.specs.declared.key.Test.{Test}
+use Rattle.group_scope.proofs.Scanning.{no_rows, test_more, too_late}
 use Rattle.group_scope.proofs.asking.Asking.best_of_home.Goals as goal
 use Rattle.group_scope.proofs.asking.Asking.best_of_home.Goals.{in-Some+in_ok-best, in_default}
 
@@ -12,6 +15,13 @@ returns-then-not-may_be_better g c =
     let a = c.args.self.now in
     let q = question a.sheet.now a.active.now (g.G.GroupVars.seen a.vars.now) a.limits.now (path a.stack.now) in
     too_late q c.args.rows.now c.args.tests.now c.args.category c.args.home c.args.best (sym c.may_be_better.ensures ∙ c.if-not-may_be_better.true)
+
+pub returns-then-not-may_have : goal.returns-then-not-may_have
+returns-then-not-may_have g c =
+    let a = c.args.self.now in
+    let q = question a.sheet.now a.active.now (g.G.GroupVars.seen a.vars.now) a.limits.now (path a.stack.now) in
+    no_rows q c.args.rows.now c.args.tests.now c.args.category c.args.home c.args.best
+    (subst (λ b. OnFalse b ((test : Test) → row c.args.rows.now (record { home = c.args.home; test = test }) ≡ [])) c.if-not-may_have.true c.may_have.ensures)
 
 pub loop-test-preserved : goal.loop-test-preserved
 loop-test-preserved g c =

@@ -1,30 +1,10 @@
-use Rattle.std.proofs.Common.{◌≡◌, cond, List, [], ◌∷◌, ◌++◌, Option, Some, unwrap_or, IsSome, Result, Ok, Err, OnOk, refl, ap, subst, ◌∙◌}
-use Rattle.std.specs.Map.{lookup}
-use Rattle.group_scope.specs.contracts.key.KeyEq.TheImpl.Laws.{laws-law}
-use Rattle.group_scope.specs.declared.entry.Entry.{Entry}
-use Rattle.group_scope.specs.declared.key.Key.{Key}
-use Rattle.group_scope.specs.Rows.{same}
-use Rattle.group_scope.proofs.Pushing.{grown}
+use Rattle.group_scope.specs.Keyed.{row_in}
+use Rattle.group_scope.proofs.Marking.{still_marked}
 use Rattle.group_scope.proofs.rows.Rows.push.Goals as goal
 
-on_ok : {A E : Type 0} {P Q : Type 0} (r : Result A E) → (P → Q) → OnOk r P → OnOk r Q
-on_ok (Ok x) f h = f h
-on_ok (Err e) f h = tt
-
-pub returns-in-Some : goal.returns-in-Some
-returns-in-Some c =
-    let written = c.get_mut.follows.holds c.push.new.self in
-    let value = ap (λ o. o) c.in-Some.ensures.value in
-    let updates = written.3 (subst IsSome value refl) in
-    on_ok c.push.result (λ pushed.
-    grown laws-law c.args.self.now.map.entries (c.get_mut.follows.lender c.push.new.self).entries c.args.key c.args.entry c.push.new.self (λ q. updates.0 q)
-    (pushed ∙ ap (λ (o : Option (List Entry)). unwrap_or o [] ++ c.args.entry ∷ []) value)) c.push.ensures.ok
-
-pub returns-in_ok-insert-in-None : goal.returns-in_ok-insert-in-None
-returns-in_ok-insert-in-None c =
-    let h = c.in_ok-insert-in-None.ensures.updates in
-    let new = c.insert.new.self.entries in
-    let row = c.push-in-None.new.self in
-    let updates = subst (λ m. (q : Key) → lookup (same q) new ≡ cond (same c.args.key q) (Some row) (lookup (same q) m.entries)) c.get_mut.follows.holds-at-none (λ q. h.0 q) in
-    let empty = c.new-row.ensures ∙ ap (λ (o : Option (List Entry)). unwrap_or o []) c.in-None.ensures.value in
-    grown laws-law c.args.self.now.map.entries new c.args.key c.args.entry row updates (c.in_ok-push-in-None.ensures.ok ∙ ap (λ l. l ++ c.args.entry ∷ []) empty)
+pub invariant_of-self : goal.invariant_of-self
+invariant_of-self c = record {
+  marked =
+      still_marked c.add.result c.args.self.now.marks c.with-self.result c.args.key c.args.entry (row_in c.args.self.now.map) (row_in c.add.new.map)
+      c.with-self.ensures.marked c.with-self.ensures.kept c.args.self.now.marked c.add.ensures.ok c.add.ensures.err;
+}

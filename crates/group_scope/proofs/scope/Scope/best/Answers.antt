@@ -19,13 +19,13 @@ pub view-node-requires : goal.view-node-requires
 view-node-requires g c = omega (arith, some_node c.args.asking.now.stack.now, c.len-last.ensures.value)
 
 pub best_of_home-requires-clause-ordered : goal.best_of_home-requires-clause-ordered
-best_of_home-requires-clause-ordered g c = λ key. (c.requires.built key).best_first
+best_of_home-requires-clause-ordered g c = λ key. (c.requires.built.rows key).best_first
 
 pub best_around-requires-clause-ordered : goal.best_around-requires-clause-ordered
-best_around-requires-clause-ordered g c = λ key. (c.requires.built key).best_first
+best_around-requires-clause-ordered g c = λ key. (c.requires.built.rows key).best_first
 
 pub best_of_home-requires-2-clause-ordered : goal.best_of_home-requires-2-clause-ordered
-best_of_home-requires-2-clause-ordered g c = λ key. (c.requires.built key).best_first
+best_of_home-requires-2-clause-ordered g c = λ key. (c.requires.built.rows key).best_first
 
 pub returns : goal.returns
 returns g c =

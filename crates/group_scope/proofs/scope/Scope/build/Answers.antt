@@ -10,5 +10,8 @@ returns c =
     let words = c.in_ok-words.words in
     let sorted = c.in_ok-entries.entries.items in
     let same = subst (λ l. IsPermutation l sorted) c.in_ok-entries_of.ensures c.in_ok-entries.ensures.same in
-    filled s words sorted c.in_ok-rows.rows same (IsPermutation-sym (entries_from 0 s.templates) sorted same) c.in_ok-entries.ensures.sorted
-    (subst (λ l. AreFilledBy s words l c.in_ok-rows.rows) c.as_slice.ensures.value c.in_ok-rows.ensures)
+    record {
+      rows = filled s words sorted c.in_ok-rows.rows same (IsPermutation-sym (entries_from 0 s.templates) sorted same) c.in_ok-entries.ensures.sorted
+          (subst (λ l. AreFilledBy s words l c.in_ok-rows.rows) c.as_slice.ensures.value c.in_ok-rows.ensures);
+      words = c.in_ok-words.ensures;
+    }
