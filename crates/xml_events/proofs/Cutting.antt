@@ -4,7 +4,7 @@ use Rattle.std.specs.Str.{IsCharBoundary}
 use Rattle.std.proofs.lemmas.List.{append-nil, drop-append-le, length-take, take-append-drop, take-append-le, take_all}
 use Rattle.std.proofs.lemmas.Str.{IsCharBoundary-from_drop, IsUtf8-append, IsUtf8-nil}
 use Rattle.std.proofs.Math.Seq.{drop-append_seam, take-append_seam}
-use Rattle.xml_events.specs.Texts.{cut_texts, AreTexts}
+use Rattle.xml_events.specs.inside.Texts.{cut_texts, AreTexts}
 
 pub cut-length : (lens bytes : List ℕ) → length (cut_texts lens bytes) ≡ length lens
 cut-length [] bytes = refl

@@ -15,7 +15,7 @@ use Rattle.xml_names.specs.Tag.{declarations, into, name_fault, resolved}
 use Rattle.xml_names.specs.declared.resolved.Resolved.{Resolved}
 use Rattle.xml_events.specs.Before.{is_full, is_innermost}
 use Rattle.xml_events.specs.Document.{Opens, element_at}
-use Rattle.xml_events.specs.Taking.{before_of, names_of, IsClosed, IsFit, Takes, TakesFitting}
+use Rattle.xml_events.specs.inside.Taking.{before_of, names_of, IsClosed, IsFit, Takes, TakesFitting}
 use Rattle.xml_events.specs.declared.place.Place.{Place}
 use Rattle.xml_events.specs.declared.place.Word.TheVariants as word
 use Rattle.xml_events.proofs.Names.{faultless-named, named-more, reverse-last}

@@ -11,7 +11,7 @@ use Rattle.xml_tokens.specs.declared.lexeme.Ending.TheVariants as ending
 use Rattle.xml_events.specs.declared.event.Event.{Event}
 use Rattle.xml_events.specs.declared.event.Event.TheVariants as event
 use Rattle.xml_events.specs.Before.{starting}
-use Rattle.xml_events.specs.Cores.{answer_of}
+use Rattle.xml_events.specs.Answering.{answer_of}
 use Rattle.xml_events.specs.Document.{reading_from, lists_of, inner, finished, readied, stripped, doc_for}
 use Rattle.xml_events.specs.Flatten.{is_closed, IsCut, IsProper, cut_by}
 use Rattle.xml_events.specs.Lexed.{lexed_from, unread}

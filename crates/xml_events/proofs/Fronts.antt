@@ -13,7 +13,7 @@ use Rattle.xml_events.specs.declared.front.Front.{Front}
 use Rattle.xml_events.specs.declared.front.Run.{Run}
 use Rattle.xml_events.specs.declared.front.Tag.{Tag}
 use Rattle.xml_events.specs.Document.{Opens, Closes, Says, element_at, finished, stage_by, inner, outer, with_item, with_items}
-use Rattle.xml_events.specs.Fronts.{run_events, after_events, held_after, IsSettled, Follows, after_items, known_of, held_of, run_of, tag_items, run_items, items_of, shown, first_in, first_by, TellsFirst, TellFirst, first_held, Pushes, is_no_node, node_in, begun, settled, Settles, IsPlain, plain_items, Waits, TakesItems, width, AreWide, lists_before, held_lists, IsNested, waiting, waiting_behind}
+use Rattle.xml_events.specs.inside.Fronts.{run_events, after_events, held_after, IsSettled, Follows, after_items, known_of, held_of, run_of, tag_items, run_items, items_of, shown, first_in, first_by, TellsFirst, TellFirst, first_held, Pushes, is_no_node, node_in, begun, settled, Settles, IsPlain, plain_items, Waits, TakesItems, width, AreWide, lists_before, held_lists, IsNested, waiting, waiting_behind}
 use Rattle.xml_events.specs.Telling.{told, followed, start_of}
 use Rattle.xml_events.specs.Tree.{Fresh, Told, Ready, Chars, CData, Comment, Pi, Element, End, Single, Future}
 use Rattle.xml_events.proofs.Telling.{told-append, text-joined, finished-end, finished-cdata, finished-comment, finished-pi, inner-finished, text-node, text-none, ready-by, opens-told}

@@ -21,3 +21,5 @@ pub mod Growing
 pub mod Stopping
 pub mod Elements
 pub mod Cutting
+pub mod Pieces
+pub mod Shaping

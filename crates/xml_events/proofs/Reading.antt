@@ -17,7 +17,7 @@ use Rattle.xml_events.specs.declared.front.Run.{Run}
 use Rattle.xml_events.specs.declared.front.Tag.{Tag}
 use Rattle.xml_events.specs.Before.{Before, fault_of, before_next, is_complete}
 use Rattle.xml_events.specs.Document.{Item, Opens, Closes, Says, Stands, Reading, element_at, items_of, stops, completes, cuts, at_end, judged, reading, reading_from, lists_of, with_item, with_items, text_before, inner, outer, finished, stage_by}
-use Rattle.xml_events.specs.Fronts.{tag_items, run_items, TellFirst, first_by_all, first_held}
+use Rattle.xml_events.specs.inside.Fronts.{tag_items, run_items, TellFirst, first_by_all, first_held}
 use Rattle.xml_events.specs.Lexed.{lexed_from}
 use Rattle.xml_events.specs.Source.{later}
 use Rattle.xml_events.specs.Telling.{told, followed, pulled, no_event, start_of, start_pulled}

@@ -4,7 +4,7 @@ use Rattle.stx_base.specs.declared.limits.Limits.{Limits}
 use Rattle.xml_tokens.specs.declared.lexeme.Ending.{Ending}
 use Rattle.xml_events.specs.declared.event.Event.{Event}
 use Rattle.xml_events.specs.declared.event.Pull.TheVariants as pull
-use Rattle.xml_events.specs.Cores.{answer_of}
+use Rattle.xml_events.specs.Answering.{answer_of}
 use Rattle.xml_events.specs.Document.{doc_for}
 use Rattle.xml_events.specs.Run.{Tells, IsGiven, IsDrained, AreCalled}
 use Rattle.xml_events.specs.Source.{Source, source_for, fed_with, ended_there, future, IsAnswer, Leaves}

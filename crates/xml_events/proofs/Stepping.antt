@@ -26,13 +26,13 @@ use Rattle.xml_events.specs.declared.reader.Core.{Core}
 use Rattle.xml_events.specs.declared.reader.Turn.{Turn}
 use Rattle.xml_events.specs.declared.reader.Turn.TheVariants as turn
 use Rattle.xml_events.specs.Before.{Before, fault_of, before_next, is_complete, is_inside, without_text, behind_text}
-use Rattle.xml_events.specs.Cores.{source_of, lists_open, holds, answer_of, IsReading, IsSound, IsSame, Reaches, Reads, Answers, Turns, Takes, Fails, Refuses, Receives, Ends}
-use Rattle.xml_events.specs.Document.{Item, Reading, stops, completes, cuts, at_end, judged, reading_from, lists_of, with_items, finished}
+use Rattle.xml_events.specs.inside.Cores.{source_of, lists_open, holds, IsReading, IsSound, IsSame, Reaches, Reads, Answers, Turns, Takes, Fails, Refuses, Receives, Ends}
+use Rattle.xml_events.specs.Document.{stops, completes, cuts, at_end, judged, reading_from, lists_of, with_items, finished}
 use Rattle.xml_events.specs.Document as document
-use Rattle.xml_events.specs.Answering.{OverBehind, EndsWhole, lists_behind}
-use Rattle.xml_events.specs.Fronts.{known_of, held_of, run_of, items_of, tag_items, run_items, shown, first_held, first_by_all, Gives, TellsFirst, TellFirst, Waits, AreWide, IsNested, held_lists, lists_before, waiting, waiting_behind}
+use Rattle.xml_events.specs.Answering.{OverBehind, EndsWhole, lists_behind, answer_of}
+use Rattle.xml_events.specs.inside.Fronts.{known_of, held_of, run_of, items_of, tag_items, run_items, shown, first_held, first_by_all, Gives, TellsFirst, TellFirst, Waits, AreWide, IsNested, held_lists, lists_before, waiting, waiting_behind}
 use Rattle.xml_events.specs.Source.{later, unless_over, left, future, ends_left, IsShort, text_in}
-use Rattle.xml_events.specs.Taking.{before_of, names_of, items_at}
+use Rattle.xml_events.specs.inside.Taking.{before_of, names_of, items_at}
 use Rattle.xml_events.specs.Telling.{told, followed, pulled, no_event}
 use Rattle.xml_events.specs.Tree.{Why, Need, Bad, Fresh, Told, End, Future, CData}
 use Rattle.xml_events.specs.Lexed.{lexed_from}

@@ -5,7 +5,7 @@ use Rattle.stx_base.specs.declared.node.First.{First}
 use Rattle.stx_base.specs.declared.node.First.TheVariants as child
 use Rattle.xml_events.specs.declared.event.Event.{Event}
 use Rattle.xml_events.specs.Document.{Item, Opens, finished, readied, stripped, stage_by, inner, outer, text_before, with_item, with_items}
-use Rattle.xml_events.specs.Fronts.{first_in, is_no_node}
+use Rattle.xml_events.specs.inside.Fronts.{first_in, is_no_node}
 use Rattle.xml_events.specs.Telling.{told, followed, start_of}
 use Rattle.xml_events.specs.Tree.{Why, Mark, Fresh, Told, Stage, Waiting, Ready, Chars, CData, Comment, Pi, Element, Forest, End, Cut, Single, Nested, Future}
 

@@ -15,8 +15,8 @@ use Rattle.xml_events.specs.declared.front.Tag.{Tag}
 use Rattle.xml_events.specs.Answering.{lists_behind}
 use Rattle.xml_events.specs.Before.{Before, outer_names, is_inside, is_innermost, fault_of, before_next, without_text, behind_text}
 use Rattle.xml_events.specs.Document.{Says, outer, finished, with_items, items_of, Stands, text_items}
-use Rattle.xml_events.specs.Fronts as fronts
-use Rattle.xml_events.specs.Fronts.{held_of, run_of, tag_items, run_items, width, AreWide, lists_before, held_lists, IsNested, TellsFirst}
+use Rattle.xml_events.specs.inside.Fronts as fronts
+use Rattle.xml_events.specs.inside.Fronts.{held_of, run_of, tag_items, run_items, width, AreWide, lists_before, held_lists, IsNested, TellsFirst}
 use Rattle.xml_events.specs.Telling.{told, followed}
 use Rattle.xml_events.specs.Tree.{Future, CData}
 

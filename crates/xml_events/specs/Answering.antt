@@ -8,6 +8,12 @@ use Rattle.xml_events.specs.declared.event.Pull.{Pull}
 use Rattle.xml_events.specs.declared.event.Pull.TheVariants as pull
 use Rattle.xml_events.specs.Source.{Source, future}
 
+-- the answer that is repeated
+abbrev pub answer_of : Ending → Pull
+answer_of ending.End = pull.End
+answer_of (ending.Bad fault) = pull.Bad fault
+answer_of ending.Memory = pull.Memory
+
 -- behind the document's end no event comes any more, and behind another event others may
 abbrev pub OverBehind : Event → Option Ending → Type 0
 OverBehind (event.DocumentEnd offset) over = over ≡ Some ending.End

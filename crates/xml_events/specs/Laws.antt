@@ -1,5 +1,6 @@
 -- What laws of the definitions say.
-use Rattle.std.specs.Prelude.{◌≡◌, ℕ, Bool, true, false, List, [], ◌∷◌, ◌++◌, Option, Some, None}
+use Rattle.std.specs.Prelude.{◌≡◌, ℕ, Bool, true, List, [], ◌∷◌, ◌++◌, Option, Some, None}
+use Rattle.std.specs.List.{flat_map}
 use Rattle.stx_base.specs.declared.limits.Limits.{Limits}
 use Rattle.stx_base.specs.declared.fault.XmlKind.{XmlKind}
 use Rattle.xml_tokens.specs.declared.lexeme.Lexeme.{Lexeme}
@@ -13,18 +14,19 @@ use Rattle.xml_events.specs.Tree.{Why, Bad, Forest, Future}
 use Rattle.xml_events.specs.declared.event.Event.{Event}
 use Rattle.xml_events.specs.declared.event.Pull.TheVariants as pull
 
--- A reader of a document that begins has the document's tree before it.
+-- pieces are fed one after another
+abbrev pub fed_all : Source → (pieces : List (List ℕ)) → Source
+fed_all s [] = s
+fed_all s (piece ∷ pieces) = fed_all (fed_with s piece) pieces
+
+-- In whatever pieces a document comes, its reader has the document's tree before it, and the tree of what came where it ends there.
 abbrev pub HasDocument : Type 0
 HasDocument =
-    (limits : Limits) (strip cdata : Bool) (bytes : List ℕ) (ended : Bool) → future (source_for limits strip cdata) bytes ended ≡ doc_for limits strip cdata bytes ended ∷ []
-
--- A piece that is fed is the first one of the bytes still to come.
-abbrev pub GoesOnFed : Type 0
-GoesOnFed = (s : Source) (piece more : List ℕ) (ended : Bool) → s.lexer.ended ≡ false → future (fed_with s piece) more ended ≡ future s (piece ++ more) ended
-
--- A document that ends has no more bytes to come.
-abbrev pub EndsThere : Type 0
-EndsThere = (s : Source) (more : List ℕ) (ended : Bool) → s.lexer.ended ≡ false → future (ended_there s) more ended ≡ future s [] true
+    (limits : Limits) (strip cdata : Bool) (pieces : List (List ℕ)) (more : List ℕ) (ended : Bool)
+    → let bytes = flat_map (λ piece. piece) pieces in
+    let s = fed_all (source_for limits strip cdata) pieces in
+    (future s more ended ≡ doc_for limits strip cdata (bytes ++ more) ended ∷ [])
+    × (future (ended_there s) more ended ≡ doc_for limits strip cdata bytes true ∷ [])
 
 -- what stands behind lexemes
 abbrev pub behind : Before → List Lexeme → Before

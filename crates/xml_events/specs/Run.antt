@@ -4,7 +4,7 @@ use Rattle.xml_tokens.specs.declared.lexeme.Ending.{Ending}
 use Rattle.xml_tokens.specs.declared.lexeme.Ending.TheVariants as ending
 use Rattle.xml_events.specs.declared.event.Event.{Event}
 use Rattle.xml_events.specs.declared.event.Pull.TheVariants as pull
-use Rattle.xml_events.specs.Cores.{answer_of}
+use Rattle.xml_events.specs.Answering.{answer_of}
 use Rattle.xml_events.specs.Source.{Source, future}
 use Rattle.xml_events.specs.Telling.{told, followed, pulled}
 use Rattle.xml_events.specs.Tree.{Why, Bad, Future}

@@ -1,5 +1,5 @@
 ghost use Rattle.std.specs.Prelude.{◌≡◌, ◌++◌, [], ◌∷◌, IfOk, MatchOption, OnOk};
-ghost use Rattle.xml_events.specs.Fronts as spec;
+ghost use Rattle.xml_events.specs.inside.Fronts as spec;
 
 use crate::event::Event;
 use crate::place::Word;
@@ -71,8 +71,8 @@ impl Front {
     ghost use Rattle.std.specs.Prelude.{false};
     ghost use Rattle.xml_events.specs.Document.{Closes, Opens, Says, Stands, element_at};
     ghost use Rattle.xml_events.specs.Tree.{CData};
-    ghost use Rattle.xml_events.specs.Fronts.{after_items, run_events, settled, Follows, Gives, IsDry, IsEmpty, IsSettled, Strips, TakesItems};
-    ghost use Rattle.xml_events.specs.Taking.{items_at};
+    ghost use Rattle.xml_events.specs.inside.Fronts.{after_items, run_events, settled, Follows, Gives, IsDry, IsEmpty, IsSettled, Strips, TakesItems};
+    ghost use Rattle.xml_events.specs.inside.Taking.{items_at};
 
     pub fn new(strip: bool) -> Front
         ensures { IsEmpty strip result }

@@ -2,13 +2,17 @@
 ghost use Rattle.xml_events.specs.Growing.{BeginningGoesOn, DocumentsGrow, WholeNeedsNoMore};
 ghost use Rattle.xml_events.specs.Joined.{CDataIsText};
 ghost use Rattle.xml_events.specs.Places.{OpenAreUnended, TextsAreCounted};
-ghost use Rattle.xml_events.specs.Laws.{EndsThere, FirstFault, Flattened, GoesOnFed, HasDocument, IsTree, NoFault, OnlyTree, ToldAgrees};
+ghost use Rattle.xml_events.specs.Laws.{FirstFault, Flattened, HasDocument, IsTree, NoFault, OnlyTree, ToldAgrees};
+ghost use Rattle.xml_events.specs.Shapes.{LexemesAreShapes};
 
 /// What a reader has before it is the document's tree, however its bytes come.
 pub fn documents()
-    ensures begins { HasDocument }
-    ensures fed { GoesOnFed }
-    ensures ended { EndsThere }
+    ensures { HasDocument }
+{}
+
+/// The lexemes of a document, whole or not, are its shapes, judged up to the first fault.
+pub fn shapes()
+    ensures { LexemesAreShapes }
 {}
 
 /// Where CDATA sections aren't recognised they are text like other.

@@ -49,7 +49,7 @@ impl From<Memory> for Refusal {
 
 impl From<NameFault> for Refusal {
     ghost use Rattle.std.specs.Prelude.{◌≡◌};
-    ghost use Rattle.xml_events.specs.Taking.{refused};
+    ghost use Rattle.xml_events.specs.inside.Taking.{refused};
 
     ghost from_gives = { λ fault answer. answer ≡ refused fault };
 
@@ -80,7 +80,7 @@ pub struct Place {
 }
 
 impl Place {
-    ghost use Rattle.xml_events.specs.Taking.{before_of, names_of, IsClosed, IsFit, IsLeft, Refuses, StartsAs, Takes, TakesFitting, Took, text_fault, unfit_at};
+    ghost use Rattle.xml_events.specs.inside.Taking.{before_of, names_of, IsClosed, IsFit, IsLeft, Refuses, StartsAs, Takes, TakesFitting, Took, text_fault, unfit_at};
 
     pub fn new(alloc: Global, limits: Limits, cdata: bool) -> Place
         ensures { StartsAs limits cdata result }

@@ -2,8 +2,7 @@ ghost use Rattle.std.specs.Prelude.{◌≡◌, ◌++◌, ◌∷◌, ◌≤◌, �
 ghost use Rattle.xml_tokens.specs.Reader.{fed};
 ghost use Rattle.xml_tokens.specs.declared.lexeme.Ending.{Ending};
 ghost use Rattle.xml_tokens.specs.declared.lexeme.Ending.TheVariants as ending;
-ghost use Rattle.xml_events.specs.Cores.{answer_of};
-ghost use Rattle.xml_events.specs.Answering.{Counts, EndsWhole, Goes};
+ghost use Rattle.xml_events.specs.Answering.{Counts, EndsWhole, Goes, answer_of};
 ghost use Rattle.xml_events.specs.Document.{doc, doc_for};
 ghost use Rattle.xml_events.specs.Source.{ended_there, fed_with, future, source, source_for, IsAnswer, Keeps, Leaves, Shrinks};
 ghost use Rattle.xml_events.specs.declared.event.Pull.TheVariants as pull;
@@ -36,7 +35,7 @@ impl Model for EventReader {
 
     ghost Value = { Source };
 
-    ghost use Rattle.xml_events.specs.Cores.{source_in, IsSoundIn};
+    ghost use Rattle.xml_events.specs.inside.Cores.{source_in, IsSoundIn};
 
     ghost view = { source_in };
 
@@ -125,9 +124,9 @@ enum Turn {
 }
 
 impl Core {
-    ghost use Rattle.xml_events.specs.Cores.{end_lexeme, Answers, Ends, Fails, IsReading, IsSame, Receives, TakesEnd, Turns};
+    ghost use Rattle.xml_events.specs.inside.Cores.{end_lexeme, Answers, Ends, Fails, IsReading, IsSame, Receives, TakesEnd, Turns};
     ghost use Rattle.xml_events.specs.Before as spec;
-    ghost use Rattle.xml_events.specs.Taking.{before_of, names_of, IsFit};
+    ghost use Rattle.xml_events.specs.inside.Taking.{before_of, names_of, IsFit};
 
     // No answer is repeated yet. What is read stays in the front until it is given, since events are large to move.
     #[inline(always)]

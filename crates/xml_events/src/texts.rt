@@ -18,7 +18,7 @@ impl Model for Texts {
 
     ghost Value = { List (List ℕ) };
 
-    ghost use Rattle.xml_events.specs.Texts.{texts_in, HoldsTexts};
+    ghost use Rattle.xml_events.specs.inside.Texts.{texts_in, HoldsTexts};
 
     ghost view = { texts_in };
 

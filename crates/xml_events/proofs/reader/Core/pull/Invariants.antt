@@ -1,5 +1,5 @@
 use Rattle.std.proofs.Common.{length}
-use Rattle.xml_events.specs.Cores.{Reaches}
+use Rattle.xml_events.specs.inside.Cores.{Reaches}
 use Rattle.xml_events.proofs.reader.Core.pull.Given as goal
 
 -- what is to come is as it was when the loop began

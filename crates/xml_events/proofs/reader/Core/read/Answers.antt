@@ -1,7 +1,7 @@
 use Rattle.std.proofs.Common.{◌∙◌, ap}
 use Rattle.xml_events.specs.Before.{is_innermost}
-use Rattle.xml_events.specs.Cores.{end_lexeme}
-use Rattle.xml_events.specs.Taking.{names_of}
+use Rattle.xml_events.specs.inside.Cores.{end_lexeme}
+use Rattle.xml_events.specs.inside.Taking.{names_of}
 use Rattle.xml_events.proofs.Fronts.{unsettled-known}
 use Rattle.xml_events.proofs.Stepping.{received}
 use Rattle.xml_events.proofs.reader.Core.read.Goals as goal

@@ -1,7 +1,7 @@
 use Rattle.std.proofs.Common.{◌++◌, ◌∙◌, ap}
 use Rattle.std.proofs.lemmas.Result.{on_ok_weaker}
 use Rattle.xml_tokens.specs.Reader.{Reader}
-use Rattle.xml_events.specs.Cores.{source_of}
+use Rattle.xml_events.specs.inside.Cores.{source_of}
 use Rattle.xml_events.specs.Source.{Source, future}
 use Rattle.xml_events.proofs.Feeding.{goes-on-fed}
 use Rattle.xml_events.proofs.reader.EventReader.feed.Goals as goal

@@ -1,6 +1,6 @@
 use Rattle.std.proofs.Common.{◌∙◌, [], true, ap}
 use Rattle.xml_tokens.specs.Reader.{Reader}
-use Rattle.xml_events.specs.Cores.{source_of}
+use Rattle.xml_events.specs.inside.Cores.{source_of}
 use Rattle.xml_events.specs.Source.{Source, future}
 use Rattle.xml_events.proofs.Feeding.{ends-there}
 use Rattle.xml_events.proofs.reader.EventReader.finish.Goals as goal

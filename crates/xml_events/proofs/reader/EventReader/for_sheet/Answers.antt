@@ -1,5 +1,5 @@
 use Rattle.std.proofs.Common.{None, refl}
-use Rattle.xml_events.specs.Cores.{source_of}
+use Rattle.xml_events.specs.inside.Cores.{source_of}
 use Rattle.xml_events.proofs.Counting.{document-of}
 use Rattle.xml_events.proofs.Fronts.{no-items}
 use Rattle.xml_events.proofs.reader.EventReader.for_sheet.Goals as goal

@@ -2,7 +2,7 @@ use Rattle.std.proofs.Common.{◌-◌, ◌∷◌, ◌++◌, [], ◌∙◌, ap, a
 use Rattle.std.specs.Prelude.{string_bytes}
 use Rattle.std.specs.Option.{option_copied}
 use Rattle.std.specs.Str.{IsCharBoundary}
-use Rattle.xml_events.specs.Texts.{cut_texts}
+use Rattle.xml_events.specs.inside.Texts.{cut_texts}
 use Rattle.xml_events.proofs.Cutting.{cut-boundary, cut-known, size-within}
 use Rattle.xml_events.proofs.Names.{last-is}
 use Rattle.xml_events.proofs.texts.Texts.last.Goals as goal

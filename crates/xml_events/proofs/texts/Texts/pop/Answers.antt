@@ -1,7 +1,7 @@
 use Rattle.std.proofs.Common.{◌≡◌, ◌-◌, ◌∷◌, ◌++◌, [], ◌∙◌, ap, arith, chars, drop, length, subst, sym, take}
 use Rattle.std.specs.Prelude.{string_bytes}
 use Rattle.std.specs.Str.{IsCharBoundary}
-use Rattle.xml_events.specs.Texts.{cut_texts, AreTexts}
+use Rattle.xml_events.specs.inside.Texts.{cut_texts, AreTexts}
 use Rattle.xml_events.proofs.Cutting.{cut-boundary, cut-known, rest-texts, size-within}
 use Rattle.xml_events.proofs.texts.Texts.pop.Goals as goal
 

@@ -1,6 +1,6 @@
 use Rattle.std.proofs.Common.{◌∷◌, ◌++◌, [], ◌∙◌, ap, chars, length, subst, sym}
 use Rattle.std.specs.Prelude.{string_bytes}
-use Rattle.xml_events.specs.Texts.{cut_texts, AreTexts}
+use Rattle.xml_events.specs.inside.Texts.{cut_texts, AreTexts}
 use Rattle.xml_events.proofs.Cutting.{cut-more}
 use Rattle.xml_events.proofs.texts.Texts.push.Goals as goal
 

@@ -19,10 +19,10 @@ use Rattle.xml_tokens.specs.declared.lexeme.Lexeme.{Lexeme}
 use Rattle.xml_tokens.specs.declared.lexeme.Step.TheVariants as step
 use Rattle.xml_events.specs.Before.{is_innermost, is_inside, fault_of}
 use Rattle.xml_events.specs.Answering.{Goes, Counts, EndsWhole}
-use Rattle.xml_events.specs.Fronts.{known_of, held_of, run_of, items_of, held_lists, IsTelling, AreWide, TakesItems, waiting}
+use Rattle.xml_events.specs.inside.Fronts.{known_of, held_of, run_of, items_of, held_lists, IsTelling, AreWide, TakesItems, waiting}
 use Rattle.xml_events.specs.Source.{Source, IsAnswer, Leaves, Keeps, Shrinks, events_left, future}
-use Rattle.xml_events.specs.Taking as Taking
-use Rattle.xml_events.specs.Taking.{before_of, names_of, items_at, IsFit}
+use Rattle.xml_events.specs.inside.Taking as Taking
+use Rattle.xml_events.specs.inside.Taking.{before_of, names_of, items_at, IsFit}
 
 abbrev pub source_of : Core → Source
 source_of c = record {
@@ -159,12 +159,6 @@ abbrev pub Ends : (length : ℕ) → (complete : Bool) → (old : Core) → Turn
 Ends length true old t new = (t ≡ turn.End length) × (new ≡ record old { over = Some ending.End })
 Ends length false old t new =
     (t ≡ turn.Bad (record { kind = Truncated; offset = length })) × Fails (record { kind = Truncated; offset = length }) old new
-
--- the answer that is repeated
-abbrev pub answer_of : Ending → Pull
-answer_of ending.End = pull.End
-answer_of (ending.Bad fault) = pull.Bad fault
-answer_of ending.Memory = pull.Memory
 
 abbrev pub source_in : Inside → Source
 source_in x = source_of x.core

@@ -1,0 +1,4 @@
+pub mod Texts
+pub mod Taking
+pub mod Fronts
+pub mod Cores
