@@ -1,5 +1,5 @@
 -- Each reading has an end: the calls within a call read fewer nodes.
-use Rattle.std.proofs.Common.{◌≡◌, ℕ, zero, suc, ◌+◌, ◌<◌, ◌≤◌, Bool, true, false, not, ◌&&◌, ◌==◌, List, [], ◌∷◌, ◌++◌, length, slice_get, Option, Some, None, refl, ap, ◌∙◌, arith, if◌then◌else◌, codes}
+use Rattle.std.proofs.Common.{◌≡◌, ℕ, zero, suc, ◌+◌, ◌-◌, ◌<◌, ◌≤◌, Bool, true, false, not, ◌&&◌, ◌==◌, List, [], ◌∷◌, ◌++◌, length, slice_get, Option, Some, None, refl, ap, ◌∙◌, arith, if◌then◌else◌, codes}
 use Rattle.std.specs.Option.{option_map_or}
 use Rattle.std.proofs.lemmas.List.{length-append}
 use Rattle.std.specs.List.{list_all}
@@ -118,7 +118,7 @@ module _ (reads : Reads) (files : List (Option File)) where
         let start = begun here e.offset kind v referring in
         let same = begun_coming here e.offset kind v referring in
         let last : Listed → Does Listed = λ inner. closed reads files here e.offset kind (scope_at here e) v inner in
-        let on : Listed → Does Listed = λ r. Ask (Nodes (within here before kind e v (length r.loading.sheet.groups)) [] kids r.loading) last in
+        let on : Listed → Does Listed = λ r. Ask (Nodes (within here before kind e v (length r.loading.sheet.groups - 1)) [] kids r.loading) last in
         safe_then weight Pre Post w P (included reads files here e.offset kind v start) on
         (included_ok w (λ r. Ok w P (on r)) here e.offset kind v start (omega (arith, same)) (λ r p. (
           tt,

@@ -1,11 +1,12 @@
 -- Items whose instructions and parameters stand in groups and files below given numbers.
-use Rattle.std.proofs.Common.{◌≡◌, ℕ, zero, suc, ◌<◌, ◌≤◌, List, [], ◌∷◌, ◌++◌, ap, sym, ◌∙◌, arith, codes}
+use Rattle.std.proofs.Common.{◌≡◌, ℕ, zero, suc, ◌<◌, ◌≤◌, List, [], ◌∷◌, ◌++◌, ap, map, sym, ◌∙◌, arith, codes}
 use Rattle.std.proofs.Math.Path.{subst}
 use Rattle.std.proofs.lemmas.Grind.{flat_map-append}
 use Rattle.std.proofs.lemmas.List.Elements.{All-append, All-cons, All-nil, All-same}
 use Rattle.std.specs.List.{All, flat_map}
 use Rattle.stx_base.specs.declared.fault.Place.{Place}
 use Rattle.stx_base.specs.declared.name.Binding.{Binding}
+use Rattle.stx_base.specs.declared.part.Part.{Part}
 use Rattle.sheet_model.specs.Body.{children, in_order, inner}
 use Rattle.sheet_model.specs.Parts.{place as instruction_place}
 use Rattle.sheet_model.specs.declared.instr.Instr.{Instr}
@@ -17,7 +18,7 @@ use Rattle.sheet_model.specs.declared.sheet.Variable.{Variable}
 use Rattle.sheet_loader.specs.Elements as element
 use Rattle.sheet_loader.specs.Elements.{Kind}
 use Rattle.sheet_loader.specs.Making.{Values, as_expression, as_pattern, as_template, body, branches, characters, content_in, group_in, is_yes, item, name, otherwise, params, select, template, test, value_at, with_params}
-use Rattle.sheet_loader.specs.Reading.{Item, Instruction, An_if, An_else, A_local, A_branch, An_otherwise, A_param, A_value, Text, Parts}
+use Rattle.sheet_loader.specs.Reading.{Item, Instruction, An_if, An_else, A_local, A_branch, An_otherwise, A_param, A_value, Text, A_part}
 
 -- in a group and a file below these numbers
 abbrev pub In : (g f group : ℕ) → Place → Type 0
@@ -43,7 +44,7 @@ ItemIn g f (An_otherwise is) = BodyIn f is
 ItemIn g f (A_param v) = In g f v.group v.at
 ItemIn g f (A_value p) = Unit {0}
 ItemIn g f (Text t) = Unit {0}
-ItemIn g f (Parts ps) = Unit {0}
+ItemIn g f (A_part p) = Unit {0}
 
 abbrev pub ItemsIn : (g f : ℕ) → List Item → Type 0
 ItemsIn g f [] = Unit {0}
@@ -87,11 +88,16 @@ item_wider g f h k (An_otherwise is) l m p = body_wider f k is m p
 item_wider g f h k (A_param v) l m p = (omega (arith, l, p.0), omega (arith, m, p.1))
 item_wider g f h k (A_value v) l m p = tt
 item_wider g f h k (Text t) l m p = tt
-item_wider g f h k (Parts ps) l m p = tt
+item_wider g f h k (A_part x) l m p = tt
 
 pub items_wider : (g f h k : ℕ) (items : List Item) → g ≤ h → f ≤ k → ItemsIn g f items → ItemsIn h k items
 items_wider g f h k [] l m p = tt
 items_wider g f h k (x ∷ items) l m p = (item_wider g f h k x l m p.0, items_wider g f h k items l m p.1)
+
+-- parts of a buffer's content stand in no group and no file
+pub parts_items_in : (g f : ℕ) (ps : List Part) → ItemsIn g f (map A_part ps)
+parts_items_in g f [] = tt
+parts_items_in g f (p ∷ ps) = (tt, parts_items_in g f ps)
 
 pub items_append : (g f : ℕ) (xs ys : List Item) → ItemsIn g f xs → ItemsIn g f ys → ItemsIn g f (xs ++ ys)
 items_append g f [] ys h k = k
@@ -108,7 +114,7 @@ params_in g f (A_branch w ∷ items) h = params_in g f items h.1
 params_in g f (An_otherwise is ∷ items) h = params_in g f items h.1
 params_in g f (A_value v ∷ items) h = params_in g f items h.1
 params_in g f (Text t ∷ items) h = params_in g f items h.1
-params_in g f (Parts ps ∷ items) h = params_in g f items h.1
+params_in g f (A_part p ∷ items) h = params_in g f items h.1
 
 pub branches_in : (g f : ℕ) (items : List Item) → ItemsIn g f items → BodyIn f (flat_map (λ (w : When). w.body) (branches items))
 branches_in g f [] h = none_in f
@@ -121,7 +127,7 @@ branches_in g f (An_otherwise is ∷ items) h = branches_in g f items h.1
 branches_in g f (A_param v ∷ items) h = branches_in g f items h.1
 branches_in g f (A_value v ∷ items) h = branches_in g f items h.1
 branches_in g f (Text t ∷ items) h = branches_in g f items h.1
-branches_in g f (Parts ps ∷ items) h = branches_in g f items h.1
+branches_in g f (A_part p ∷ items) h = branches_in g f items h.1
 
 pub otherwise_in : (g f : ℕ) (items : List Item) → ItemsIn g f items → BodyIn f (otherwise items)
 otherwise_in g f [] h = none_in f
@@ -134,7 +140,7 @@ otherwise_in g f (A_branch w ∷ items) h = otherwise_in g f items h.1
 otherwise_in g f (A_param v ∷ items) h = otherwise_in g f items h.1
 otherwise_in g f (A_value v ∷ items) h = otherwise_in g f items h.1
 otherwise_in g f (Text t ∷ items) h = otherwise_in g f items h.1
-otherwise_in g f (Parts ps ∷ items) h = otherwise_in g f items h.1
+otherwise_in g f (A_part p ∷ items) h = otherwise_in g f items h.1
 
 pub body_in : (g f : ℕ) (items : List Item) → ItemsIn g f items → BodyIn f (body items)
 body_in g f [] h = none_in f
@@ -149,7 +155,7 @@ body_in g f (An_if x is at ∷ An_otherwise js ∷ items) h = both_in f (instr.I
 body_in g f (An_if x is at ∷ A_param v ∷ items) h = both_in f (instr.If x is [] at ∷ []) (body (A_param v ∷ items)) (one_by f (instr.If x is [] at) (Instr-F.If x is [] at) (rolls-If x is [] at) h.0.0 (both_in f is [] h.0.1 (none_in f))) (body_in g f (A_param v ∷ items) h.1)
 body_in g f (An_if x is at ∷ A_value v ∷ items) h = both_in f (instr.If x is [] at ∷ []) (body (A_value v ∷ items)) (one_by f (instr.If x is [] at) (Instr-F.If x is [] at) (rolls-If x is [] at) h.0.0 (both_in f is [] h.0.1 (none_in f))) (body_in g f (A_value v ∷ items) h.1)
 body_in g f (An_if x is at ∷ Text t ∷ items) h = both_in f (instr.If x is [] at ∷ []) (body (Text t ∷ items)) (one_by f (instr.If x is [] at) (Instr-F.If x is [] at) (rolls-If x is [] at) h.0.0 (both_in f is [] h.0.1 (none_in f))) (body_in g f (Text t ∷ items) h.1)
-body_in g f (An_if x is at ∷ Parts ps ∷ items) h = both_in f (instr.If x is [] at ∷ []) (body (Parts ps ∷ items)) (one_by f (instr.If x is [] at) (Instr-F.If x is [] at) (rolls-If x is [] at) h.0.0 (both_in f is [] h.0.1 (none_in f))) (body_in g f (Parts ps ∷ items) h.1)
+body_in g f (An_if x is at ∷ A_part p ∷ items) h = both_in f (instr.If x is [] at ∷ []) (body (A_part p ∷ items)) (one_by f (instr.If x is [] at) (Instr-F.If x is [] at) (rolls-If x is [] at) h.0.0 (both_in f is [] h.0.1 (none_in f))) (body_in g f (A_part p ∷ items) h.1)
 body_in g f (Instruction i ∷ items) h = both_in f (i ∷ []) (body items) h.0 (body_in g f items h.1)
 body_in g f (A_local n i ∷ items) h = both_in f (i ∷ []) (body items) h.0 (body_in g f items h.1)
 body_in g f (An_else is ∷ items) h = body_in g f items h.1
@@ -158,7 +164,7 @@ body_in g f (An_otherwise is ∷ items) h = body_in g f items h.1
 body_in g f (A_param v ∷ items) h = body_in g f items h.1
 body_in g f (A_value v ∷ items) h = body_in g f items h.1
 body_in g f (Text t ∷ items) h = body_in g f items h.1
-body_in g f (Parts ps ∷ items) h = body_in g f items h.1
+body_in g f (A_part p ∷ items) h = body_in g f items h.1
 
 -- what an element comes to stands where the element and what it holds do
 module _ (g f group : ℕ) (at : Place) (b : group < g) (a : at.file < f) where

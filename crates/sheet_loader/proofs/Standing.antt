@@ -23,14 +23,14 @@ use Rattle.sheet_model.specs.declared.sheet.Procedure.{Procedure}
 use Rattle.sheet_model.specs.declared.sheet.Sheet.{Sheet}
 use Rattle.sheet_model.specs.declared.sheet.Template.{Template}
 use Rattle.sheet_model.specs.declared.sheet.Variable.{Variable}
-use Rattle.sheet_loader.proofs.Items.{BodyIn, In, ItemsIn, ParamsIn, body_in, body_wider, both_in, item_in, items_append, items_wider, none_in, one_by, params_in, params_wider}
+use Rattle.sheet_loader.proofs.Items.{BodyIn, In, ItemsIn, ParamsIn, body_in, body_wider, both_in, item_in, items_append, items_wider, none_in, one_by, params_in, params_wider, parts_items_in}
 use Rattle.sheet_loader.proofs.Keeping.{Holds, Keeps, append_nil, comes_with, keeps_then}
 use Rattle.sheet_loader.specs.Elements as element
 use Rattle.sheet_loader.specs.Elements.{Kind, Inside, Document, Declarations, Start_of_body, Body, Branches, With_params, Characters, Parts, Nothing, inside_of, is_buffer, is_include, is_own, is_param, is_procedure, is_template, is_variable, makes_group, kind_named, allows_literals, allows_text, keeps_space}
 use Rattle.sheet_loader.specs.Judging.{fault_of, is_declared_here, is_stx, is_transform_named, scope_at, values}
 use Rattle.sheet_loader.specs.Load.{nothing, whole, sheet_of}
-use Rattle.sheet_loader.specs.Making.{Values, as_word, body, branches, item, value_at, variable}
-use Rattle.sheet_loader.specs.Read.{begun, buffer_at, closed, code_of_job, copied, element_of, ended, file_given, file_of, good, has_select, included, inner_group, is_choose, judged, known, listed, literal, literal_attrs, literal_judged, made, nodes, procedure_at, root_group, template_at, templates, text_item, text_of, when_known, with_group, with_root, within}
+use Rattle.sheet_loader.specs.Making.{Values, as_word, body, branches, item, parts, value_at, variable}
+use Rattle.sheet_loader.specs.Read.{begun, buffer_at, closed, code_of_job, copied, element_of, element_parts, ended, file_given, file_of, good, has_select, included, inner_group, is_choose, judged, known, listed, literal, literal_attrs, literal_judged, made, nodes, procedure_at, root_group, template_at, templates, text_item, text_of, when_known, with_group, with_root, within}
 use Rattle.sheet_loader.specs.Reading.{File, Loading, Context, Item, Listed, Job, Nodes, Does, cut, ends_at, place, refused}
 use Rattle.sheet_loader.specs.References.{first_lost, Reference}
 use Rattle.sheet_loader.specs.Referring.{references}
@@ -337,14 +337,14 @@ module _ (reads : Reads) (files : List (Option File)) where
         let start = begun here e.offset kind v referring in
         let b = begun_stands here e.offset kind v referring st in
         let last : Listed → Does Listed = λ r. closed reads files here e.offset kind (scope_at here e) v r in
-        let on : Listed → Does Listed = λ r. Ask (Nodes (within here before kind e v (length r.loading.sheet.groups)) [] kids r.loading) last in
+        let on : Listed → Does Listed = λ r. Ask (Nodes (within here before kind e v (length r.loading.sheet.groups - 1)) [] kids r.loading) last in
         let a : From l.sheet [] start.sheet = record { files = b.files ∙ sym (append_nil l.sheet.files); groups = b.groups } in
         keeps_then Pre Post P [] (included reads files here e.offset kind v start) on
         (included_ok (λ os r. Ok P os (on r)) here e.offset kind v l.sheet start [] (start_group here l.sheet start.sheet st b.groups b.stands) b.stands a (λ os r from more stands.
         let g = start_group here l.sheet r.loading.sheet st from.groups stands in
         let f = start_file here l.sheet st in
         let n = more_files l.sheet r.loading.sheet os from in
-        let deeper : Start (within here before kind e v (length r.loading.sheet.groups)) r.loading.sheet =
+        let deeper : Start (within here before kind e v (length r.loading.sheet.groups - 1)) r.loading.sheet =
         inner (inner_lists here.inside kind (has_select v)) (within_group (makes_group kind) here.group (length r.loading.sheet.groups) g) (omega (arith, f, n)) stands in (
           (inside deeper stands (inner_lists here.inside kind (has_select v)), tt),
           λ ps s p.
@@ -386,7 +386,7 @@ module _ (reads : Reads) (files : List (Option File)) where
     copied_ok : (here : Context) (e : Element) (kids : Forest) (l : Loading) → is_own here.inside ≡ false → Start here l.sheet → On P l.sheet → Ok P [] (copied reads files here e kids l)
     copied_ok here e kids l i st h =
         let t = inner_start here l.sheet i st in
-        ((inside (inner i t.0 t.1 t.2) t.2 i, tt), λ os r p. h os _ p.0 p.1 (tt, tt))
+        ((inside (inner i t.0 t.1 t.2) t.2 i, tt), λ os r p. h os _ p.0 p.1 (parts_items_in _ _ (element_parts reads files e (parts r.items))))
 
     readable_ok : (here : Context) (before : List Item) (e : Element) (kids : Forest) (l : Loading) (o : Option SheetCode) → is_own here.inside ≡ false → Start here l.sheet → On P l.sheet → Ok P [] (option_map_or (λ why. refused here e.offset why) o (literal reads files here before e kids l))
     readable_ok here before e kids l None i st h = literal_ok here before e kids l i st h

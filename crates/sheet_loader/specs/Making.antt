@@ -21,7 +21,7 @@ use Rattle.sheet_model.specs.declared.sheet.Visibility.{Visibility}
 use Rattle.sheet_model.specs.declared.sheet.Visibility.TheVariants as seen
 use Rattle.sheet_loader.specs.Elements as element
 use Rattle.sheet_loader.specs.Elements.{Kind, Before, Something, After_if, After_otherwise, Inside, Start_of_body, Body}
-use Rattle.sheet_loader.specs.Reading.{Item, Instruction, An_if, An_else, A_local, A_branch, An_otherwise, A_param, A_value, Text, Parts}
+use Rattle.sheet_loader.specs.Reading.{Item, Instruction, An_if, An_else, A_local, A_branch, An_otherwise, A_param, A_value, Text, A_part}
 use Rattle.sheet_loader.specs.Values.{Value, A_word, A_pass, A_priority, A_name, An_expression, A_pattern, A_template}
 
 -- the values of a tag's attributes by their names, where no attribute has a fault
@@ -72,6 +72,10 @@ visibility_of word =
 abbrev pub or_else : {A : Type 0} → A → Option A → A
 or_else lacking None = lacking
 or_else lacking (Some found) = found
+
+-- the expanded name alone, without the prefix that it is written with (Namespaces in XML 1.0, 2.1)
+abbrev pub bare : Name → Name
+bare n = record n { prefix = [] }
 
 abbrev pub nameless : Name
 nameless = record { uri = []; local = []; prefix = [] }
@@ -138,7 +142,7 @@ abbrev pub characters : List Item → List ℕ
 characters items = flat_map text_of_item items
 
 abbrev pub parts_of_item : Item → List Part
-parts_of_item (Parts parts) = parts
+parts_of_item (A_part p) = p ∷ []
 parts_of_item other = []
 
 abbrev pub parts : List Item → List Part

@@ -24,10 +24,10 @@ use Rattle.sheet_model.specs.declared.sheet.Template.{Template}
 use Rattle.sheet_model.specs.declared.sheet.Variable.{Variable}
 use Rattle.xml_events.specs.Tree.{Forest, Chars, CData, Comment, Pi, Element, End, Cut, Single, Nested, Stage, Waiting}
 use Rattle.sheet_loader.specs.Elements as element
-use Rattle.sheet_loader.specs.Elements.{Kind, Inside, Document, Declarations, Start_of_body, Body, Characters, Parts, Nothing, kind_named, inside_of, is_own, is_buffer, is_include, is_param, is_procedure, is_template, is_variable, makes_group, allows_literals, allows_text, keeps_space}
+use Rattle.sheet_loader.specs.Elements.{Kind, Inside, Document, Body, Characters, Parts, kind_named, inside_of, is_own, is_buffer, is_include, is_param, is_procedure, is_template, is_variable, makes_group, allows_literals, allows_text, keeps_space}
 use Rattle.sheet_loader.specs.Judging.{is_declared_here, is_stx, is_transform_named, locals_at, scope_at, values, fault_of}
 use Rattle.sheet_loader.specs.Making.{Values, value_at, as_name, as_expression, as_priority, as_word, is_yes, pass_or, visibility_of, name, pattern, body, params, parts, branches, item, variable}
-use Rattle.sheet_loader.specs.Reading.{File, Wants, Loading, Context, Item, Instruction, Text, Parts as parts_item, Listed, Job, Nodes, Does, place, refused, cut}
+use Rattle.sheet_loader.specs.Reading.{File, Wants, Loading, Context, Item, Instruction, Text, A_part, Listed, Job, Nodes, Does, place, refused, cut}
 use Rattle.sheet_loader.specs.Referring.{references, to_variables}
 use Rattle.sheet_loader.specs.Tags.{Found, path_fault}
 use Rattle.sheet_loader.specs.Values.{Reads, read, A_template}
@@ -139,13 +139,13 @@ abbrev pub own_locals : Kind → Values → List Name
 own_locals element.ForEachItem v = name v ∷ []
 own_locals other v = []
 
--- what is in force within an element, where the sheet has these groups by then
-abbrev pub within : Context → (before : List Item) → Kind → Element → Values → (groups : ℕ) → Context
-within here before kind e v groups = record here {
+-- what is in force within an element, where this is the last group by then
+abbrev pub within : Context → (before : List Item) → Kind → Element → Values → (last : ℕ) → Context
+within here before kind e v last = record here {
   scope = scope_at here e;
   inside = inside_of here.inside kind (has_select v);
   at = e.offset;
-  group = group_within here.group (groups - 1) kind;
+  group = group_within here.group last kind;
   pass = pass_within here kind v;
   locals = locals_at here before ++ own_locals kind v;
 }
@@ -191,7 +191,7 @@ module _ (reads : Reads) (files : List (Option File)) where
   good here before e kids kind v l =
       let referring = record l { references = l.references ++ references (place here e.offset) here before l.sheet kind v } in
       and_then (included here e.offset kind v (begun here e.offset kind v referring)) (λ r.
-      Ask (Nodes (within here before kind e v (length r.loading.sheet.groups)) [] kids r.loading) (λ inner.
+      Ask (Nodes (within here before kind e v (length r.loading.sheet.groups - 1)) [] kids r.loading) (λ inner.
       closed here e.offset kind (scope_at here e) v inner))
 
   abbrev pub judged : Context → (before : List Item) → Element → (kids : Forest) → Kind → Option SheetCode → Loading → Does Listed
@@ -239,7 +239,7 @@ module _ (reads : Reads) (files : List (Option File)) where
   abbrev pub copied : Context → Element → (kids : Forest) → Loading → Does Listed
   copied here e kids l =
       Ask (Nodes (record here { scope = scope_at here e; at = e.offset }) [] kids l) (λ r.
-      Ret (listed (parts_item (element_parts e (parts r.items)) ∷ []) r.loading))
+      Ret (listed (map A_part (element_parts e (parts r.items))) r.loading))
 
   abbrev pub literal_judged : Context → (before : List Item) → Element → (kids : Forest) → Inside → Loading → Does Listed
   literal_judged here before e kids Parts l = copied here e kids l
@@ -264,7 +264,7 @@ module _ (reads : Reads) (files : List (Option File)) where
   -- what a text comes to, by what the list may hold
   abbrev pub text_item : Context → (offset : ℕ) → List ℕ → Inside → List Item
   text_item here offset text (Characters kept) = Text text ∷ []
-  text_item here offset text Parts = parts_item (part.Chars text ∷ []) ∷ []
+  text_item here offset text Parts = A_part (part.Chars text) ∷ []
   text_item here offset text other = Instruction (instr.LiteralChars text (place here offset)) ∷ []
 
   abbrev pub text_of : Context → (offset : ℕ) → List ℕ → Loading → Does Listed

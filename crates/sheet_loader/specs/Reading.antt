@@ -69,7 +69,7 @@ pub data Item : Type 0 where
   A_param : Variable → Item
   A_value : WithParam → Item
   Text : List ℕ → Item
-  Parts : List Part → Item
+  A_part : Part → Item
 
 -- what a list comes to
 pub record Listed : Type 0 where

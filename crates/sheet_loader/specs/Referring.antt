@@ -9,7 +9,7 @@ use Rattle.sheet_model.specs.declared.sheet.Sheet.{Sheet}
 use Rattle.sheet_loader.specs.Elements as element
 use Rattle.sheet_loader.specs.Elements.{Kind}
 use Rattle.sheet_loader.specs.Judging.{is_declared_here, locals_at}
-use Rattle.sheet_loader.specs.Making.{Values, value_at, as_name, as_expression, as_pattern, as_template, name}
+use Rattle.sheet_loader.specs.Making.{Values, value_at, as_name, as_expression, as_pattern, as_template, bare, name}
 use Rattle.sheet_loader.specs.Reading.{Context, Item}
 use Rattle.sheet_loader.specs.References.{Reference, Sought, A_buffer, A_group, A_procedure, A_variable, No_earlier_variable, has_variable}
 
@@ -18,11 +18,11 @@ refers at sought = record { at = at; sought = sought } ∷ []
 
 abbrev pub to_group : Place → Option Name → List Reference
 to_group at None = []
-to_group at (Some n) = refers at (A_group n)
+to_group at (Some n) = refers at (A_group (bare n))
 
 -- what an instruction names, but for locals, is sought among the variables of the group and those around it
 abbrev pub to_variables : Place → (locals : List Name) → (from : ℕ) → List Name → List Reference
-to_variables at locals from names = flat_map (λ n. if is_among locals n then [] else refers at (A_variable from n)) names
+to_variables at locals from names = flat_map (λ n. if is_among locals n then [] else refers at (A_variable from (bare n))) names
 
 -- a declaration sees only what stands earlier in the sheet
 abbrev pub to_earlier : Place → Sheet → (from : ℕ) → List Name → List Reference
@@ -55,9 +55,9 @@ in_expressions at here before so_far v =
     else to_variables at (locals_at here before) here.group (named_in v)
 
 abbrev pub by_name : Place → Context → (before : List Item) → Kind → Name → List Reference
-by_name at here before element.CallProcedure n = refers at (A_procedure here.group n)
-by_name at here before element.ProcessBuffer n = refers at (A_buffer here.group n)
-by_name at here before element.ResultBuffer n = refers at (A_buffer here.group n)
+by_name at here before element.CallProcedure n = refers at (A_procedure here.group (bare n))
+by_name at here before element.ProcessBuffer n = refers at (A_buffer here.group (bare n))
+by_name at here before element.ResultBuffer n = refers at (A_buffer here.group (bare n))
 by_name at here before element.Assign n = to_variables at (locals_at here before) here.group (n ∷ [])
 by_name at here before other n = []
 

@@ -1,7 +1,7 @@
 -- What a reading still does while elements are open: it goes on with the nodes to come, list by list from the innermost outwards.
-use Rattle.std.specs.Prelude.{◌≡◌, ℕ, true, false, List, [], ◌∷◌, ◌++◌, length, map, slice_get, Option, Some, None, codes}
+use Rattle.std.specs.Prelude.{◌≡◌, ℕ, ◌-◌, true, false, List, [], ◌∷◌, ◌++◌, length, map, slice_get, Option, Some, None, codes}
 use Rattle.std.specs.List.{flat_map}
-use Rattle.stx_base.specs.Course.{Halt, Say, Ask, and_then, Same}
+use Rattle.stx_base.specs.Course.{Halt, Say, Ask, and_then, Gives, Same}
 use Rattle.stx_base.specs.declared.fault.SheetCode.TheVariants as code
 use Rattle.xml_events.specs.Document.{inner, outer}
 use Rattle.xml_events.specs.Tree.{Forest, Future, Mark, Stage, Why, Chars, CData, Comment, Pi, Element, End, Cut, Single, Nested}
@@ -13,7 +13,7 @@ use Rattle.sheet_loader.specs.Judging.{locals_at, scope_at}
 use Rattle.sheet_loader.specs.Load.{at_start, nothing, sheet_of, whole}
 use Rattle.sheet_loader.specs.Making.{Values, as_word, body, parts, value_at}
 use Rattle.sheet_loader.specs.Read.{begun, closed, code_of_job, copied, element_parts, good, in_file, literal, literal_attrs, templates, text_of, when_known, within}
-use Rattle.sheet_loader.specs.Reading.{File, Wants, Loading, Context, Item, Instruction, Parts, Listed, Nodes, Does, cut, place, refused}
+use Rattle.sheet_loader.specs.Reading.{File, Wants, Loading, Context, Item, Instruction, A_part, Listed, Nodes, Does, cut, place, refused}
 use Rattle.sheet_loader.specs.References.{first_lost}
 use Rattle.sheet_loader.specs.Referring.{references, to_variables}
 use Rattle.sheet_loader.specs.Values.{Reads}
@@ -60,8 +60,14 @@ attributes_read here before e attrs l = record l {
 }
 
 module _ (reads : Reads) (files : List (Option File)) where
+  -- one comes to what the other comes to
+  pub record SameAnswer (x y : Does Listed) : Type 0 where
+    pub ends : Same (code_of_job reads files) x y
+    pub to : (names : List (List ℕ)) (r : Listed) → Gives (code_of_job reads files) x names r → Gives (code_of_job reads files) y names r
+    pub from : (names : List (List ℕ)) (r : Listed) → Gives (code_of_job reads files) y names r → Gives (code_of_job reads files) x names r
+
   abbrev pub part_item : Element → Listed → List Item
-  part_item e r = Parts (element_parts reads files e (parts r.items)) ∷ []
+  part_item e r = map A_part (element_parts reads files e (parts r.items))
 
   -- the list of an element is at its end
   abbrev pub closes : Context → (before : List Item) → Element → Kind → Values → Going → Going
@@ -73,7 +79,7 @@ module _ (reads : Reads) (files : List (Option File)) where
   continue [] r f = whole r (first_lost r.loading.sheet r.loading.references)
   continue (Of_element here before e kind v ∷ opens) r f = closes here before e kind v (continue opens) r f
   continue (Of_file here before e kind v ∷ opens) r f =
-      behind_items (within here before kind e v (length r.loading.sheet.groups)) [] r.loading (closes here before e kind v (continue opens)) f
+      behind_items (within here before kind e v (length r.loading.sheet.groups - 1)) [] r.loading (closes here before e kind v (continue opens)) f
   continue (Of_literal here before e attrs ∷ opens) r f = behind_items here (before ++ literal_item here e attrs r) r.loading (continue opens) f
   continue (Of_part here before e ∷ opens) r f = behind_items here (before ++ part_item e r) r.loading (continue opens) f
 
@@ -85,34 +91,34 @@ module _ (reads : Reads) (files : List (Option File)) where
   abbrev pub EndsList : Type 0
   EndsList =
       (here : Context) (before : List Item) (l : Loading) (opens : List Open) (f : Future) (mark : Mark) (offset : ℕ)
-      → Same (code_of_job reads files) (resume here before l opens (End mark offset ∷ f)) (continue opens (record { items = before; loading = l }) f)
+      → SameAnswer (resume here before l opens (End mark offset ∷ f)) (continue opens (record { items = before; loading = l }) f)
 
   -- A list that goes no further stops all.
   abbrev pub CutsList : Type 0
   CutsList =
       (here : Context) (before : List Item) (l : Loading) (opens : List Open) (f : Future) (why : Why)
-      → Same (code_of_job reads files) (resume here before l opens (Cut why ∷ f)) (cut here why)
+      → SameAnswer (resume here before l opens (Cut why ∷ f)) (cut here why)
 
   -- Comments and processing instructions count for nothing.
   abbrev pub PassesOver : Type 0
   PassesOver =
       (here : Context) (before : List Item) (l : Loading) (opens : List Open) (f : Future) (mark : Mark) (next : Forest) (offset : ℕ)
-      → ((text : List ℕ) → Same (code_of_job reads files) (resume here before l opens (Single mark (Comment offset text) next ∷ f)) (resume here before l opens (next ∷ f)))
-      × ((target text : List ℕ) → Same (code_of_job reads files) (resume here before l opens (Single mark (Pi offset target text) next ∷ f)) (resume here before l opens (next ∷ f)))
+      → ((text : List ℕ) → SameAnswer (resume here before l opens (Single mark (Comment offset text) next ∷ f)) (resume here before l opens (next ∷ f)))
+      × ((target text : List ℕ) → SameAnswer (resume here before l opens (Single mark (Pi offset target text) next ∷ f)) (resume here before l opens (next ∷ f)))
 
   -- A text, or a CDATA section, comes to its items.
   abbrev pub TakesText : Type 0
   TakesText =
       (here : Context) (before : List Item) (l : Loading) (opens : List Open) (f : Future) (mark : Mark) (next : Forest) (offset : ℕ) (text : List ℕ)
       → let on : Listed → Does Listed = λ r. resume here (before ++ r.items) r.loading opens (next ∷ f) in
-      Same (code_of_job reads files) (resume here before l opens (Single mark (Chars offset text) next ∷ f)) (and_then (text_of reads files here offset text l) on)
-      × Same (code_of_job reads files) (resume here before l opens (Single mark (CData offset text) next ∷ f)) (and_then (text_of reads files here offset text l) on)
+      SameAnswer (resume here before l opens (Single mark (Chars offset text) next ∷ f)) (and_then (text_of reads files here offset text l) on)
+      × SameAnswer (resume here before l opens (Single mark (CData offset text) next ∷ f)) (and_then (text_of reads files here offset text l) on)
 
   -- An element is judged, read, and comes to its items.
   abbrev pub TakesElement : Type 0
   TakesElement =
       (here : Context) (before : List Item) (l : Loading) (opens : List Open) (f : Future) (stage : Stage) (e : Element) (kids next : Forest)
-      → Same (code_of_job reads files) (resume here before l opens (Nested stage e kids next ∷ f))
+      → SameAnswer (resume here before l opens (Nested stage e kids next ∷ f))
       (and_then (when_known reads files here before stage e kids l) (λ r. resume here (before ++ r.items) r.loading opens (next ∷ f)))
 
   -- An element without faults that includes nothing is open from then on.
@@ -122,7 +128,7 @@ module _ (reads : Reads) (files : List (Option File)) where
       → is_include kind ≡ false
       → let start = opened here before e kind v l in
       and_then (good reads files here before e kids kind v l) (λ r. resume here (before ++ r.items) r.loading opens (next ∷ f))
-      ≡ resume (within here before kind e v (length start.sheet.groups)) [] start (Of_element here before e kind v ∷ opens) (kids ∷ next ∷ f)
+      ≡ resume (within here before kind e v (length start.sheet.groups - 1)) [] start (Of_element here before e kind v ∷ opens) (kids ∷ next ∷ f)
 
   -- what an include opens, and what comes of it
   abbrev pub Included : (here : Context) (before : List Item) (l : Loading) (opens : List Open) (f : Future) (e : Element) (kids next : Forest) (kind : Kind) (v : Values) → (rest : List ℕ → Loading → Does Listed) → Type 0

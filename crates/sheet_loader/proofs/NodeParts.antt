@@ -1,5 +1,5 @@
 -- What a buffer begins with is its element's nodes, written as they are.
-use Rattle.std.proofs.Common.{◌≡◌, ℕ, Bool, true, false, not, ◌&&◌, List, [], ◌∷◌, ◌++◌, Option, Some, None, refl, ap, sym, ◌∙◌, if◌then◌else◌}
+use Rattle.std.proofs.Common.{◌≡◌, ℕ, Bool, true, false, not, ◌&&◌, List, [], ◌∷◌, ◌++◌, Option, Some, None, map, refl, ap, sym, ◌∙◌, if◌then◌else◌}
 use Rattle.std.proofs.Math.Path.{subst}
 use Rattle.std.proofs.lemmas.Grind.{flat_map-append}
 use Rattle.std.proofs.lemmas.List.{append_assoc}
@@ -17,12 +17,17 @@ use Rattle.sheet_loader.specs.Elements.{Kind, Parts, allows_text, is_allowed, ke
 use Rattle.sheet_loader.specs.Judging.{declares_again, fault_of, first_of, found, is_loop, is_stx, is_version, refuses, rows_of, values}
 use Rattle.sheet_loader.specs.Making.{behind, last_of, parts, parts_of_item}
 use Rattle.sheet_loader.specs.Read.{code_of_job, copied, element_of, element_parts, judged, known, listed, nodes, text_item, text_of, when_known}
-use Rattle.sheet_loader.specs.Reading.{File, Context, Does, Item, Job, Listed, Loading, Nodes, Parts as parts_item, cut, ends_at, refused}
+use Rattle.sheet_loader.specs.Reading.{File, Context, Does, Item, Job, Listed, Loading, Nodes, A_part, cut, ends_at, refused}
 use Rattle.sheet_loader.specs.Tags.{is_bad_value, is_missing, is_unknown, path_fault}
 use Rattle.sheet_loader.specs.Values.{Reads}
 
 both_none : (os ps : List (List ℕ)) → os ≡ [] → ps ≡ [] → os ++ ps ≡ []
 both_none os ps h k = ap (λ l. l ++ ps) h ∙ k
+
+-- parts, each as an item, come to themselves
+parts_of_parts : (ps : List Part) → parts (map A_part ps) ≡ ps
+parts_of_parts [] = refl
+parts_of_parts (p ∷ ps) = ap (λ l. p ∷ l) (parts_of_parts ps)
 
 -- items of these parts, and then others
 joined : (before items : List Item) (middle rest : List Part) → parts items ≡ middle → parts (before ++ items) ++ rest ≡ parts before ++ (middle ++ rest)
@@ -51,9 +56,9 @@ module _ (reads : Reads) (files : List (Option File)) where
         subst (λ i. Ok P [] (if list_all is_space text && not (keeps_space i) then Ret (listed [] l) else if allows_text i then Ret (listed (text_item reads files here offset text i) l) else refused here here.at code.Misplaced)) (sym inside)
         (of_blank (list_all is_space text) h)
       where
-        of_blank : (b : Bool) → ((items : List Item) → parts items ≡ (if b then [] else part.Chars text ∷ []) → P [] (listed items l)) → Ok P [] (if b && true then Ret (listed [] l) else Ret (listed (parts_item (part.Chars text ∷ []) ∷ []) l))
+        of_blank : (b : Bool) → ((items : List Item) → parts items ≡ (if b then [] else part.Chars text ∷ []) → P [] (listed items l)) → Ok P [] (if b && true then Ret (listed [] l) else Ret (listed (A_part (part.Chars text) ∷ []) l))
         of_blank true h = h [] refl
-        of_blank false h = h (parts_item (part.Chars text ∷ []) ∷ []) refl
+        of_blank false h = h (A_part (part.Chars text) ∷ []) refl
 
     misplaced : (before : List Item) (s : Sheet) (e : Element) (kind : Kind) → fault_of reads here before s e kind ≡ Some code.Misplaced
     misplaced before s e kind =
@@ -93,7 +98,7 @@ module _ (reads : Reads) (files : List (Option File)) where
           λ os r p. h os _ (
             p.0,
             p.1,
-            append_nil (element_parts reads files e (parts r.items)) ∙ ap (element_parts reads files e) p.2,
+            parts_of_parts (element_parts reads files e (parts r.items)) ∙ ap (element_parts reads files e) p.2,
           ),
         ))
 

@@ -1,0 +1,6 @@
+use Rattle.std.specs.Str.{chars}
+use Rattle.sheet_loader.proofs.making.if_holds.Goals as goal
+
+pub returns : goal.returns
+unfolding chars
+returns c = cc

@@ -1,0 +1,6 @@
+use Rattle.std.specs.Str.{chars}
+use Rattle.sheet_loader.proofs.making.when.Goals as goal
+
+pub returns : goal.returns
+unfolding chars
+returns c = cc

@@ -1,0 +1,7 @@
+use Rattle.std.proofs.Common.{◌∙◌}
+use Rattle.std.specs.Str.{chars}
+use Rattle.xml_names.proofs.Texts.{same-sym}
+use Rattle.sheet_loader.proofs.value.is_text.Goals as goal
+
+pub returns : goal.returns
+returns c = c.is_spelled.ensures ∙ same-sym c.args.text.now (chars c.args.word.now)
