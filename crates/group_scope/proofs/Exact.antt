@@ -1,7 +1,8 @@
 -- The rows that are asked have the best of all alternatives.
-use Rattle.std.proofs.Common.{◌≡◌, inl, inr, ℕ, ◌+◌, ◌-◌, ◌==◌, true, false, not, ◌&&◌, List, ◌++◌, Option, Some, None, length, filter, refl, ap, sym, subst, ◌∙◌, arith}
+use Rattle.std.proofs.Common.{◌≡◌, inl, inr, ℕ, ◌+◌, ◌-◌, ◌==◌, Bool, true, false, not, List, ◌++◌, Option, Some, None, length, filter, refl, ap, sym, subst, ◌∙◌, arith}
 use Rattle.std.proofs.lemmas.Bool.{eqb-true}
 use Rattle.std.proofs.lemmas.Grind.{common_steps}
+use Rattle.std.specs.Bool.{beq}
 use Rattle.std.specs.Ordering.{int_eq}
 use Rattle.node_stack.specs.Path.{Node, Path, kind_of, node_at}
 use Rattle.stx_base.specs.declared.limits.Limits.{Limits}
@@ -13,7 +14,7 @@ use Rattle.sheet_model.specs.declared.sheet.Sheet.{Sheet}
 use Rattle.sheet_model.specs.declared.sheet.Template.{Template}
 use Rattle.group_scope.specs.Asking.{Asked, all_ranks, can_be, entry_fits, is_active, outer_groups, question, ranks_around, ranks_of_home, ranks_of_test, within_of}
 use Rattle.group_scope.specs.Choice.{Candidate, category, chosen, does_fit, fitting, is_free, priority_of, rank_of, settings, visible}
-use Rattle.group_scope.specs.Entries.{is_same, ranked}
+use Rattle.group_scope.specs.Entries.{goes_by_test, is_same, ranked}
 use Rattle.group_scope.specs.Homes.{is_home, own_of}
 use Rattle.group_scope.specs.Rank.{best_of, improved, is_better}
 use Rattle.group_scope.specs.Rows.{Key, row}
@@ -44,14 +45,26 @@ int_same x = grind (arith, common_steps)
 pub int_is : (x y : _) → int_eq x y ≡ true → x ≡ y
 int_is x y h = grind (arith, common_steps, h)
 
+pub bool_same : (b : Bool) → beq b b ≡ true
+bool_same true = refl
+bool_same false = refl
+
+pub bool_is : (a b : Bool) → beq a b ≡ true → a ≡ b
+bool_is true true h = refl
+bool_is true false h = cc
+bool_is false true h = cc
+bool_is false false h = refl
+
 -- entries that agree are one
 entry_is : (e f : Entry) → is_same e f ≡ true → e ≡ f
 entry_is e f h =
-    let parts = both (int_eq e.priority f.priority) (e.template == f.template && e.alternative == f.alternative) h in
-    let numbers = both (e.template == f.template) (e.alternative == f.alternative) parts.1 in
-    ap (λ x. record { priority = x; template = e.template; alternative = e.alternative }) (int_is e.priority f.priority parts.0)
-    ∙ ap (λ x. record { priority = f.priority; template = x; alternative = e.alternative }) (eqb-true e.template f.template numbers.0)
-    ∙ ap (λ x. record { priority = f.priority; template = f.template; alternative = x }) (eqb-true e.alternative f.alternative numbers.1)
+    let parts = both (int_eq e.priority f.priority) _ h in
+    let numbers = both (e.template == f.template) _ parts.1 in
+    let others = both (e.alternative == f.alternative) (beq e.by_test f.by_test) numbers.1 in
+    ap (λ x. record { priority = x; template = e.template; alternative = e.alternative; by_test = e.by_test }) (int_is e.priority f.priority parts.0)
+    ∙ ap (λ x. record { priority = f.priority; template = x; alternative = e.alternative; by_test = e.by_test }) (eqb-true e.template f.template numbers.0)
+    ∙ ap (λ x. record { priority = f.priority; template = f.template; alternative = x; by_test = e.by_test }) (eqb-true e.alternative f.alternative others.0)
+    ∙ ap (λ x. record { priority = f.priority; template = f.template; alternative = f.alternative; by_test = x }) (bool_is e.by_test f.by_test others.1)
 
 -- what a home's rows give is among all that is asked
 asked_of_home : (q : Asked) (scope : Scope) (tests : List (Option Test)) (base : ℕ) (c : Category) (h : Home) (r : Rank) → IsAskedIn q.sheet base c h
@@ -92,7 +105,8 @@ of_candidate s base active sees scope built c h is_asked test e among can =
     let key : Key = record { home = h; test = test } in
     let (t, a, is_t, is_a, at) = found_at (stands_at s scope.words key e) s e (all_among (λ e. stands s scope.words key e ≡ true) (row scope.rows key) e (built.rows key).only among) in
     let parts = both (is_home h s.groups t) _ at in
-    let priority = int_is e.priority (priority_of t a) (both (same_test (numbered scope.words (test_of a)) test) (int_eq e.priority (priority_of t a)) parts.1).1 in
+    let tested = both (same_test (numbered scope.words (test_of a)) test) _ parts.1 in
+    let priority = int_is e.priority (priority_of t a) (both (int_eq e.priority (priority_of t a)) _ tested.1).0 in
     let (x, of_t, no_better) = has_category s base t c h is_asked parts.0 in
     let free_and_fits = both (not (is_active active e.template)) (entry_fits q e) can in
     let fits_there = sym (at_found false (λ (t : Template) (a : Alternative). fits a (sees t.group)) s e t a is_t is_a) ∙ free_and_fits.1 in
@@ -143,14 +157,14 @@ all_asked s base active seen limits path scope n is_node built r among =
     let (in_visible, c_free) = among_filter_from (is_free active) (visible s base) c in_free in
     let (k, t, x, j, a, is_t, of_t, is_a, is_c) = from_all (category s base) 0 s.templates c in_visible in
     let named = ap (λ n. candidate n t x j a) (none_before k) ∙ is_c in
-    let e : Entry = record { priority = priority_of t a; template = k; alternative = j } in
+    let e : Entry = record { priority = priority_of t a; template = k; alternative = j; by_test = goes_by_test a } in
     let a_fits = subst (λ y. does_fit sees y ≡ true) (sym named) c_fits in
     let e_free = subst (λ y. is_free active y ≡ true) (sym named) c_free in
     let can = and_both (not (is_active active k)) (entry_fits q e) e_free (at_found false (λ (t : Template) (a : Alternative). fits a (sees t.group)) s e t a is_t is_a ∙ a_fits) in
     let (h, is_asked, is_in) = stands_in s base t x of_t in
     let test = numbered scope.words (test_of a) in
     let key : Key = record { home = h; test = test } in
-    let at_home = and_both (is_home h s.groups t) _ is_in (and_both (same_test test test) (int_eq (priority_of t a) (priority_of t a)) (laws-law.refl test) (int_same (priority_of t a))) in
+    let at_home = and_both (is_home h s.groups t) _ is_in (and_both (same_test test test) _ (laws-law.refl test) (and_both (int_eq (priority_of t a) (priority_of t a)) _ (int_same (priority_of t a)) (bool_same (goes_by_test a)))) in
     let e_stands = at_found false (stands_at s scope.words key e) s e t a is_t is_a ∙ at_home in
     let (f, f_in, e_f) = any_among (is_same e) (row scope.rows key) ((built.rows key).each e e_stands) in
     let e_in = subst (λ y. Among (row scope.rows key) y) (sym (entry_is e f e_f)) f_in in

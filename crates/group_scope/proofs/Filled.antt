@@ -3,6 +3,7 @@ use Rattle.std.proofs.Common.{◌≡◌, inl, inr, ℕ, ◌+◌, ◌==◌, Bool,
 use Rattle.std.proofs.lemmas.Bool.{eqb-true, eq-eqb}
 use Rattle.std.proofs.lemmas.List.Sorted.{Contains-permutation}
 use Rattle.std.specs.List.{flat_map}
+use Rattle.std.specs.Bool.{beq}
 use Rattle.std.specs.Ordering.{int_eq}
 use Rattle.stxpath_syntax.specs.declared.expr.Alternative.{Alternative}
 use Rattle.match_patterns.specs.Fits.{test_of}
@@ -13,7 +14,7 @@ use Rattle.sheet_model.specs.declared.sheet.Template.{Template}
 use Rattle.sheet_model.specs.declared.sheet.Visibility.{Visibility}
 use Rattle.sheet_model.specs.declared.sheet.Visibility.TheVariants as visibility
 use Rattle.group_scope.specs.Choice.{all_from, is_for_all, is_for_groups_within, is_number, priority_of}
-use Rattle.group_scope.specs.Entries.{IsBestFirst, is_same, ranked}
+use Rattle.group_scope.specs.Entries.{IsBestFirst, goes_by_test, is_same, ranked}
 use Rattle.group_scope.specs.Filling.{AreFilledBy, as_own, entered_of, entries_from, entry_of}
 use Rattle.group_scope.specs.Homes.{homes, is_home, own_of, shared_home}
 use Rattle.group_scope.specs.Rows.{Key, entered, row, same}
@@ -29,7 +30,7 @@ use Rattle.group_scope.specs.declared.rank.Category.TheVariants as category
 use Rattle.group_scope.specs.declared.rows.Rows.{Rows}
 use Rattle.group_scope.specs.declared.words.Words.{Words}
 use Rattle.group_scope.proofs.Among.{Among, all_pairs, among_any, among_flat, among_flat_from, among_map, among_map_from, flat_in_turn, from_contains, in_turn, to_all, to_contains}
-use Rattle.group_scope.proofs.Exact.{int_is, int_same}
+use Rattle.group_scope.proofs.Exact.{bool_is, bool_same, int_is, int_same}
 use Rattle.group_scope.proofs.Finding.{at_found, found_at, from_all}
 use Rattle.group_scope.proofs.Finding as finding
 use Rattle.group_scope.proofs.Ordering.{and_both, both, never_itself, or_cases, or_left, or_right}
@@ -144,9 +145,10 @@ home_listed groups t Everywhere is = inr (inr (inl (shared t.visibility is)))
     shared visibility.Group h = cc
     shared visibility.Global h = refl
 
--- an entry is an alternative of the sheet, with its priority
+-- an entry is an alternative of the sheet, with what it is chosen by
 entry_found : (ts : List Template) (e : Entry) → Among (entries_from 0 ts) e
-    → (t : Template) × (a : Alternative) × (slice_get ts e.template ≡ Some t) × (slice_get t.pattern.alternatives e.alternative ≡ Some a) × (priority_of t a ≡ e.priority)
+    → (t : Template) × (a : Alternative) × (slice_get ts e.template ≡ Some t) × (slice_get t.pattern.alternatives e.alternative ≡ Some a)
+    × (priority_of t a ≡ e.priority) × (goes_by_test a ≡ e.by_test)
 entry_found ts e among =
     let (c, in_all, is_e) = among_map_from entry_of (all_from as_own 0 ts) e among in
     let (k, t, x, j, a, is_t, of_t, is_a, is_c) = from_all as_own 0 ts c in_all in
@@ -156,6 +158,7 @@ entry_found ts e among =
       subst (λ n. slice_get ts n ≡ Some t) (none_before k ∙ ap (λ (y : Entry). y.template) whole) is_t,
       subst (λ n. slice_get t.pattern.alternatives n ≡ Some a) (ap (λ (y : Entry). y.alternative) whole) is_a,
       ap (λ (y : Entry). y.priority) whole,
+      ap (λ (y : Entry). y.by_test) whole,
     )
   where
     none_before : (n : ℕ) → n ≡ 0 + n
@@ -163,12 +166,13 @@ entry_found ts e among =
 
 -- and each alternative is there
 entry_listed : (ts : List Template) (e : Entry) (t : Template) (a : Alternative)
-    → slice_get ts e.template ≡ Some t → slice_get t.pattern.alternatives e.alternative ≡ Some a → priority_of t a ≡ e.priority → Among (entries_from 0 ts) e
-entry_listed ts e t a is_t is_a is_priority =
+    → slice_get ts e.template ≡ Some t → slice_get t.pattern.alternatives e.alternative ≡ Some a → priority_of t a ≡ e.priority → goes_by_test a ≡ e.by_test → Among (entries_from 0 ts) e
+entry_listed ts e t a is_t is_a is_priority is_by_test =
     let in_all = finding.to_all as_own 0 ts e.template t category.Own e.alternative a is_t refl is_a in
     let placed = among_map entry_of (all_from as_own 0 ts) (candidate (0 + e.template) t category.Own e.alternative a) in_all in
-    subst (λ p. Among (entries_from 0 ts) (record { priority = p; template = e.template; alternative = e.alternative })) is_priority
-    (subst (λ n. Among (entries_from 0 ts) (record { priority = priority_of t a; template = n; alternative = e.alternative })) (none_before e.template) placed)
+    subst (λ b. Among (entries_from 0 ts) (record { priority = e.priority; template = e.template; alternative = e.alternative; by_test = b })) is_by_test
+    (subst (λ p. Among (entries_from 0 ts) (record { priority = p; template = e.template; alternative = e.alternative; by_test = goes_by_test a })) is_priority
+    (subst (λ n. Among (entries_from 0 ts) (record { priority = priority_of t a; template = n; alternative = e.alternative; by_test = goes_by_test a })) (none_before e.template) placed))
   where
     none_before : (n : ℕ) → 0 + n ≡ n
     none_before n = omega arith
@@ -177,13 +181,15 @@ entry_listed ts e t a is_t is_a is_priority =
 entered_is : (s : Sheet) (words : Words) (key : Key) (es : List Entry) → ((e : Entry) → Among es e → Among (entries_from 0 s.templates) e)
     → (e f : Entry) → Among es e → Among (entered_of s words key e) f → (e ≡ f) × (stands s words key e ≡ true)
 entered_is s words key es within e f among in_row =
-    let (t, a, is_t, is_a, is_priority) = entry_found s.templates e (within e among) in
+    let (t, a, is_t, is_a, is_priority, is_by_test) = entry_found s.templates e (within e among) in
     let entered_here = subst (λ l. Among l f) (at_found [] (λ (t : Template) (a : Alternative). entered (homes s.groups t) (numbered words (test_of a)) key e) s e t a is_t is_a) in_row in
     let (is, (h, in_homes, at)) = entered_from (homes s.groups t) (numbered words (test_of a)) key e f entered_here in
     let (is_key_home, is_key_test) = key_parts h (numbered words (test_of a)) key at in
     let is_in = subst (λ k. is_home k s.groups t ≡ true) is_key_home (listed_home s.groups t h in_homes) in
     let priorities = subst (λ p. int_eq p (priority_of t a) ≡ true) is_priority (int_same (priority_of t a)) in
-    let holds = and_both (is_home key.home s.groups t) _ is_in (and_both (same_test (numbered words (test_of a)) key.test) (int_eq e.priority (priority_of t a)) is_key_test priorities) in
+    let tests_alone = subst (λ b. beq b (goes_by_test a) ≡ true) is_by_test (bool_same (goes_by_test a)) in
+    let as_said = and_both (int_eq e.priority (priority_of t a)) _ priorities tests_alone in
+    let holds = and_both (is_home key.home s.groups t) _ is_in (and_both (same_test (numbered words (test_of a)) key.test) _ is_key_test as_said) in
     (is, at_found false (stands_at s words key e) s e t a is_t is_a ∙ holds)
 
 -- Rows that were filled with all alternatives, the best first, are those of the sheet.
@@ -200,8 +206,9 @@ filled s words es rows all_there none_else ordered filled_by key =
       each = λ e e_stands.
           let (t, a, is_t, is_a, at) = found_at (stands_at s words key e) s e e_stands in
           let parts = both (is_home key.home s.groups t) _ at in
-          let others = both (same_test (numbered words (test_of a)) key.test) (int_eq e.priority (priority_of t a)) parts.1 in
-          let listed = entry_listed s.templates e t a is_t is_a (sym (int_is e.priority (priority_of t a) others.1)) in
+          let others = both (same_test (numbered words (test_of a)) key.test) _ parts.1 in
+          let as_said = both (int_eq e.priority (priority_of t a)) (beq e.by_test (goes_by_test a)) others.1 in
+          let listed = entry_listed s.templates e t a is_t is_a (sym (int_is e.priority (priority_of t a) as_said.0)) (sym (bool_is e.by_test (goes_by_test a) as_said.1)) in
           let in_es = from_contains es e (Contains-permutation (entries_from 0 s.templates) es e all_there (to_contains (entries_from 0 s.templates) e listed)) in
           let entered_here = entered_to (homes s.groups t) (numbered words (test_of a)) key e key.home (home_listed s.groups t key.home parts.0) (key_whole key.home (numbered words (test_of a)) key refl others.0) in
           let in_row = subst (λ l. Among l e) (sym (at_found [] (λ (t : Template) (a : Alternative). entered (homes s.groups t) (numbered words (test_of a)) key e) s e t a is_t is_a)) entered_here in
@@ -210,4 +217,5 @@ filled s words es rows all_there none_else ordered filled_by key =
     })
   where
     itself : (e : Entry) → is_same e e ≡ true
-    itself e = and_both (int_eq e.priority e.priority) _ (int_same e.priority) (and_both (e.template == e.template) (e.alternative == e.alternative) (eq-eqb e.template e.template refl) (eq-eqb e.alternative e.alternative refl))
+    itself e = and_both (int_eq e.priority e.priority) _ (int_same e.priority) (and_both (e.template == e.template) _ (eq-eqb e.template e.template refl)
+        (and_both (e.alternative == e.alternative) (beq e.by_test e.by_test) (eq-eqb e.alternative e.alternative refl) (bool_same e.by_test)))

@@ -11,6 +11,7 @@ mod Lasting
 mod Homing
 mod Outward
 mod Exact
+mod Sure
 mod Gathering
 mod Sorting
 mod Filled

@@ -1,5 +1,5 @@
 -- The ranks for which rows are asked.
-use Rattle.std.specs.Prelude.{ℕ, zero, suc, ◌==◌, nat_lt, Bool, true, false, not, ◌&&◌, List, [], ◌∷◌, ◌++◌, map, filter, length, Option, Some, None}
+use Rattle.std.specs.Prelude.{◌≡◌, ℕ, zero, suc, ◌==◌, nat_lt, Bool, true, false, not, ◌&&◌, List, [], ◌∷◌, ◌++◌, All, Contains, map, filter, length, Option, Some, None}
 use Rattle.std.specs.List.{flat_map, list_any}
 use Rattle.stx_base.specs.declared.limits.Limits.{Limits}
 use Rattle.node_stack.specs.Path.{Path}
@@ -40,6 +40,15 @@ entry_fits q e = at_entry false (λ (t : Template) (a : Alternative). fits a (q.
 -- it fits, and its template isn't active
 abbrev pub can_be : Asked → Entry → Bool
 can_be q e = not (is_active q.active e.template) && entry_fits q e
+
+-- where an entry goes by its test, it fits
+abbrev pub IsSure : Asked → Entry → Type 0
+IsSure q e = e.by_test ≡ true → entry_fits q e ≡ true
+
+-- so it is with all in the rows of tests
+abbrev pub AreSure : Asked → Rows → List (Option Test) → Type 0
+AreSure q rows tests =
+    (home : Home) (test : Test) → Contains tests (Some test) → All (IsSure q) (row rows (record { home = home; test = test }))
 
 -- the ranks of those that can be chosen
 abbrev pub ranks : Asked → Category → List Entry → List Rank

@@ -1,7 +1,11 @@
 -- Alternatives as rows hold them.
-use Rattle.std.specs.Prelude.{◌≡◌, ℕ, ◌==◌, Bool, false, ◌&&◌, List, AllPairs, Option, Some, None, slice_get}
+use Rattle.std.specs.Bool.{beq}
+use Rattle.std.specs.Prelude.{◌≡◌, ℕ, ◌==◌, Bool, true, false, ◌&&◌, List, [], ◌∷◌, AllPairs, Option, Some, None, slice_get}
 use Rattle.std.specs.Ordering.{int_eq}
 use Rattle.stxpath_syntax.specs.declared.expr.Alternative.{Alternative}
+use Rattle.stxpath_syntax.specs.declared.expr.Alternative.TheVariants.{Root, Steps}
+use Rattle.match_patterns.specs.Fits.{is_bare}
+use Rattle.match_patterns.specs.Priority.{is_start}
 use Rattle.sheet_model.specs.declared.sheet.Sheet.{Sheet}
 use Rattle.sheet_model.specs.declared.sheet.Template.{Template}
 use Rattle.group_scope.specs.Rank.{is_better_within}
@@ -15,7 +19,14 @@ abbrev pub ranked : Entry → Category → Rank
 ranked e c = record { category = c; priority = e.priority; template = e.template; alternative = e.alternative }
 
 abbrev pub is_same : Entry → Entry → Bool
-is_same e f = int_eq e.priority f.priority && (e.template == f.template && e.alternative == f.alternative)
+is_same e f =
+    int_eq e.priority f.priority && (e.template == f.template && (e.alternative == f.alternative && beq e.by_test f.by_test))
+
+-- `/`, or a lone step without predicates and without a leading slash: it fits whatever passes its test
+abbrev pub goes_by_test : Alternative → Bool
+goes_by_test Root = true
+goes_by_test (Steps (s ∷ [])) = is_start s.link && is_bare s
+goes_by_test a = false
 
 -- no later one is better, in whatever category they are
 abbrev pub IsBestFirst : List Entry → Type 0

@@ -6,7 +6,7 @@ use Rattle.match_patterns.specs.Fits.{test_of}
 use Rattle.sheet_model.specs.declared.sheet.Sheet.{Sheet}
 use Rattle.sheet_model.specs.declared.sheet.Template.{Template}
 use Rattle.group_scope.specs.Choice.{Candidate, all_from, alternatives_from, priority_of}
-use Rattle.group_scope.specs.Entries.{at_entry}
+use Rattle.group_scope.specs.Entries.{at_entry, goes_by_test}
 use Rattle.group_scope.specs.Homes.{homes}
 use Rattle.group_scope.specs.Rows.{Key, entered, row}
 use Rattle.group_scope.specs.Words.{numbered}
@@ -18,11 +18,12 @@ use Rattle.group_scope.specs.declared.words.Words.{Words}
 use Rattle.std.specs.Prelude.{ℕ, Option, Some}
 
 abbrev pub entry_of : Candidate → Entry
-entry_of c = record { priority = c.rank.priority; template = c.rank.template; alternative = c.rank.alternative }
+entry_of c =
+    record { priority = c.rank.priority; template = c.rank.template; alternative = c.rank.alternative; by_test = goes_by_test c.pattern }
 
 -- the entry of an alternative at a place
 abbrev pub entry_at : (number : ℕ) → Template → (place : ℕ) → Alternative → Entry
-entry_at number t place a = record { priority = priority_of t a; template = number; alternative = place }
+entry_at number t place a = record { priority = priority_of t a; template = number; alternative = place; by_test = goes_by_test a }
 
 -- the alternatives of a template
 abbrev pub entries_of : (number : ℕ) → Template → List Entry

@@ -1,4 +1,5 @@
 -- What a scope holds of its sheet.
+use Rattle.std.specs.Bool.{beq}
 use Rattle.std.specs.Prelude.{◌≡◌, Bool, true, false, ◌&&◌, List, All, IsTrue}
 use Rattle.std.specs.List.{list_any}
 use Rattle.std.specs.Ordering.{int_eq}
@@ -7,7 +8,7 @@ use Rattle.match_patterns.specs.Fits.{test_of}
 use Rattle.sheet_model.specs.declared.sheet.Sheet.{Sheet}
 use Rattle.sheet_model.specs.declared.sheet.Template.{Template}
 use Rattle.group_scope.specs.Choice.{priority_of}
-use Rattle.group_scope.specs.Entries.{IsBestFirst, at_entry, is_same}
+use Rattle.group_scope.specs.Entries.{IsBestFirst, at_entry, goes_by_test, is_same}
 use Rattle.group_scope.specs.Homes.{is_home}
 use Rattle.group_scope.specs.Rows.{Key, row}
 use Rattle.group_scope.specs.Words.{all_are_numbered, numbered}
@@ -22,7 +23,8 @@ same_test = (test_eq.ghosts).eq
 
 abbrev pub stands_at : Sheet → Words → Key → Entry → Template → Alternative → Bool
 stands_at s words key e t a =
-    is_home key.home s.groups t && (same_test (numbered words (test_of a)) key.test && int_eq e.priority (priority_of t a))
+    is_home key.home s.groups t
+    && (same_test (numbered words (test_of a)) key.test && (int_eq e.priority (priority_of t a) && beq e.by_test (goes_by_test a)))
 
 -- it is an alternative of a template of the key's home, with the key's test at its last step
 abbrev pub stands : Sheet → Words → Key → Entry → Bool

@@ -1,6 +1,6 @@
 //! The best alternatives of rows.
 
-ghost use Rattle.std.specs.Prelude.{◌≡◌, ◌++◌, IfOk, Some, option_map, length};
+ghost use Rattle.std.specs.Prelude.{◌≡◌, ◌++◌, All, IfOk, Some, option_map, length};
 ghost use Rattle.std.specs.List.{list_any};
 ghost use Rattle.node_stack.specs.Stack.{path};
 ghost use Rattle.sheet_model.specs.Sound.{IsSound};
@@ -59,11 +59,15 @@ impl<G: GroupVars> Asking<'_, G> {
 
     /// Whether an alternative can be chosen.
     fn can_be(&self, alloc: Global, entry: Entry) -> Result<bool, Memory>
-        requires { IsSound self.now.sheet.now }
+        requires sound { IsSound self.now.sheet.now }
+        requires sure { spec.IsSure (spec.question self.now.sheet.now self.now.active.now (G.seen self.now.vars.now) self.now.limits.now (path self.now.stack.now)) entry }
         ensures { IfOk result (λ b. b ≡ spec.can_be (spec.question self.now.sheet.now self.now.active.now (G.seen self.now.vars.now) self.now.limits.now (path self.now.stack.now)) entry) }
     {
         if self.is_active(entry.template) {
             return Ok(false);
+        }
+        if entry.by_test {
+            return Ok(true);
         }
         self.fits(alloc, entry)
     }
@@ -78,6 +82,7 @@ impl<G: GroupVars> Asking<'_, G> {
     ) -> Result<Option<Rank>, Memory>
         requires sound { IsSound self.now.sheet.now }
         requires ordered { IsBestFirst row.now }
+        requires sure { All (spec.IsSure (spec.question self.now.sheet.now self.now.active.now (G.seen self.now.vars.now) self.now.limits.now (path self.now.stack.now))) row.now }
         ensures { IfOk result (λ r. r ≡ improved best (spec.ranks (spec.question self.now.sheet.now self.now.active.now (G.seen self.now.vars.now) self.now.limits.now (path self.now.stack.now)) category row.now)) }
     {
         for entry in row {
@@ -104,6 +109,7 @@ impl<G: GroupVars> Asking<'_, G> {
     ) -> Result<Option<Rank>, Memory>
         requires sound { IsSound self.now.sheet.now }
         requires ordered { (key : RowKey) → IsBestFirst (row_of rows.now key) }
+        requires sure { spec.AreSure (spec.question self.now.sheet.now self.now.active.now (G.seen self.now.vars.now) self.now.limits.now (path self.now.stack.now)) rows.now tests.now }
         ensures { IfOk result (λ r. r ≡ improved best (spec.ranks_of_home (spec.question self.now.sheet.now self.now.active.now (G.seen self.now.vars.now) self.now.limits.now (path self.now.stack.now)) rows.now tests.now category home)) }
     {
         let mut best = best;
@@ -134,6 +140,7 @@ impl<G: GroupVars> Asking<'_, G> {
     ) -> Result<Option<Rank>, Memory>
         requires sound { IsSound self.now.sheet.now }
         requires ordered { (key : RowKey) → IsBestFirst (row_of rows.now key) }
+        requires sure { spec.AreSure (spec.question self.now.sheet.now self.now.active.now (G.seen self.now.vars.now) self.now.limits.now (path self.now.stack.now)) rows.now tests.now }
         ensures { IfOk result (λ r. r ≡ improved best (spec.ranks_around (spec.question self.now.sheet.now self.now.active.now (G.seen self.now.vars.now) self.now.limits.now (path self.now.stack.now)) rows.now tests.now levels group)) }
     {
         let Some(fewer) = levels.checked_sub(1) else {

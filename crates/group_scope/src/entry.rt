@@ -13,6 +13,8 @@ pub struct Entry {
     pub priority: i32,
     pub template: u32,
     pub alternative: u32,
+    /// It fits whatever passes the test of its last step.
+    pub by_test: bool,
 }
 
 impl Entry {

@@ -3,6 +3,7 @@
 ghost use Rattle.std.specs.Prelude.{◌≡◌, ◌<◌, ◌^◌, ◌++◌, IfOk, OnOk, length, true};
 ghost use Rattle.sheet_model.specs.Sound.{IsSound};
 ghost use Rattle.match_patterns.specs.Fits.{test_of};
+ghost use Rattle.group_scope.specs.Entries as entries_;
 ghost use Rattle.group_scope.specs.Filling as filling;
 ghost use Rattle.group_scope.specs.Rows.{Key as RowKey, row};
 ghost use Rattle.group_scope.specs.Words.{Keeps, all_are_numbered, are_numbered, is_numbered_template, numbered};
@@ -16,7 +17,7 @@ use crate::words::Words;
 use sheet_model::{Sheet, Template};
 use std::alloc::Global;
 use stx_base::Memory;
-use stxpath_syntax::Alternative;
+use stxpath_syntax::{Alternative, Link};
 
 /// The alternatives of a sheet by their homes and the tests of their last steps.
 #[derive(Drop)]
@@ -116,6 +117,20 @@ fn entry_of(number: u32, template: &Template, place: u32, alternative: &Alternat
         priority: priority(template, alternative),
         template: number,
         alternative: place,
+        by_test: goes_by_test(alternative),
+    }
+}
+
+/// Whether it is `/`, or a lone step without predicates and without a leading slash.
+fn goes_by_test(alternative: &Alternative) -> bool
+    ensures { result ≡ entries_.goes_by_test alternative.now }
+{
+    let Alternative::Steps(steps) = alternative else {
+        return true;
+    };
+    match steps.as_slice() {
+        [step] => matches!(step.link, Link::Start) && step.predicates.is_empty(),
+        _ => false,
     }
 }
 

@@ -1,6 +1,8 @@
 //! Numbers for the texts that the tests of a sheet name.
 
-ghost use Rattle.std.specs.Prelude.{◌≡◌, OnOk, is_some, true};
+ghost use Rattle.std.specs.Prelude.{◌≡◌, [], OnOk, is_some, string_bytes, true};
+ghost use Rattle.std.specs.Str.{bytes_eq};
+ghost use Rattle.indexmap.specs.IndexSet.{contains_by, index_of_by};
 ghost use Rattle.node_stack.specs.Open.{node_of};
 ghost use Rattle.node_stack.specs.Path.{kind_of};
 ghost use Rattle.group_scope.specs.Words as spec;
@@ -15,12 +17,17 @@ use stx_base::{Memory, Name, NodeTest, Text};
 #[derive(Drop)]
 pub struct Words {
     texts: IndexSet<String>,
+    // The number of the empty text, which is the URI of most names, so that it needn't be looked up.
+    empty: Option<usize>,
+    ghost known: { empty ≡ index_of_by (λ word. bytes_eq [] (string_bytes word)) texts },
+    ghost has: { is_some empty ≡ contains_by (λ word. bytes_eq [] (string_bytes word)) texts },
 }
 
 impl Words {
     pub fn new(alloc: Global) -> Words {
         Words {
             texts: IndexSet::new(alloc),
+            empty: None,
         }
     }
 
@@ -55,6 +62,7 @@ impl Words {
         if self.number(text).is_none() {
             let text = String::from_str(alloc, text.as_str())?;
             self.texts.insert(text)?;
+            self.empty = self.texts.get_index_of("");
         }
         Ok(())
     }
@@ -63,6 +71,9 @@ impl Words {
         ensures number { result ≡ spec.number self.now text.now }
         ensures found { is_some result ≡ spec.has_number self.now text.now }
     {
+        if text.is_empty() {
+            return self.empty;
+        }
         self.texts.get_index_of(text.as_str())
     }
 

@@ -1,4 +1,4 @@
-use Rattle.std.proofs.Common.{Some, get_or, ap, sym, ◌∙◌}
+use Rattle.std.proofs.Common.{false, Some, get_or, ap, sym, ◌∙◌}
 use Rattle.std.specs.Prelude.{pos}
 use Rattle.node_stack.specs.Stack.{path}
 use Rattle.group_scope.specs.Asking.{is_better_than_best, question}
@@ -9,7 +9,7 @@ use Rattle.group_scope.proofs.asking.Asking.best_in_row.Goals as goal
 
 -- what stands where a row has no entry
 abbrev no_entry : Entry
-no_entry = record { priority = pos 0; template = 0; alternative = 0 }
+no_entry = record { priority = pos 0; template = 0; alternative = 0; by_test = false }
 
 pub returns-then-not-is_better_than_best : goal.returns-then-not-is_better_than_best
 returns-then-not-is_better_than_best g c =

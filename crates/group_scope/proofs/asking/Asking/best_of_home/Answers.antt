@@ -1,7 +1,7 @@
-use Rattle.std.proofs.Common.{◌≡◌, [], None, get_or, ap, sym, subst, ◌∙◌}
+use Rattle.std.proofs.Common.{◌≡◌, [], All, None, get_or, ap, sym, subst, ◌∙◌}
 use Rattle.std.specs.Bool.{OnFalse}
 use Rattle.node_stack.specs.Stack.{path}
-use Rattle.group_scope.specs.Asking.{question, ranks, ranks_of_test}
+use Rattle.group_scope.specs.Asking.{IsSure, question, ranks, ranks_of_test}
 use Rattle.group_scope.specs.Rank.{improved}
 use Rattle.group_scope.proofs.Among.{item_again}
 use Rattle.group_scope.specs.Rows.{row}
@@ -22,6 +22,12 @@ returns-then-not-may_have g c =
     let q = question a.sheet.now a.active.now (g.G.GroupVars.seen a.vars.now) a.limits.now (path a.stack.now) in
     no_rows q c.args.rows.now c.args.tests.now c.args.category c.args.home c.args.best
     (subst (λ b. OnFalse b ((test : Test) → row c.args.rows.now (record { home = c.args.home; test = test }) ≡ [])) c.if-not-may_have.true c.may_have.ensures)
+
+pub best_in_row-requires-clause-sure : goal.best_in_row-requires-clause-sure
+best_in_row-requires-clause-sure g c =
+    let a = c.args.self.now in
+    let q = question a.sheet.now a.active.now (g.G.GroupVars.seen a.vars.now) a.limits.now (path a.stack.now) in
+    subst (All (IsSure q)) (sym c.get-row.ensures) (c.requires.sure c.args.home c.in-Some.test (c.loop-test.test-index, c.loop-test-test.true, c.in-Some.is))
 
 pub loop-test-preserved : goal.loop-test-preserved
 loop-test-preserved g c =

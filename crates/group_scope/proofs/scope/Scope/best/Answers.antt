@@ -10,6 +10,7 @@ use Rattle.group_scope.specs.declared.rank.Category.TheVariants.{Everywhere}
 use Rattle.group_scope.proofs.Exact.{chosen_in_turn}
 use Rattle.group_scope.proofs.Last.{some_node}
 use Rattle.group_scope.proofs.Outward.{if_ok}
+use Rattle.group_scope.proofs.Sure.{sure}
 use Rattle.group_scope.proofs.scope.Scope.best.Goals as goal
 
 pub overflow_sub-last : goal.overflow_sub-last
@@ -26,6 +27,27 @@ best_around-requires-clause-ordered g c = λ key. (c.requires.built.rows key).be
 
 pub best_of_home-requires-2-clause-ordered : goal.best_of_home-requires-2-clause-ordered
 best_of_home-requires-2-clause-ordered g c = λ key. (c.requires.built.rows key).best_first
+
+pub best_of_home-requires-clause-sure : goal.best_of_home-requires-clause-sure
+best_of_home-requires-clause-sure g c =
+    let a = c.args.asking.now in
+    let p = path a.stack.now in
+    let is_node = subst (λ n. node_at p (n - 1) ≡ Some (node_of c.view-node.result)) c.len-last.ensures.value c.view-node.ensures in
+    sure a.sheet.now a.active.now (g.G.GroupVars.seen a.vars.now) a.limits.now p c.args.self.now (node_of c.view-node.result) c.asked-tests.result is_node c.requires.built c.asked-tests.ensures
+
+pub best_around-requires-clause-sure : goal.best_around-requires-clause-sure
+best_around-requires-clause-sure g c =
+    let a = c.args.asking.now in
+    let p = path a.stack.now in
+    let is_node = subst (λ n. node_at p (n - 1) ≡ Some (node_of c.view-node.result)) c.len-last.ensures.value c.view-node.ensures in
+    sure a.sheet.now a.active.now (g.G.GroupVars.seen a.vars.now) a.limits.now p c.args.self.now (node_of c.view-node.result) c.asked-tests.result is_node c.requires.built c.asked-tests.ensures
+
+pub best_of_home-requires-2-clause-sure : goal.best_of_home-requires-2-clause-sure
+best_of_home-requires-2-clause-sure g c =
+    let a = c.args.asking.now in
+    let p = path a.stack.now in
+    let is_node = subst (λ n. node_at p (n - 1) ≡ Some (node_of c.view-node.result)) c.len-last.ensures.value c.view-node.ensures in
+    sure a.sheet.now a.active.now (g.G.GroupVars.seen a.vars.now) a.limits.now p c.args.self.now (node_of c.view-node.result) c.asked-tests.result is_node c.requires.built c.asked-tests.ensures
 
 pub returns : goal.returns
 returns g c =
