@@ -1,9 +1,10 @@
 -- Alternatives that go by their tests fit the nodes for which these are asked.
-use Rattle.std.proofs.Common.{◌≡◌, inl, inr, ℕ, suc, ◌+◌, ◌-◌, ◌<◌, ◌==◌, Bool, true, false, not, cond, ◌&&◌, ◌||◌, List, [], ◌∷◌, Option, Some, None, length, get_or, position, encode_utf8_all, string_bytes, refl, ap, sym, subst, ◌∙◌, lt-ltb, arith}
-use Rattle.std.proofs.lemmas.Bool.{eqb-true}
+use Rattle.std.proofs.Common.{◌≡◌, inl, inr, ℕ, suc, ◌+◌, ◌-◌, ◌<◌, ◌==◌, Bool, true, false, not, cond, ◌&&◌, ◌||◌, List, [], ◌∷◌, Option, Some, None, length, get_or, position, encode_utf8_all, string_bytes, refl, ap, sym, subst, ◌∙◌, arith}
+use Rattle.std.proofs.lemmas.Bool.{eq-eqb, eqb-true, lt-ltb}
+use Rattle.std.proofs.lemmas.List.FromFn.{get_or-range_with_len, length-range_with_len}
 use Rattle.std.proofs.lemmas.List.Quantifiers.{position-Some}
 use Rattle.std.specs.Cmp.Lexicographic.{bytes_decides}
-use Rattle.std.specs.List.{list_all, list_any, position_or_len}
+use Rattle.std.specs.List.{list_all, list_any, position_or_len, range_with_len}
 use Rattle.std.specs.Ordering.{int_eq}
 use Rattle.std.specs.Str.{bytes_eq}
 use Rattle.stx_base.specs.declared.limits.Limits.{Limits}
@@ -18,10 +19,10 @@ use Rattle.stxpath_syntax.specs.declared.expr.Alternative.{Alternative}
 use Rattle.stxpath_syntax.specs.declared.expr.Alternative.TheVariants.{Root, Steps}
 use Rattle.stxpath_syntax.specs.declared.expr.Link.{Link}
 use Rattle.stxpath_syntax.specs.declared.expr.Link.TheVariants as link
-use Rattle.match_patterns.specs.Fits.{fits, is_bare, node_passes, test_of}
+use Rattle.stxpath_syntax.specs.declared.expr.PathStep.{PathStep}
+use Rattle.match_patterns.specs.Fits.{fits, is_bare, may_follow, node_passes, step_fits, steps_fit, test_of}
 use Rattle.match_patterns.specs.Grouping.{Seen}
 use Rattle.match_patterns.specs.Priority.{is_start}
-use Rattle.match_patterns.proofs.Lawful.{fits_by_step}
 use Rattle.sheet_model.specs.declared.sheet.Sheet.{Sheet}
 use Rattle.sheet_model.specs.declared.sheet.Template.{Template}
 use Rattle.group_scope.specs.Asking.{AreSure, IsSure, question}
@@ -51,7 +52,7 @@ place_within p (x ∷ xs) h =
     ] h
 
 placed : {A : Type 0} (p : A → Bool) (xs : List A) → list_any p xs ≡ true → position p xs ≡ Some (position_or_len p xs)
-placed p xs h = ap (λ b. cond b (Some (position_or_len p xs)) None) (lt-ltb (place_within p xs h))
+placed p xs h = ap (λ b. cond b (Some (position_or_len p xs)) None) (lt-ltb _ _ (place_within p xs h))
 
 -- tests that find one place agree on what stands there
 found_by_both : {A : Type 0} (p q : A → Bool) (xs : List A) → list_any p xs ≡ true → position p xs ≡ position q xs → (x : A) × (p x ≡ true) × (q x ≡ true)
@@ -60,8 +61,8 @@ found_by_both p q xs h same_place =
     let i = position_or_len p xs in
     let at = placed p xs h in (
       get_or xs i d,
-      (position-Some p xs i d at).1.0,
-      (position-Some q xs i d (sym same_place ∙ at)).1.0,
+      (position-Some p xs i d at).1,
+      (position-Some q xs i d (sym same_place ∙ at)).1,
     )
 
 same_text : (words : Words) (a b : List ℕ) → has_number words a ≡ true → number words a ≡ number words b → same b a ≡ true
@@ -208,14 +209,32 @@ start_is link.Deep h = cc
 
 none_asked : {A : Type 0} (p : A → Bool) (xs : List A) → (length xs == 0) ≡ true → list_all p xs ≡ true
 none_asked p [] h = refl
-none_asked p (x ∷ xs) h = cc
+none_asked p (x ∷ xs) h = absurd (omega (arith, eqb-true (suc (length xs)) 0 h))
+
+-- the current node's place is one of those that steps may be given
+own_place : (n : ℕ) → Among (range_with_len 0 (n + 1)) n
+own_place n =
+    from_contains (range_with_len 0 (n + 1)) n (
+      n,
+      omega (arith, length-range_with_len 0 (n + 1)),
+      get_or-range_with_len 0 (n + 1) n n (omega arith) ∙ none_before n,
+    )
+  where
+    none_before : (n : ℕ) → 0 + n ≡ n
+    none_before n = omega arith
+
+one_step_fits : (s : PathStep) (g : Setting) → s.link ≡ link.Start → step_fits s g g.place ≡ true → steps_fit (s ∷ []) g None ≡ true
+one_step_fits s g is h =
+    among_any (λ place. may_follow s.link None place && step_fits s g place && steps_fit [] g (Some place)) (range_with_len 0 (g.place + 1)) g.place (own_place g.place)
+    (and_both (may_follow s.link None g.place && step_fits s g g.place) (steps_fit [] g (Some g.place))
+    (and_both (may_follow s.link None g.place) (step_fits s g g.place) (ap (λ l. may_follow l None g.place) is) h) (eq-eqb g.place g.place refl))
 
 by_test_fits : (a : Alternative) (g : Setting) → goes_by_test a ≡ true → node_passes (test_of a) (node_at g.path g.place) ≡ true → fits a g ≡ true
 by_test_fits Root g h p = p
 by_test_fits (Steps []) g h p = cc
 by_test_fits (Steps (s ∷ [])) g h p =
     let parts = both (is_start s.link) (is_bare s) h in
-    (fits_by_step g s).0 (start_is s.link parts.0) ∙ and_both (node_passes s.test (node_at g.path g.place)) _ p (none_asked _ s.predicates parts.1)
+    one_step_fits s g (start_is s.link parts.0) (and_both (node_passes s.test (node_at g.path g.place)) _ p (none_asked _ s.predicates parts.1))
 by_test_fits (Steps (s ∷ t ∷ steps)) g h p = cc
 
 all_of : {A : Type 0} (p : A → Bool) (xs : List A) (x : A) → list_all p xs ≡ true → Among xs x → p x ≡ true

@@ -5,7 +5,6 @@ ghost use Rattle.std.specs.Str.{bytes_eq};
 ghost use Rattle.indexmap.specs.IndexSet.{contains_by, index_of_by};
 ghost use Rattle.node_stack.specs.Open.{node_of};
 ghost use Rattle.node_stack.specs.Path.{kind_of};
-ghost use Rattle.group_scope.specs.Words as spec;
 
 use crate::key::Test;
 use indexmap::IndexSet;
@@ -24,6 +23,8 @@ pub struct Words {
 }
 
 impl Words {
+    ghost use Rattle.group_scope.specs.Words as spec;
+
     pub fn new(alloc: Global) -> Words {
         Words {
             texts: IndexSet::new(alloc),

@@ -27,7 +27,11 @@ pub best_in_row-requires-clause-sure : goal.best_in_row-requires-clause-sure
 best_in_row-requires-clause-sure g c =
     let a = c.args.self.now in
     let q = question a.sheet.now a.active.now (g.G.GroupVars.seen a.vars.now) a.limits.now (path a.stack.now) in
-    subst (All (IsSure q)) (sym c.get-row.ensures) (c.requires.sure c.args.home c.in-Some.test (c.loop-test.test-index, c.loop-test-test.true, c.in-Some.is))
+    let tests = c.args.tests.now in
+    let i = c.loop-test.test-index in
+    let h = c.loop-test-test.true in
+    let at = ap (get_or tests i) (sym c.in-Some.is) ∙ sym (item_again tests i None h) ∙ c.in-Some.is in
+    subst (All (IsSure q)) (sym c.get-row.ensures) (c.requires.sure c.args.home c.in-Some.test (i, h, at))
 
 pub loop-test-preserved : goal.loop-test-preserved
 loop-test-preserved g c =
