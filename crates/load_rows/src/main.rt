@@ -1,0 +1,25 @@
+//! Rows of sheets: whether each is accepted, or its first fault, and the names of the files that are opened.
+#![tactic(auto)]
+
+mod reading;
+mod told;
+
+use rows::{Row, Tables, Trouble, run_rows};
+use std::alloc::Global;
+use std::io;
+use std::process::ExitCode;
+
+struct Loads;
+
+impl Tables for Loads {
+    fn tell(&self, alloc: Global, row: &Row, out: &mut String) -> Result<(), Trouble> {
+        match row.table {
+            "loads" => told::tell(alloc, row, out),
+            _ => Err(Trouble::Row("a table that isn't there")),
+        }
+    }
+}
+
+fn main(rt: HostRuntime) -> io::Result<ExitCode> {
+    run_rows(&rt, &Loads)
+}
