@@ -6,5 +6,6 @@ mod Growing
 mod Joining
 mod Layers
 mod Laying
+mod Nests
 mod Parts
 mod Sections

@@ -1,14 +1,15 @@
 -- Laws of the buffers.
-use Rattle.std.specs.Prelude.{◌≡◌, ◌≢◌, ℕ, true, false, List, [], ◌∷◌, ◌++◌, None}
+use Rattle.std.specs.Prelude.{◌≡◌, ◌≢◌, ◌≤◌, ℕ, Bool, true, false, List, [], ◌∷◌, ◌++◌, None}
 use Rattle.stx_base.specs.declared.part.Part.{Part}
 use Rattle.result_writer.specs.Nodes as nodes
 use Rattle.result_writer.specs.Target.{Left, holds_cdata_text, whole_fault}
 use Rattle.xml_events.specs.Telling.{events_in}
 use Rattle.xml_events.specs.declared.event.Event.{Event}
-use Rattle.event_buffers.specs.Buffers.{Buffers, copies_of, is_written, on_buffer, on_first, on_group, on_newest, taken_off}
+use Rattle.event_buffers.specs.Buffers.{Buffers, busy_at, copies_of, is_read, is_written, on_buffer, on_first, on_group, on_newest, read_at, refusal_at, taken_off, unclosed_at}
 use Rattle.event_buffers.specs.Forest.{forest, is_balanced, plain}
 use Rattle.event_buffers.specs.Kept.{added, kept_of}
-use Rattle.event_buffers.specs.Layer.{Layer, all_put, laid, opened_write}
+use Rattle.event_buffers.specs.Layer.{Layer, all_put, closed, laid, opened_read, opened_write, with_part}
+use Rattle.event_buffers.specs.Nesting.{AreShallow, IsShallowContent, TellWithin, deepest}
 use Rattle.event_buffers.specs.Sections.{hold_texts, tell_texts}
 use Rattle.event_buffers.specs.Told.{told}
 use Rattle.event_buffers.specs.declared.kept.Kept.{Kept}
@@ -53,3 +54,30 @@ SectionsStay = (l : Left) (p : Part) (ks : List Kept) → holds_cdata_text p ≡
 
 abbrev pub SectionsAreTold : Type 0
 SectionsAreTold = (ks : List Kept) → hold_texts ks ≡ true → tell_texts (told ks) ≡ true
+
+-- No copy ever nests deeper than the limit that writing allows, or than the declared contents do, whichever is greater.
+
+-- what is declared nests as deep as its parts, which have no fault
+abbrev pub DeclaredIsShallow : Type 0
+DeclaredIsShallow = (most limit : ℕ) (ps : List Part) → whole_fault most ps ≡ None → deepest ps ≤ limit → IsShallowContent limit (kept_of ps)
+
+-- each call that changes buffers keeps it so
+abbrev pub LayingIsShallow : Type 0
+LayingIsShallow = (limit group : ℕ) (b : Buffers) → AreShallow limit b
+    → AreShallow limit (on_group (λ copies. laid ∷ copies) group b) × AreShallow limit (on_group taken_off group b)
+
+abbrev pub OpeningIsShallow : Type 0
+OpeningIsShallow = (limit id : ℕ) (clear : Bool) (b : Buffers) → AreShallow limit b → busy_at b id ≡ None
+    → AreShallow limit (on_buffer (on_newest (opened_write b.elements clear)) id b) × AreShallow limit (on_buffer (on_newest opened_read) id b)
+
+abbrev pub PuttingIsShallow : Type 0
+PuttingIsShallow = (limit id : ℕ) (p : Part) (b : Buffers) → AreShallow limit b → refusal_at b id p ≡ None
+    → AreShallow limit (on_buffer (on_first is_written (with_part p)) id b)
+
+abbrev pub ClosingIsShallow : Type 0
+ClosingIsShallow = (limit id : ℕ) (b : Buffers) → AreShallow limit b
+    → (unclosed_at b id ≡ None → AreShallow limit (on_buffer (on_first is_written closed) id b)) × AreShallow limit (on_buffer (on_first is_read closed) id b)
+
+-- what is told of it nests no deeper
+abbrev pub ToldIsShallow : Type 0
+ToldIsShallow = (limit id : ℕ) (b : Buffers) → AreShallow limit b → TellWithin limit 0 (told (read_at b id))

@@ -5,6 +5,7 @@ pub mod Inside
 pub mod Kept
 pub mod Layer
 pub mod Laws
+pub mod Nesting
 pub mod Sections
 pub mod Told
 pub mod Weight

@@ -1,6 +1,6 @@
 //! Laws of the definitions, as contracts.
 
-ghost use Rattle.event_buffers.specs.Laws.{EventsTellTheForest, KeptIsWhatWasPut, LaidOverAndTakenOff, OlderTakesParts, OtherBuffersStay, PutIsKept, SectionsAreTold, SectionsStay, TextsJoin};
+ghost use Rattle.event_buffers.specs.Laws.{ClosingIsShallow, DeclaredIsShallow, EventsTellTheForest, KeptIsWhatWasPut, LaidOverAndTakenOff, LayingIsShallow, OlderTakesParts, OpeningIsShallow, OtherBuffersStay, PutIsKept, PuttingIsShallow, SectionsAreTold, SectionsStay, TextsJoin, ToldIsShallow};
 
 /// What is laid over and taken off leaves what was, what is done to one buffer leaves the others, and an older copy that is open
 /// gets the parts.
@@ -30,4 +30,15 @@ pub fn put_is_kept()
 pub fn sections()
     ensures put { SectionsStay }
     ensures told { SectionsAreTold }
+{}
+
+/// Buffers nest no deeper than what is declared, or than is allowed while they are written, whichever is greater; and so does
+/// what they tell.
+pub fn nesting()
+    ensures declared { DeclaredIsShallow }
+    ensures laying { LayingIsShallow }
+    ensures opening { OpeningIsShallow }
+    ensures putting { PuttingIsShallow }
+    ensures closing { ClosingIsShallow }
+    ensures told { ToldIsShallow }
 {}
