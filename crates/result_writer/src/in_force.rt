@@ -47,9 +47,13 @@ impl InForce {
     }
 
     /// The URI of the last binding of the prefix.
+    #[inline(always)]
     pub fn uri(&self, prefix: &Text) -> Option<&Text>
         ensures { (u : Items ℕ) → unwrap_or (option_copied result) u ≡ bound_from u self.now prefix.now }
     {
+        if self.others.is_empty() {
+            return last_uri(self.first.as_slice(), prefix);
+        }
         match self.others.uri(prefix) {
             Some(uri) => Some(uri),
             None => last_uri(self.first.as_slice(), prefix),

@@ -129,6 +129,7 @@ pub fn enter_scope(
 }
 
 /// Whether the last of the bindings of this prefix has this URI; none has the empty one.
+#[inline(always)]
 pub fn is_bound(in_force: &InForce, prefix: &Text, uri: &Text) -> bool
     ensures { result ≡ same (bound in_force.now prefix.now) uri.now }
 {

@@ -120,6 +120,7 @@ impl Copier {
         }
     }
 
+    #[inline(always)]
     fn start(
         &mut self,
         name: Name,
@@ -232,6 +233,7 @@ impl Copier {
         }
     }
 
+    #[inline(always)]
     fn put_chars(&mut self, text: &Text, out: &mut Vec<u8>) -> Result<Turn, WriteStop>
         ensures takes { Takes (leaf_ahead self.old (part.Chars text.now ∷ [])) self.new out.old.items out.new.items result }
         ensures opens { self.new.around ≡ self.old.around }
@@ -287,6 +289,7 @@ impl Copier {
     }
 
     // The innermost list ends: that of an open element, or else the document's.
+    #[inline(always)]
     fn end(&mut self, spare: &mut Spare, out: &mut Vec<u8>) -> Result<Turn, WriteStop>
         ensures takes { Takes (end_ahead self.old) self.new out.old.items out.new.items result }
         ensures opens { result ≡ Ok turn.More → length self.old.around ≡ suc (length self.new.around) }

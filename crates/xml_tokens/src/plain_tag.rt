@@ -23,8 +23,7 @@ pub struct PlainTag {
 
 /// The start tag that the bytes begin with, where it is whole, its names are of ASCII, and each attribute stands behind one
 /// space and says itself in double quotes. Its texts are made of what is spare.
-// It stays a function by itself: the lexer's frame would grow by it.
-#[inline(never)]
+#[inline(always)]
 pub fn plain_tag(alloc: Global, bytes: &[u8], spare: &mut Spare) -> Result<Option<PlainTag>, Memory>
     ensures { IfOk result (λ found. IfSome found (λ tag. BeginsWithTag tag bytes.now)) }
 {
