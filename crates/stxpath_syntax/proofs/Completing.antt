@@ -1,5 +1,5 @@
 -- The tokens of a derivation lead the machine to what they mean.
-use Rattle.std.proofs.Common.{◌≡◌, ◌≢◌, ℕ, zero, suc, ◌≤◌, ◌<◌, Bool, true, false, cond, nat_le, nat_eq, List, [], ◌∷◌, ◌++◌, Some, None, Option, ◌∙◌, refl, ap, arith, subst, lit≤, lit<}
+use Rattle.std.proofs.Common.{◌≡◌, ◌≢◌, ℕ, zero, suc, ◌+◌, ◌≤◌, ◌<◌, Bool, true, false, cond, nat_le, nat_eq, List, [], ◌∷◌, ◌++◌, Some, None, Option, ◌∙◌, refl, ap, arith, subst, lit≤, lit<}
 use Rattle.std.specs.Option.{option_map, option_and_then}
 use Rattle.std.proofs.lemmas.Bool.{false≢true}
 use Rattle.std.proofs.lemmas.Bool.Decides.{nat_tests}
@@ -32,7 +32,6 @@ use Rattle.stx_base.specs.declared.expression.Op.TheVariants as op
 use Rattle.stxpath_syntax.specs.declared.token.Written.{Written}
 use Rattle.stxpath_syntax.specs.Grammar as g
 use Rattle.stxpath_syntax.specs.Grammar.{at, minus, level, left_level, link_tokens, Test, AttrTest, Ending, Parents, Spells, Leading, Listed, Predicates, Steps}
-use Rattle.stxpath_syntax.specs.Counting.{next_count}
 use Rattle.stxpath_syntax.specs.Meaning.{none, flat, neg, operated, and_also, seq, root, untested, some, up, abs, called}
 use Rattle.stxpath_syntax.specs.Meaning as meaning
 use Rattle.stxpath_syntax.specs.Machine.{binds, gathered, is_pattern, is_beside, completed, opened, separated, separate, close, close_predicate, wait, complete, first, operand, walk_of, all_steps, whole_path, walk_on, begins_step, begin_step, at_stack, owned, after_root, begin_alternative, named_walk, after_name, turn, run, whole_alternative, last_alternative, with_last, end_of_pattern, last_operand, alone, end_of_expression}
@@ -119,7 +118,7 @@ follows _ = false
 pub record IsBracket (b : Meant (List Expr) → ℕ → Frame) : Type 0 where
   pub is_loose : (k : ℕ) (items : Meant (List Expr)) (count : ℕ) → binds k (b items count) ≡ false
   pub is_fit : (n : ℕ) (items : Meant (List Expr)) (count : ℕ) (frames : List Frame) → Fits n (b items count ∷ frames)
-  pub goes_on : (items : Meant (List Expr)) (count : ℕ) (last : Meant Expr) → separated (b items count) last ≡ Some (b (and_also items last) (next_count count))
+  pub goes_on : (items : Meant (List Expr)) (count : ℕ) (last : Meant Expr) → separated (b items count) last ≡ Some (b (and_also items last) (count + 1))
 
 pub group_is_bracket : IsBracket Group
 group_is_bracket = record { is_loose = λ k items count. refl; is_fit = λ n items count frames. tt; goes_on = λ items count last. refl }
@@ -299,7 +298,7 @@ module _ (dialect : Dialect) (scope : List Binding) where
   parents_lead (Parents.one p) frames = one dialect scope (at p token.DotDot) refl
   parents_lead (Parents.further s p {n = n} d ne) frames =
       then dialect scope (parents_lead d frames)
-      (begins_with dialect scope (at s token.Slash) refl (one dialect scope (at p token.DotDot) (ap (λ b. at_stack frames (cond b None (Some (Above (next_count n))))) (not_zero n ne))))
+      (begins_with dialect scope (at s token.Slash) refl (one dialect scope (at p token.DotDot) (ap (λ b. at_stack frames (cond b None (Some (Above (n + 1))))) (not_zero n ne))))
 
   ending_above : {us : List Placed} {t : Meant (Option NodeTest)} → Ending scope us t → (frames : List Frame) (n k : ℕ) → Completes us frames (Above k) n (up k t)
   ending_above Ending.without frames n k = record { end = in_state frames (Above k); leads = stays dialect scope _; ended = ended_above frames n k }
@@ -459,7 +458,7 @@ module _ (dialect : Dialect) (scope : List Binding) where
     closes_group (Listed.last {k = k} {es = es} {x = x} d e) ne c frames =
         let before = complete_leading d Group group_is_bracket frames in
         let inner = complete_spells e (Group es k ∷ frames) tt in
-        let some : nat_eq k 0 ≡ false = not_zero k (λ q. ne (ap next_count q)) in
+        let some : nat_eq k 0 ≡ false = not_zero k (λ q. ne (ap (λ n. n + 1) q)) in
         then dialect scope (then dialect scope before inner.leads)
         (one dialect scope (at c token.Close) (closes inner.ended refl c ∙ ap (λ v. completed frames (cond v x (seq (and_also es x)))) some))
 

@@ -12,7 +12,7 @@ use Rattle.stxpath_syntax.specs.declared.token.Placed.{Placed}
 use Rattle.stxpath_syntax.specs.declared.token.Token.{Token}
 use Rattle.stxpath_syntax.specs.Reading.{Readings, GoesOn, StopsAt, Stops, Gives, fault_of}
 use Rattle.stxpath_syntax.specs.Template.{Read}
-use Rattle.stxpath_syntax.specs.Tokens.{Lexed, Tokens, Refuses, Stands, behind, begun, classed, first_token, is_too_deep, space}
+use Rattle.stxpath_syntax.specs.Tokens.{Lexed, Tokens, Refuses, Stands, before_next, begun, classed, first_token, is_too_deep, space}
 
 -- ---- tokens
 
@@ -61,11 +61,11 @@ one_lexing b text (t ∷ ts) [] o None (len, s, l) m = absurd (no_token_there b 
 one_lexing b text (t ∷ ts) [] o (Some g) (len, s, l) m = absurd (not_refused b text t len g.kind s m.1)
 one_lexing b text (t ∷ ts) (u ∷ us) o p (n, s, l) (k, v, m) =
     let e = one_place b text t u n k s v in
-    let place : behind b u.token (b.at + k) ≡ behind b t.token (b.at + n)
-    = ap (λ (x : Placed). behind b x.token (b.at + k)) (sym e.0) ∙ ap (λ i. behind b t.token (b.at + i)) (sym e.1) in
-    let m' : Lexed (behind b t.token (b.at + n)) (drop n text) us p
-    = subst (λ i. Lexed (behind b t.token (b.at + n)) (drop i text) us p) (sym e.1) (subst (λ c. Lexed c (drop k text) us p) place m) in
-    let r = one_lexing (behind b t.token (b.at + n)) (drop n text) ts us o p l m' in
+    let place : before_next b u.token (b.at + k) ≡ before_next b t.token (b.at + n)
+    = ap (λ (x : Placed). before_next b x.token (b.at + k)) (sym e.0) ∙ ap (λ i. before_next b t.token (b.at + i)) (sym e.1) in
+    let m' : Lexed (before_next b t.token (b.at + n)) (drop n text) us p
+    = subst (λ i. Lexed (before_next b t.token (b.at + n)) (drop i text) us p) (sym e.1) (subst (λ c. Lexed c (drop k text) us p) place m) in
+    let r = one_lexing (before_next b t.token (b.at + n)) (drop n text) ts us o p l m' in
     (ap (λ x. x ∷ ts) e.0 ∙ ap (λ xs. u ∷ xs) r.0, r.1)
 
 -- ---- where reading stops

@@ -30,7 +30,7 @@ use Rattle.stxpath_syntax.specs.Reading.{Readings, Gives, fault_of}
 use Rattle.stxpath_syntax.specs.Running.{Sticks, whole_read}
 use Rattle.stxpath_syntax.specs.Template.{Read, Template, IsExpression, IsPattern, IsTemplate, is_brace, closing}
 use Rattle.stxpath_syntax.specs.Templating.{Cuts, with_piece}
-use Rattle.stxpath_syntax.specs.Tokens.{Lexed, Tokens, behind, begun, begins_name, classed, double_sign, first_token, goes_on, has_at, is_fraction, is_quote, is_too_deep, is_too_large, literal, name, numeral, sign, single_sign, space, unreadable, with_length}
+use Rattle.stxpath_syntax.specs.Tokens.{Lexed, Tokens, before_next, begun, begins_name, classed, double_sign, first_token, goes_on, has_at, is_fraction, is_quote, is_too_deep, is_too_large, literal, name, numeral, sign, single_sign, space, unreadable, with_length}
 use Rattle.stxpath_syntax.proofs.Answering.{ends_by}
 use Rattle.stxpath_syntax.proofs.Cutting.{cut_plain, cut_double, lone_by, unended_by, value_by, faulty_by}
 use Rattle.stxpath_syntax.proofs.Stopping.{Decided, sticks, expression_begun, pattern_begun, expressions, patterns}
@@ -113,7 +113,7 @@ module _ (b : Before) (text : List ℕ) (more : (c : Before) (left : List ℕ) �
   by_depth found false e ne l readable is =
       let n : ℕ = space text + found.1 in
       let long = long_of (first_token (drop (space text) text)) found is (token_long (drop (space text) text)) in
-      let rest = more (behind b (classed b.is_operand found.0) (b.at + n)) (drop n text) (omega (arith, length-drop n text, length-drop (space text) text, l, long)) in (
+      let rest = more (before_next b (classed b.is_operand found.0) (b.at + n)) (drop n text) (omega (arith, length-drop n text, length-drop (space text) text, l, long)) in (
         record { token = classed b.is_operand found.0; at = b.at + space text } ∷ rest.0,
         rest.1,
         (n, record { found = found; is_first = is; is_readable = readable; is_not_too_deep = e; is_it = refl; is_long = refl }, rest.2),

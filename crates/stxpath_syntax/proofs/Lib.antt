@@ -1,5 +1,6 @@
 pub mod Gathering
 pub mod Running
+pub mod Counts
 pub mod Completing
 pub mod Sounding
 pub mod Stopping

@@ -14,7 +14,7 @@ use Rattle.stxpath_syntax.specs.declared.token.Token.{Token}
 use Rattle.stxpath_syntax.specs.Lexing.{Finds, Reads, Lexes}
 use Rattle.stxpath_syntax.specs.Machine.{run, step}
 use Rattle.stxpath_syntax.specs.Running.{Nexts, Runs}
-use Rattle.stxpath_syntax.specs.Tokens.{Lexed, Tokens, Stands, behind, classed, first_token, is_too_deep, space, unreadable}
+use Rattle.stxpath_syntax.specs.Tokens.{Lexed, Tokens, Stands, before_next, classed, first_token, is_too_deep, space, unreadable}
 use Rattle.stxpath_syntax.proofs.Running.{run_more}
 
 -- what the rest of a text is cut into follows what was found
@@ -22,10 +22,10 @@ abbrev pub Follows : ℕ → List ℕ → List Placed → Before → List ℕ �
 Follows at text found before rest = (ts : List Placed) (over : Option PathFault) → Lexed before rest ts over → Tokens at text (found ++ ts) over
 
 pub one_more : (at : ℕ) (text : List ℕ) (found new : List Placed) (before after : Before) (rest : List ℕ) (next : Found)
-    → Follows at text found before rest → Stands before rest next.placed next.len → after ≡ behind before next.placed.token (before.at + next.len)
+    → Follows at text found before rest → Stands before rest next.placed next.len → after ≡ before_next before next.placed.token (before.at + next.len)
     → new ≡ found ++ next.placed ∷ [] → Follows at text new after (drop next.len rest)
 one_more at text found new before after rest next inv s e n = λ ts over h.
-    let h' : Lexed (behind before next.placed.token (before.at + next.len)) (drop next.len rest) ts over = subst (λ b. Lexed b (drop next.len rest) ts over) e h in
+    let h' : Lexed (before_next before next.placed.token (before.at + next.len)) (drop next.len rest) ts over = subst (λ b. Lexed b (drop next.len rest) ts over) e h in
     let all = inv (next.placed ∷ ts) over (next.len, s, h') in
     subst (λ ts. Tokens at text ts over) (sym (append_assoc found (next.placed ∷ []) ts) ∙ ap (λ f. f ++ ts) (sym n)) all
 

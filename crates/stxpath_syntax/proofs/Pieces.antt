@@ -10,8 +10,7 @@ use Rattle.stxpath_syntax.specs.declared.token.Placed.{Placed}
 use Rattle.stxpath_syntax.specs.declared.token.Token.{Token}
 use Rattle.stxpath_syntax.specs.declared.token.Token.TheVariants as token
 use Rattle.stxpath_syntax.specs.Grammar.{at, minus}
-use Rattle.stxpath_syntax.specs.Counting.{next_count}
-use Rattle.stxpath_syntax.specs.Tokens.{has_at, first_token, is_fraction, is_too_large, unreadable, is_too_deep, classed, behind, space, Stands, Lexed}
+use Rattle.stxpath_syntax.specs.Tokens.{has_at, first_token, is_fraction, is_too_large, unreadable, is_too_deep, classed, before_next, space, Stands, Lexed}
 
 abbrev pub before_at : ℕ → ℕ → Bool → Before
 before_at place opened is_operand = record { at = place; opened = opened; is_operand = is_operand }
@@ -81,7 +80,7 @@ stands b text raw n g d = record {
 -- a token, with what stands behind it
 pub one_token : {P : List ℕ → Type 0} (b : Before) (w : List ℕ) (raw t : Token) (d : ℕ) (e : Bool)
     → ((rest : List ℕ) → P rest → Begins (w ++ rest) raw (length w)) → is_too_deep b.opened raw ≡ false → classed b.is_operand raw ≡ t
-    → behind b t (b.at + length w) ≡ before_at (b.at + length w) d e → Piece (Tok t) P w b d e
+    → before_next b t (b.at + length w) ≡ before_at (b.at + length w) d e → Piece (Tok t) P w b d e
 one_token {P} b w raw t d e g deep is same = record {
   tokens = at b.at t ∷ [];
   end = b.at + length w;
@@ -120,8 +119,8 @@ spaced p d e text (t ∷ us) (len, s, l) =
         is_it = s.is_it ∙ (let same : p + 1 + space text ≡ p + (1 + space text) = omega arith in ap (λ n. at n (classed e s.found.0)) same);
         is_long = omega (arith, s.is_long);
       },
-      subst (λ n. Lexed (behind (before_at p d e) t.token n) (drop (1 + len) (32 ∷ text)) us None) place
-          (subst (λ rest. Lexed (behind (before_at p d e) t.token (p + 1 + len)) rest us None) (sym (drop_one len 32 text)) l),
+      subst (λ n. Lexed (before_next (before_at p d e) t.token n) (drop (1 + len) (32 ∷ text)) us None) place
+          (subst (λ rest. Lexed (before_next (before_at p d e) t.token (p + 1 + len)) rest us None) (sym (drop_one len 32 text)) l),
     )
 
 pub after_space : {S : List Placed → Type 0} {P : List ℕ → Type 0} {w : List ℕ} {p d k : ℕ} {e f : Bool}
@@ -285,9 +284,6 @@ dot_whole rest (Breaks.at_close_predicate cs) = refl
 not_deep : (d : ℕ) → d ≤ 63 → nat_lt 63 d ≡ false
 not_deep d h = grind (arith, nat_tests)
 
-more_is : (d : ℕ) → d ≤ 63 → next_count d ≡ d + 1
-more_is d h = omega arith
-
 less_is : (d : ℕ) → d + 1 - 1 ≡ d
 less_is d = omega arith
 
@@ -295,7 +291,7 @@ pub open_bracket : {p d : ℕ} {e : Bool} → d ≤ 63 → Piece (Tok token.Open
 open_bracket {p} {d} {e} h =
     one_token (before_at p d e) (40 ∷ []) token.Open token.Open (d + 1) false
     (λ rest u. begins (40 ∷ rest) token.Open 1 refl refl refl (open_first rest)) (not_deep d h) (kept e)
-    (ap (λ n. before_at (p + 1) n false) (more_is d h))
+    refl
   where
     kept : (e : Bool) → classed e token.Open ≡ token.Open
     kept true = refl
@@ -315,7 +311,7 @@ pub open_predicate : {p d : ℕ} {e : Bool} → d ≤ 63 → Piece (Tok token.Op
 open_predicate {p} {d} {e} h =
     one_token (before_at p d e) (91 ∷ []) token.OpenPredicate token.OpenPredicate (d + 1) false
     (λ rest u. begins (91 ∷ rest) token.OpenPredicate 1 refl refl refl (open_predicate_first rest)) (not_deep d h) (kept e)
-    (ap (λ n. before_at (p + 1) n false) (more_is d h))
+    refl
   where
     kept : (e : Bool) → classed e token.OpenPredicate ≡ token.OpenPredicate
     kept true = refl

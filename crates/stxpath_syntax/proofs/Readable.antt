@@ -1,5 +1,5 @@
 -- The expressions that can be read, and that what well-made tokens mean is one of them.
-use Rattle.std.proofs.Common.{◌≡◌, ◌≢◌, ℕ, ◌+◌, ◌^◌, ◌≤◌, ◌<◌, Bool, true, false, cond, nat_eq, max, pos, List, [], ◌∷◌, ◌++◌, Some, None, Option, length, sym, ◌∙◌, refl, ap, subst, arith, ◌⊎◌, inl, inr, lit<, codes}
+use Rattle.std.proofs.Common.{◌≡◌, ◌≢◌, ℕ, ◌+◌, ◌^◌, ◌≤◌, ◌<◌, Bool, true, false, cond, nat_eq, max, pos, List, [], ◌∷◌, ◌++◌, Some, None, Option, length, sym, ◌∙◌, refl, ap, subst, arith, ◌⊎◌, inl, inr, codes}
 use Rattle.std.specs.Prelude.{bytes_eq, encode_utf8_all}
 use Rattle.stx_base.specs.declared.expression.Fun.{Fun}
 use Rattle.stx_base.specs.declared.name.Binding.{Binding}
@@ -23,8 +23,7 @@ use Rattle.stxpath_syntax.specs.declared.token.Placed.{Placed}
 use Rattle.stxpath_syntax.specs.declared.token.Token.{Token}
 use Rattle.stxpath_syntax.specs.declared.token.Token.TheVariants as token
 use Rattle.stxpath_syntax.specs.declared.token.Written.{Written}
-use Rattle.stxpath_syntax.specs.Grammar.{at, link_tokens, Test, AttrTest, Ending, Parents, Spells, Leading, Listed, Predicates, Step, Steps}
-use Rattle.stxpath_syntax.specs.Counting.{next_count}
+use Rattle.stxpath_syntax.specs.Grammar.{at, link_tokens, Test, AttrTest, Ending, Spells, Leading, Listed, Predicates, Step, Steps}
 use Rattle.stxpath_syntax.specs.Meaning.{refused, made, operated, step, none, and_also, called_by, name_by, name_of, binding_by, binding_of, step_of, type_of, function_of}
 use Rattle.stxpath_syntax.specs.Words.{cdata_test, type_named, uri_of}
 use Rattle.stxpath_syntax.proofs.Heights.{IfFine, made_fine, joined_fine}
@@ -110,14 +109,6 @@ ending_good : (scope : List Binding) {ts : List Placed} {t : Meant (Option NodeT
 ending_good scope Ending.without a = (tt, refl)
 ending_good scope (Ending.attributes s {ts} {t} d) (x, a) = flat_made GoodAttr GoodEnding Some t (attr_good scope d a) (λ t g. g)
 
-more_small : (n : ℕ) → next_count n < 2 ^ 64
-more_small n = omega arith
-
-parents_small : (scope : List Binding) {ts : List Placed} {n : ℕ} → Parents scope ts n → n < 2 ^ 64
-parents_small scope (Parents.here p) = lit< tt
-parents_small scope (Parents.one p) = lit< tt
-parents_small scope (Parents.further s p {ts} {n} d nz) = more_small n
-
 module _ (dialect : Dialect) where
   abbrev pub GoodTest : NodeTest → Type 0
   GoodTest (test.Name name) = GoodName name
@@ -179,13 +170,13 @@ module _ (dialect : Dialect) where
       operation : (b : Bin) (x y : Expr) (h g : ℕ) → Good x h → Good y g → max h g + 1 ≤ 64 → Good (e.Binary b x y) (max h g + 1)
       root : Good e.Root 1
       absolute : (steps : List PathStep) (t : Option NodeTest) (h : ℕ) → GoodSteps steps h → GoodEnding t → max h 0 + 1 ≤ 64 → Good (e.Abs steps t) (max h 0 + 1)
-      above : (k : ℕ) (t : Option NodeTest) → k < 2 ^ 64 → GoodEnding t → Good (e.Up k t) 1
+      above : (k : ℕ) (t : Option NodeTest) → GoodEnding t → Good (e.Up k t) 1
       attributes : (t : NodeTest) → GoodAttr t → Good (e.Attr t) 1
 
     -- so many of them, one after another
     pub data GoodAll : ℕ → List Expr → ℕ → Type 0 where
       start : GoodAll 0 [] 0
-      further : (k h g : ℕ) (es : List Expr) (x : Expr) → GoodAll k es h → Good x g → max h g + 0 ≤ 64 → GoodAll (next_count k) (es ++ x ∷ []) (max h g + 0)
+      further : (k h g : ℕ) (es : List Expr) (x : Expr) → GoodAll k es h → Good x g → max h g + 0 ≤ 64 → GoodAll (k + 1) (es ++ x ∷ []) (max h g + 0)
 
     pub data GoodStep : PathStep → ℕ → Type 0 where
       tested : (l : Link) (t : NodeTest) (k h : ℕ) (es : List Expr) → l ≢ link.Start → GoodTest t → GoodAll k es h → max 0 h + 0 ≤ 64 → GoodStep (step_of l t es) (max 0 h + 0)
@@ -209,15 +200,15 @@ module _ (dialect : Dialect) where
   operated_good (operator.Binary b) p x y g k = joined_fine Good Good Good 1 (e.Binary b) x y g k (λ x y h i a c l. Good.operation b x y h i a c l)
   operated_good operator.Div p x y g k = tt
 
-  further_good : (k : ℕ) (es : Meant (List Expr)) (x : Meant Expr) → IfFine (GoodAll k) es → IfFine Good x → IfFine (GoodAll (next_count k)) (and_also es x)
-  further_good k es x g h = joined_fine (GoodAll k) Good (GoodAll (next_count k)) 0 (λ values value. values ++ value ∷ []) es x g h (λ es x h g a b l. GoodAll.further k h g es x a b l)
+  further_good : (k : ℕ) (es : Meant (List Expr)) (x : Meant Expr) → IfFine (GoodAll k) es → IfFine Good x → IfFine (GoodAll (k + 1)) (and_also es x)
+  further_good k es x g h = joined_fine (GoodAll k) Good (GoodAll (k + 1)) 0 (λ values value. values ++ value ∷ []) es x g h (λ es x h g a b l. GoodAll.further k h g es x a b l)
 
   -- expressions, however many
   abbrev SomeAll : List Expr → ℕ → Type 0
   SomeAll es h = (k : ℕ) × GoodAll k es h
 
   filtered_good : (es : Meant (List Expr)) (x : Meant Expr) → IfFine SomeAll es → IfFine Good x → IfFine SomeAll (and_also es x)
-  filtered_good es x g h = joined_fine SomeAll Good SomeAll 0 (λ values value. values ++ value ∷ []) es x g h (λ es x h g (k, a) b l. (next_count k, GoodAll.further k h g es x a b l))
+  filtered_good es x g h = joined_fine SomeAll Good SomeAll 0 (λ values value. values ++ value ∷ []) es x g h (λ es x h g (k, a) b l. (k + 1, GoodAll.further k h g es x a b l))
 
   step_good : (l : Link) (t : Meant NodeTest) (es : Meant (List Expr)) → l ≢ link.Start → IfFine (Flat GoodTest) t → IfFine SomeAll es → IfFine GoodStep (step l t es)
   step_good l t es ne g h =
@@ -250,7 +241,7 @@ module _ (dialect : Dialect) where
           subst (λ n. Good (e.Abs steps t) (max h n + 1)) (sym z) (Good.absolute steps t h s b here))
       good (Spells.above n {k} {ts} {us} {t} d f) a =
           made_fine (Flat GoodEnding) Good 1 (e.Up k) t (ending_good scope f (made_back ts us a))
-          (λ t h (g, z) l. subst (λ n. Good (e.Up k t) (n + 1)) (sym z) (Good.above k t (parents_small scope d) g))
+          (λ t h (g, z) l. subst (λ n. Good (e.Up k t) (n + 1)) (sym z) (Good.above k t g))
       good (Spells.attributes n {ts} {t} d) a =
           made_fine (Flat GoodAttr) Good 1 e.Attr t (attr_good scope d a) (λ t h (g, z) l. subst (λ n. Good (e.Attr t) (n + 1)) (sym z) (Good.attributes t g))
 

@@ -1,5 +1,5 @@
 -- What is printed of an expression that can be read is cut into tokens that mean it.
-use Rattle.std.proofs.Common.{◌≡◌, ◌≢◌, ℕ, zero, suc, ◌+◌, ◌-◌, ◌^◌, ◌≤◌, ◌<◌, Bool, true, false, cond, nat_le, nat_eq, max, pos, List, [], ◌∷◌, ◌++◌, Some, None, Option, Ok, length, map, sym, ◌∙◌, refl, ap, subst, append_assoc, arith, ◌⊎◌, inl, inr, lit≤, codes}
+use Rattle.std.proofs.Common.{◌≡◌, ◌≢◌, ℕ, zero, suc, ◌+◌, ◌-◌, ◌≤◌, Bool, true, false, cond, nat_le, nat_eq, max, pos, List, [], ◌∷◌, ◌++◌, Some, None, Option, Ok, length, map, sym, ◌∙◌, refl, ap, subst, append_assoc, arith, ◌⊎◌, inl, inr, lit≤, codes}
 use Rattle.std.specs.Prelude.{encode_utf8_all}
 use Rattle.std.specs.Fmt.{decimal}
 use Rattle.std.specs.List.{concat, repeat}
@@ -28,7 +28,6 @@ use Rattle.stxpath_syntax.specs.declared.token.Token.{Token}
 use Rattle.stxpath_syntax.specs.declared.token.Token.TheVariants as token
 use Rattle.stxpath_syntax.specs.declared.token.Written.{Written}
 use Rattle.stxpath_syntax.specs.Grammar.{at, minus, level, left_level, link_tokens, Test, AttrTest, Ending, Parents, Spells, Leading, Listed, Predicates, Step, Steps}
-use Rattle.stxpath_syntax.specs.Counting.{next_count}
 use Rattle.stxpath_syntax.specs.Meaning.{of_height, made, flat, binary, var, step, step_of, name_by, name_of, binding_by, binding_of, type_of, called, called_by}
 use Rattle.stxpath_syntax.specs.Printing.{sign_of, link_text, quoted, prefixed, name_text, within_text, test_text, ending_text, parents_text, Printed, closed, loose, in_parentheses, in_brackets, operand, listed, predicates, printed, step_text, prefix_bound, test_prefixes, ending_prefixes, all_prefixes, prefixes_in, prefixes_in_step, Agrees}
 use Rattle.stxpath_syntax.specs.Reading.{Gives}
@@ -322,35 +321,32 @@ module _ (dialect : Dialect) (other : List Binding) where
   is_one : (ts : List Placed) → Tok token.DotDot ts → Parents other ts 1
   is_one ts (Tok.tok p) = Parents.one p
 
-  is_further : (n : ℕ) → n < 2 ^ 64 - 1 → n ≢ 0 → (ts us : List Placed) → Parents other ts n → Two token.Slash token.DotDot us → Parents other (ts ++ us) (n + 1)
-  is_further n l nz ts us d (Two.two s p) = let same : next_count n ≡ n + 1 = omega arith in subst (λ k. Parents other (ts ++ us) k) same (Parents.further s p d nz)
+  is_further : (n : ℕ) → n ≢ 0 → (ts us : List Placed) → Parents other ts n → Two token.Slash token.DotDot us → Parents other (ts ++ us) (n + 1)
+  is_further n nz ts us d (Two.two s p) = Parents.further s p d nz
 
-  parents_some : {p d : ℕ} (n : ℕ) → n + 1 < 2 ^ 64 → Piece (λ ts. Parents other ts (n + 1)) Any (codes ".." ++ repeat n (codes "/..")) (before_at p d false) d true
-  parents_some zero l = becomes is_one dots
-  parents_some {p} {d} (suc n) l =
-      let fewer : n + 1 < 2 ^ 64 = omega (arith, l) in
-      let room : n + 1 < 2 ^ 64 - 1 = omega (arith, l) in
+  parents_some : {p d : ℕ} (n : ℕ) → Piece (λ ts. Parents other ts (n + 1)) Any (codes ".." ++ repeat n (codes "/..")) (before_at p d false) d true
+  parents_some zero = becomes is_one dots
+  parents_some {p} {d} (suc n) =
       let some : n + 1 ≢ 0 = λ z. absurd (omega (arith, z)) in
       let same : (codes ".." ++ repeat n (codes "/..")) ++ codes "/.." ≡ codes ".." ++ repeat (suc n) (codes "/..")
       = append_assoc (codes "..") (repeat n (codes "/..")) (codes "/..") ∙ ap (λ xs. codes ".." ++ xs) (sym (repeat_more n (codes "/.."))) in
       let count : n + 1 + 1 ≡ suc n + 1 = omega arith in
       subst (λ k. Piece (λ ts. Parents other ts k) Any (codes ".." ++ repeat (suc n) (codes "/..")) (before_at p d false) d true) count
       (retext same
-      (join (parents_some n fewer) (λ q. join slash (λ r. dots) (λ rest b. refl) (both_two token.Slash token.DotDot)) (λ rest b. tt) (is_further (n + 1) room some)))
+      (join (parents_some n) (λ q. join slash (λ r. dots) (λ rest b. refl) (both_two token.Slash token.DotDot)) (λ rest b. tt) (is_further (n + 1) some)))
 
   is_here : (ts : List Placed) → Tok token.Dot ts → Parents other ts 0
   is_here ts (Tok.tok p) = Parents.here p
 
-  parents_piece : {p d : ℕ} (n : ℕ) → n < 2 ^ 64 → Piece (λ ts. Parents other ts n) Breaks (parents_text n) (before_at p d false) d true
-  parents_piece zero l = becomes is_here dot
-  parents_piece {p} {d} (suc n) l =
-      let room : n + 1 < 2 ^ 64 = omega (arith, l) in
+  parents_piece : {p d : ℕ} (n : ℕ) → Piece (λ ts. Parents other ts n) Breaks (parents_text n) (before_at p d false) d true
+  parents_piece zero = becomes is_here dot
+  parents_piece {p} {d} (suc n) =
       let count : n + 1 ≡ suc n = omega arith in
       let less : n ≡ suc n - 1 = omega arith in
       let no : false ≡ nat_eq (suc n) 0 = grind (arith, nat_tests) in
       let text : codes ".." ++ repeat n (codes "/..") ≡ parents_text (suc n)
       = ap (λ k. codes ".." ++ repeat k (codes "/..")) less ∙ ap (λ b. cond b (codes ".") (codes ".." ++ repeat (suc n - 1) (codes "/.."))) no in
-      subst (λ k. Piece (λ ts. Parents other ts k) Breaks (parents_text (suc n)) (before_at p d false) d true) count (retext text (narrows (λ rest b. tt) (parents_some n room)))
+      subst (λ k. Piece (λ ts. Parents other ts k) Breaks (parents_text (suc n)) (before_at p d false) d true) count (retext text (narrows (λ rest b. tt) (parents_some n)))
 
   -- ---- expressions
 
@@ -510,19 +506,19 @@ module _ (dialect : Dialect) (other : List Binding) where
       (λ rest b. Breaks.at_open ((text ++ 41 ∷ []) ++ rest)) (begins_call name (e.Call f es) (h + 1)))
 
   is_leading : (k h g : ℕ) (es : List Expr) (x : Expr) → max h g + 0 ≤ 64 → (ts us : List Placed)
-      → ((vs : List Placed) → Tok token.Comma vs → Leading dialect other (next_count k) (ts ++ vs) (Fine (es ++ x ∷ []) (max h g + 0))) → Tok token.Comma us
-      → Leading dialect other (next_count k) (ts ++ us) (Fine (es ++ x ∷ []) (max h g + 0))
+      → ((vs : List Placed) → Tok token.Comma vs → Leading dialect other (k + 1) (ts ++ vs) (Fine (es ++ x ∷ []) (max h g + 0))) → Tok token.Comma us
+      → Leading dialect other (k + 1) (ts ++ us) (Fine (es ++ x ∷ []) (max h g + 0))
   is_leading k h g es x l ts us f c = f us c
 
   leads : (k h g : ℕ) (es : List Expr) (x : Expr) → max h g + 0 ≤ 64 → (ts us : List Placed) → Leading dialect other k ts (Fine es h)
       → ((n : ℕ) → n ≤ 1 → Spells dialect other n us (Fine x g)) → (vs : List Placed) → Tok token.Comma vs
-      → Leading dialect other (next_count k) ((ts ++ us) ++ vs) (Fine (es ++ x ∷ []) (max h g + 0))
+      → Leading dialect other (k + 1) ((ts ++ us) ++ vs) (Fine (es ++ x ∷ []) (max h g + 0))
   leads k h g es x l ts us d s vs (Tok.tok p) =
-      subst (λ m. Leading dialect other (next_count k) (ts ++ us ++ at p token.Comma ∷ []) m) (fits (es ++ x ∷ []) (max h g + 0) l) (Leading.further p d (s 1 (omega arith)))
+      subst (λ m. Leading dialect other (k + 1) (ts ++ us ++ at p token.Comma ∷ []) m) (fits (es ++ x ∷ []) (max h g + 0) l) (Leading.further p d (s 1 (omega arith)))
 
   is_last : (k h g : ℕ) (es : List Expr) (x : Expr) → max h g + 0 ≤ 64 → (ts us : List Placed) → Leading dialect other k ts (Fine es h)
-      → ((n : ℕ) → n ≤ 1 → Spells dialect other n us (Fine x g)) → Listed dialect other (next_count k) (ts ++ us) (Fine (es ++ x ∷ []) (max h g + 0))
-  is_last k h g es x l ts us d s = subst (λ m. Listed dialect other (next_count k) (ts ++ us) m) (fits (es ++ x ∷ []) (max h g + 0) l) (Listed.last d (s 1 (omega arith)))
+      → ((n : ℕ) → n ≤ 1 → Spells dialect other n us (Fine x g)) → Listed dialect other (k + 1) (ts ++ us) (Fine (es ++ x ∷ []) (max h g + 0))
+  is_last k h g es x l ts us d s = subst (λ m. Listed dialect other (k + 1) (ts ++ us) m) (fits (es ++ x ∷ []) (max h g + 0) l) (Listed.last d (s 1 (omega arith)))
 
   closes_predicate : (h g : ℕ) (es : List Expr) (x : Expr) → max h g + 0 ≤ 64 → (us vs : List Placed) → ((n : ℕ) → n ≤ 1 → Spells dialect other n us (Fine x g)) → Tok token.ClosePredicate vs
       → (o : ℕ) (ts : List Placed) → Predicates dialect other ts (Fine es h) → Predicates dialect other (ts ++ at o token.OpenPredicate ∷ (us ++ vs)) (Fine (es ++ x ∷ []) (max h g + 0))
@@ -633,11 +629,11 @@ module _ (dialect : Dialect) (other : List Binding) where
         (λ place d m.
         join (write_steps all front place d false (omega (arith, m))) (λ q. narrows closes_break (ending_piece t n back))
         (λ rest c. ending_breaks t rest (closes_break rest c)) (is_absolute steps t h l)))
-    write (Good.above k t small n) a =
+    write (Good.above k t n) a =
         let b = subst (Agrees other) (prefixes_up k t) a in
         rewritten (sym (printed_up k t)) (firm (parents_text k ++ ending_text t)
         (λ place d m.
-        join (parents_piece k small) (λ q. narrows closes_break (ending_piece t n b)) (λ rest c. ending_breaks t rest (closes_break rest c)) (is_above k t)))
+        join (parents_piece k) (λ q. narrows closes_break (ending_piece t n b)) (λ rest c. ending_breaks t rest (closes_break rest c)) (is_above k t)))
     write (Good.attributes t n) a =
         let b = subst (Agrees other) (prefixes_attr t) a in
         rewritten (sym (printed_attr t)) (firm (test_text t) (λ place d m. narrows closes_break (becomes (λ ts d n. Spells.attributes n d) (attr_piece t n b))))
@@ -724,7 +720,7 @@ small (Good.negated x g w l) = omega (arith, l)
 small (Good.operation b x y i g w v l) = omega (arith, l)
 small Good.root = lit≤ tt
 small (Good.absolute steps t g all n l) = omega (arith, l)
-small (Good.above k t l n) = lit≤ tt
+small (Good.above k t n) = lit≤ tt
 small (Good.attributes t n) = lit≤ tt
 
 -- what is printed of an expression that was read, is read as it

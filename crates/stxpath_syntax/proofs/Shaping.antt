@@ -1,12 +1,10 @@
 -- What was read is called well and no higher than allowed.
-use Rattle.std.proofs.Common.{◌≡◌, ℕ, ℤ, ◌+◌, ◌-◌, ◌^◌, ◌≤◌, ◌<◌, Bool, true, false, cond, nat_le, nat_eq, ◌&&◌, max, min, List, [], ◌∷◌, ◌++◌, map, Option, Some, None, Result, Ok, Err, IfOk, length, sym, ◌∙◌, refl, ap, subst, arith, lit≤, lit<}
+use Rattle.std.proofs.Common.{◌≡◌, ℕ, ℤ, ◌+◌, ◌≤◌, Bool, true, false, cond, nat_eq, ◌&&◌, max, List, [], ◌∷◌, ◌++◌, map, Option, Some, None, Result, Ok, Err, IfOk, length, sym, ◌∙◌, refl, ap, subst, arith, lit≤}
 use Rattle.std.specs.List.{list_all}
-use Rattle.std.proofs.lemmas.Bool.Decides.{nat_tests}
 use Rattle.std.proofs.lemmas.Bool.{false≢true}
 use Rattle.std.proofs.lemmas.List.{length_push, length-map}
 use Rattle.std.proofs.lemmas.List.Folds.{list_all-map}
 use Rattle.stx_base.specs.declared.expression.Fun.{Fun}
-use Rattle.stx_base.specs.declared.expression.Fun.TheVariants as fun
 use Rattle.stx_base.specs.Functions.{permits}
 use Rattle.stx_base.specs.declared.name.Binding.{Binding}
 use Rattle.stx_base.specs.declared.name.Name.{Name}
@@ -33,7 +31,6 @@ use Rattle.stxpath_syntax.specs.declared.token.Operator.TheVariants as operator
 use Rattle.stxpath_syntax.specs.declared.token.Placed.{Placed}
 use Rattle.stxpath_syntax.specs.declared.token.Written.{Written}
 use Rattle.stxpath_syntax.specs.Grammar.{Test, AttrTest, Ending, Spells, Leading, Listed, Predicates, Step, Steps, AttrStep, Alternates, Pattern}
-use Rattle.stxpath_syntax.specs.Counting.{next_count}
 use Rattle.stxpath_syntax.specs.Meaning.{refused, made, operated, step, none, and_also, called_by, name_by, name_of, binding_by, binding_of, step_of, function_of}
 use Rattle.stxpath_syntax.specs.Reading.{Gives}
 use Rattle.stxpath_syntax.specs.Shape.{all_true, step_called_well, layer_called_well, is_called_well, is_step_called_well, is_alternative_called_well, is_part_called_well, greatest, step_height, layer_height, height, height_of_step, alternative_height, part_height}
@@ -199,95 +196,18 @@ WellSteps = AllWell is_step_called_well height_of_step
 -- so many of them
 record Counted (k : ℕ) (es : List Expr) (h : ℕ) : Type 0 where
   all_well : WellExprs es h
-  count : k ≡ min (length es) (2 ^ 64 - 1)
+  count : k ≡ length es
 
 none_counted : Counted 0 [] 0
 none_counted = record { all_well = none_well is_called_well height; count = refl }
 
-further_counted : (k : ℕ) (es : Meant (List Expr)) (x : Meant Expr) → IfFine (Counted k) es → IfFine WellExpr x → IfFine (Counted (next_count k)) (and_also es x)
+further_counted : (k : ℕ) (es : Meant (List Expr)) (x : Meant Expr) → IfFine (Counted k) es → IfFine WellExpr x → IfFine (Counted (k + 1)) (and_also es x)
 further_counted k es x a w =
-    joined_fine (Counted k) WellExpr (Counted (next_count k)) 0 (λ values value. values ++ value ∷ []) es x a w
+    joined_fine (Counted k) WellExpr (Counted (k + 1)) 0 (λ values value. values ++ value ∷ []) es x a w
     (λ es x h g a w l. record {
       all_well = one_more_well is_called_well height es x h g a.all_well w l;
       count = (let e = length_push es x in omega (arith, e, a.count));
     })
-
--- ---- functions
-
-le_of : (n k : ℕ) → nat_le n k ≡ true → n ≤ k
-le_of n k h = grind (arith, nat_tests)
-
-le_to : (n k : ℕ) → n ≤ k → nat_le n k ≡ true
-le_to n k h = grind (arith, nat_tests)
-
-eq_of : (n k : ℕ) → nat_eq n k ≡ true → n ≡ k
-eq_of n k h = grind (arith, nat_tests)
-
-eq_to : (n k : ℕ) → n ≡ k → nat_eq n k ≡ true
-eq_to n k h = grind (arith, nat_tests)
-
-both : (a b : Bool) → (a && b) ≡ true → (a ≡ true) × (b ≡ true)
-both true b h = (refl, h)
-both false b h = absurd (false≢true h)
-
--- a count that stops at the last number of 64 bits
-abbrev kept : ℕ → ℕ
-kept n = min n (2 ^ 64 - 1)
-
-at_most : (k n : ℕ) → k < 9 → nat_le (kept n) k ≡ true → nat_le n k ≡ true
-at_most k n s h =
-    let l = le_of (kept n) k h in
-    le_to n k (omega (arith, l, s))
-
-just : (k n : ℕ) → k < 9 → nat_eq (kept n) k ≡ true → nat_eq n k ≡ true
-just k n s h =
-    let e = eq_of (kept n) k h in
-    eq_to n k (omega (arith, e, s))
-
-from_two : (n : ℕ) → nat_le 2 (kept n) ≡ true → nat_le 2 n ≡ true
-from_two n h =
-    let f = le_of 2 (kept n) h in
-    le_to 2 n (omega (arith, f))
-
-between : (n : ℕ) → (nat_le 2 (kept n) && nat_le (kept n) 3) ≡ true → (nat_le 2 n && nat_le n 3) ≡ true
-between n h =
-    let b = both (nat_le 2 (kept n)) (nat_le (kept n) 3) h in
-    let x = from_two n b.0 in
-    let y = at_most 3 n (lit< tt) b.1 in
-    rw (x, y) refl
-
--- a count that stops there permits nothing more
-kept_permits : (f : Fun) (n : ℕ) → permits f (kept n) ≡ true → permits f n ≡ true
-kept_permits fun.Name n h = at_most 1 n (lit< tt) h
-kept_permits fun.LocalName n h = at_most 1 n (lit< tt) h
-kept_permits fun.NamespaceUri n h = at_most 1 n (lit< tt) h
-kept_permits fun.Position n h = just 0 n (lit< tt) h
-kept_permits fun.Level n h = just 0 n (lit< tt) h
-kept_permits fun.HasChildNodes n h = just 0 n (lit< tt) h
-kept_permits fun.Str n h = at_most 1 n (lit< tt) h
-kept_permits fun.Integer n h = just 1 n (lit< tt) h
-kept_permits fun.Boolean n h = just 1 n (lit< tt) h
-kept_permits fun.Not n h = just 1 n (lit< tt) h
-kept_permits fun.True n h = just 0 n (lit< tt) h
-kept_permits fun.False n h = just 0 n (lit< tt) h
-kept_permits fun.Concat n h = from_two n h
-kept_permits fun.StringJoin n h = just 2 n (lit< tt) h
-kept_permits fun.StringLength n h = at_most 1 n (lit< tt) h
-kept_permits fun.Substring n h = between n h
-kept_permits fun.SubstringBefore n h = just 2 n (lit< tt) h
-kept_permits fun.SubstringAfter n h = just 2 n (lit< tt) h
-kept_permits fun.Contains n h = just 2 n (lit< tt) h
-kept_permits fun.StartsWith n h = just 2 n (lit< tt) h
-kept_permits fun.EndsWith n h = just 2 n (lit< tt) h
-kept_permits fun.NormalizeSpace n h = at_most 1 n (lit< tt) h
-kept_permits fun.Translate n h = just 3 n (lit< tt) h
-kept_permits fun.Count n h = just 1 n (lit< tt) h
-kept_permits fun.Empty n h = just 1 n (lit< tt) h
-kept_permits fun.Exists n h = just 1 n (lit< tt) h
-kept_permits fun.Sum n h = just 1 n (lit< tt) h
-kept_permits fun.ItemAt n h = just 2 n (lit< tt) h
-kept_permits fun.IndexOf n h = just 2 n (lit< tt) h
-kept_permits fun.Subsequence n h = between n h
 
 -- ---- expressions
 
@@ -340,7 +260,7 @@ call_well f k h es is a l = record {
   is_well =
       called_call f es
       ∙ ap (λ n. permits f n && all_true (map is_called_well es)) (length-map es is_called_well)
-      ∙ ap (λ b. b && all_true (map is_called_well es)) (kept_permits f (length es) (subst (λ n. permits f n ≡ true) a.count is))
+      ∙ ap (λ b. b && all_true (map is_called_well es)) (subst (λ n. permits f n ≡ true) a.count is)
       ∙ list_all-map (λ b. b) is_called_well es ∙ a.all_well.are_well;
   is_high = high_call f es ∙ ap (λ n. n + 1) a.all_well.are_high;
   is_low = l;

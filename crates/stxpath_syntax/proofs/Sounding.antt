@@ -34,7 +34,6 @@ use Rattle.stxpath_syntax.specs.declared.token.Token.TheVariants as token
 use Rattle.stxpath_syntax.specs.declared.token.Written.{Written}
 use Rattle.stxpath_syntax.specs.Grammar as g
 use Rattle.stxpath_syntax.specs.Grammar.{at, minus, level, left_level, link_tokens, Test, AttrTest, Ending, Parents, Spells, Leading, Listed, Predicates, Steps}
-use Rattle.stxpath_syntax.specs.Counting.{next_count}
 use Rattle.stxpath_syntax.specs.Meaning.{none, flat, neg, operated, and_also, seq, root, untested, some, up, abs, called, type_of}
 use Rattle.stxpath_syntax.specs.Meaning as meaning
 use Rattle.stxpath_syntax.specs.Machine.{Next, top_binds, gathered, is_pattern, is_beside, sign, separate, close, close_empty, close_predicate, filtered, wait, complete, first, operand, walk_of, all_steps, whole_path, whole_alternative, linked, end_of_path, end_of_alternative, walk_on, begin_step, begin_attribute, at_stack, owned, targeted, after_type, after_target, after_root, begin_alternative, after_name, attribute, above, higher, variable, function, turn, last_operand, last_alternative, alone, with_last, end_of_expression, end_of_pattern, run, step}
@@ -282,14 +281,14 @@ module _ (dialect : Dialect) (scope : List Binding) where
       → Gathered whole (left_level o) fs m ts → HoldsNext whole (ts ++ at p (token.Operator o) ∷ []) (wait o p (fs, m))
   wait_sound whole fs m o p ts r = wait_by whole 0 fs m o p ts (is_beside o fs) refl r
 
-  more_some : (k : ℕ) → next_count k ≢ 0
+  more_some : (k : ℕ) → k + 1 ≢ 0
   more_some k e = absurd (omega arith)
 
   leading_none : {k : ℕ} {ts : List Placed} {es : Meant (List Expr)} → Leading dialect scope k ts es → k ≡ 0 → (ts ≡ []) × (es ≡ none)
   leading_none Leading.start e = (refl, refl)
   leading_none (Leading.further p {k = k} d x) e = absurd (more_some k e)
 
-  not_one : (k : ℕ) → nat_eq k 0 ≡ false → next_count k ≢ 1
+  not_one : (k : ℕ) → nat_eq k 0 ≡ false → k + 1 ≢ 1
   not_one k e f = let some = eq_false k 0 e in absurd (omega arith)
 
   -- `)` behind an expression in brackets
@@ -546,7 +545,7 @@ module _ (dialect : Dialect) (scope : List Binding) where
   above_sound (Waits.expression i w) d p t = complete_sound w _ _ (above_tight d) p t
 
   higher_by : {whole : Bool} {frames : List Frame} {before ts : List Placed} {n : ℕ} (b : Bool) (s p : ℕ) → nat_eq n 0 ≡ b → Waits whole false frames before → Parents scope ts n
-      → HoldsNext whole ((before ++ (ts ++ at s token.Slash ∷ [])) ++ at p token.DotDot ∷ []) (at_stack frames (cond b None (Some (Above (next_count n)))))
+      → HoldsNext whole ((before ++ (ts ++ at s token.Slash ∷ [])) ++ at p token.DotDot ∷ []) (at_stack frames (cond b None (Some (Above (n + 1)))))
   higher_by true s p e w d = tt
   higher_by {ts = ts} {n = n} false s p e w d =
       stays_on _ (at p token.DotDot ∷ []) w
@@ -825,7 +824,7 @@ module _ (dialect : Dialect) (scope : List Binding) where
         goes_front whole _ (at 0 token.Close ∷ []) (goes_at whole (simp append_assoc) (fill w _ all.0 all.1))
     fill {whole} (Below.call i p q name {c = c} {items = items} {us = front} w d) us x s =
         goes_front whole _ (at 0 token.Close ∷ [])
-        (goes_at whole (simp append_assoc) (fill w _ (called name p (next_count c) (and_also items x)) (Spells.call i p q 0 name (Listed.last d s))))
+        (goes_at whole (simp append_assoc) (fill w _ (called name p (c + 1) (and_also items x)) (Spells.call i p q 0 name (Listed.last d s))))
     fill {whole} (Below.predicate b q w d) us x s =
         goes_front whole _ (at 0 token.ClosePredicate ∷ []) (goes_at whole (simp append_assoc) (fill_path w (filtered_walk d q 0 us x s)))
 

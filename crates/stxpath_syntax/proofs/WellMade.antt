@@ -19,7 +19,7 @@ use Rattle.stxpath_syntax.specs.declared.token.Operator.TheVariants as operator
 use Rattle.stxpath_syntax.specs.declared.token.Placed.{Placed}
 use Rattle.stxpath_syntax.specs.declared.token.Token.{Token}
 use Rattle.stxpath_syntax.specs.declared.token.Token.TheVariants as token
-use Rattle.stxpath_syntax.specs.Tokens.{has_at, is_quote, begins_name, numeral, literal, goes_on, name, double_sign, operator_sign, plain_sign, single_sign, with_length, sign, first_token, is_fraction, is_too_large, unreadable, classed, space, behind, Stands, Lexed}
+use Rattle.stxpath_syntax.specs.Tokens.{has_at, is_quote, begins_name, numeral, literal, goes_on, name, double_sign, operator_sign, plain_sign, single_sign, with_length, sign, first_token, is_fraction, is_too_large, unreadable, classed, space, before_next, Stands, Lexed}
 use Rattle.stxpath_syntax.specs.Words.{operator_named}
 use Rattle.stxpath_syntax.proofs.Readable.{Made, AllMade}
 use Rattle.stxpath_syntax.proofs.Wording.{IsNc, OneQuote, or_cases, and_first, and_second}
@@ -251,4 +251,4 @@ stands_made b text t len s =
 
 pub well_made : (b : Before) (text : List ℕ) (ts : List Placed) (over : Option PathFault) → Lexed b text ts over → AllMade ts
 well_made b text [] over l = tt
-well_made b text (t ∷ ts) over (len, s, l) = (stands_made b text t len s, well_made (behind b t.token (b.at + len)) (drop len text) ts over l)
+well_made b text (t ∷ ts) over (len, s, l) = (stands_made b text t len s, well_made (before_next b t.token (b.at + len)) (drop len text) ts over l)

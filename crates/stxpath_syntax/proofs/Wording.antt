@@ -20,7 +20,7 @@ use Rattle.stxpath_syntax.specs.declared.token.Token.{Token}
 use Rattle.stxpath_syntax.specs.declared.token.Token.TheVariants as token
 use Rattle.stxpath_syntax.specs.declared.token.Operator.TheVariants as operator
 use Rattle.stxpath_syntax.specs.Printing.{sign_of, quote_for, quoted}
-use Rattle.stxpath_syntax.specs.Tokens.{has_at, is_quote, begins_name, numeral, literal, goes_on, name, sign, first_token, is_fraction, is_too_large, is_too_deep, behind, classed, space}
+use Rattle.stxpath_syntax.specs.Tokens.{has_at, is_quote, begins_name, numeral, literal, goes_on, name, sign, first_token, is_fraction, is_too_large, is_too_deep, before_next, classed, space}
 use Rattle.stxpath_syntax.proofs.Pieces.{before_at, Piece, Tok, one_token, Begins, begins, Breaks, Any, no_name, no_colon, no_digit, no_dot}
 
 -- an NCName
@@ -149,7 +149,7 @@ ncname_begins (c ∷ cs) rest (b, a) h =
     ∙ ap (λ l. Some (plain_name l, length w)) (take_at w rest (length w) refl))
 
 pub word : {p d : ℕ} {e : Bool} (w : List ℕ) (t : Token) (f : Bool) → IsNc w → classed e (plain_name w) ≡ t
-    → behind (before_at p d e) t (p + length w) ≡ before_at (p + length w) d f
+    → before_next (before_at p d e) t (p + length w) ≡ before_at (p + length w) d f
     → Piece (Tok t) Breaks w (before_at p d e) d f
 word {p} {d} {e} w t f nc c same = one_token (before_at p d e) w (plain_name w) t d f (λ rest h. ncname_begins w rest nc h) refl c same
 

@@ -21,7 +21,6 @@ use Rattle.stxpath_syntax.specs.declared.token.Token.TheVariants as token
 use Rattle.stxpath_syntax.specs.declared.token.Placed.{Placed}
 use Rattle.stxpath_syntax.specs.declared.meant.Meant.{Meant}
 use Rattle.stxpath_syntax.specs.declared.meant.Meant.TheVariants.{Fine}
-use Rattle.stxpath_syntax.specs.Counting.{next_count}
 use Rattle.stxpath_syntax.specs.Meaning.{none, flat, and_also, neg, operated, seq, var, attr, untested, some, up, abs, step, name_of, type_of, element_named, element_within, attribute_named, attribute_within, called}
 use Rattle.stxpath_syntax.specs.Meaning as meaning
 
@@ -70,7 +69,7 @@ module _ (scope : List Binding) where
   pub data Parents : List Placed → ℕ → Type 0 where
     here : (p : ℕ) → Parents (at p token.Dot ∷ []) 0
     one : (p : ℕ) → Parents (at p token.DotDot ∷ []) 1
-    further : (s p : ℕ) {ts : List Placed} {n : ℕ} → Parents ts n → n ≢ 0 → Parents (ts ++ at s token.Slash ∷ at p token.DotDot ∷ []) (next_count n)
+    further : (s p : ℕ) {ts : List Placed} {n : ℕ} → Parents ts n → n ≢ 0 → Parents (ts ++ at s token.Slash ∷ at p token.DotDot ∷ []) (n + 1)
 
 module _ (dialect : Dialect) (scope : List Binding) where
   -- the test of a step
@@ -111,13 +110,13 @@ module _ (dialect : Dialect) (scope : List Binding) where
     pub data Leading : ℕ → List Placed → Meant (List Expr) → Type 0 where
       start : Leading 0 [] none
       further : (p : ℕ) {k : ℕ} {ts us : List Placed} {es : Meant (List Expr)} {x : Meant Expr} → Leading k ts es → Spells 1 us x
-          → Leading (next_count k) (ts ++ us ++ at p token.Comma ∷ []) (and_also es x)
+          → Leading (k + 1) (ts ++ us ++ at p token.Comma ∷ []) (and_also es x)
 
     -- so many expressions, with commas between
     pub data Listed : ℕ → List Placed → Meant (List Expr) → Type 0 where
       empty : Listed 0 [] none
       last : {k : ℕ} {ts us : List Placed} {es : Meant (List Expr)} {x : Meant Expr} → Leading k ts es → Spells 1 us x
-          → Listed (next_count k) (ts ++ us) (and_also es x)
+          → Listed (k + 1) (ts ++ us) (and_also es x)
 
     -- expressions in `[` and `]`, one behind another
     pub data Predicates : List Placed → Meant (List Expr) → Type 0 where

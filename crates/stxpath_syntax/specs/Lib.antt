@@ -1,4 +1,3 @@
-pub mod Counting
 pub mod Words
 pub mod Functions
 pub mod Tokens
@@ -11,6 +10,7 @@ pub mod Templating
 pub mod Readable
 pub mod Stacks
 pub mod Machine
+pub mod Counts
 pub mod Ending
 pub mod Running
 pub mod Printing

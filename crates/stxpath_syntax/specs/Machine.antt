@@ -1,5 +1,5 @@
 -- The parser's states: what follows one token after another. The grammar is in Grammar.antt; this is how it is read.
-use Rattle.std.specs.Prelude.{◌≡◌, ℕ, Bool, true, false, not, ◌&&◌, ◌==◌, nat_le, List, [], ◌∷◌, Option, Some, None, Result, Ok, Err, if◌then◌else◌}
+use Rattle.std.specs.Prelude.{◌≡◌, ℕ, ◌+◌, Bool, true, false, not, ◌&&◌, ◌==◌, nat_le, List, [], ◌∷◌, Option, Some, None, Result, Ok, Err, if◌then◌else◌, ⊤}
 use Rattle.std.specs.Option.{option_map, option_and_then}
 use Rattle.stx_base.specs.declared.memory.Memory.{Memory}
 use Rattle.stx_base.specs.declared.name.Binding.{Binding}
@@ -36,7 +36,6 @@ use Rattle.stxpath_syntax.specs.declared.token.Token.{Token}
 use Rattle.stxpath_syntax.specs.declared.token.Token.TheVariants as token
 use Rattle.stxpath_syntax.specs.declared.token.Written.{Written}
 use Rattle.stxpath_syntax.specs.Grammar.{level, left_level}
-use Rattle.stxpath_syntax.specs.Counting.{next_count}
 use Rattle.stxpath_syntax.specs.Meaning.{none, flat, neg, operated, and_also, seq, var, attr, root, untested, some, up, abs, step as step_meant, steps, name_of, type_of, element_named, element_within, attribute_named, attribute_within, called}
 
 -- what follows a token, if a reading goes on with it
@@ -108,13 +107,13 @@ grouped items count last = if count == 0 then last else seq (and_also items last
 -- `)` behind an expression
 abbrev pub close : List Frame × Meant Expr → Next
 close (Group items count ∷ frames, last) = completed frames (grouped items count last)
-close (Call name at items count ∷ frames, last) = completed frames (called name at (next_count count) (and_also items last))
+close (Call name at items count ∷ frames, last) = completed frames (called name at (count + 1) (and_also items last))
 close _ = None
 
 -- brackets with one more expression, behind a comma
 abbrev pub separated : Frame → Meant Expr → Option Frame
-separated (Group items count) last = Some (Group (and_also items last) (next_count count))
-separated (Call name at items count) last = Some (Call name at (and_also items last) (next_count count))
+separated (Group items count) last = Some (Group (and_also items last) (count + 1))
+separated (Call name at items count) last = Some (Call name at (and_also items last) (count + 1))
 separated _ last = None
 
 -- a comma behind an expression
@@ -252,7 +251,7 @@ above frames n at t = complete frames (up n untested) at t
 
 -- a token behind `.` or `..`, and `/`
 abbrev pub higher : ℕ → Token → Option Mode
-higher n token.DotDot = if n == 0 then None else Some (Above (next_count n))
+higher n token.DotDot = if n == 0 then None else Some (Above (n + 1))
 higher n token.At = Some (Attribute (owner.Above n))
 higher n _ = None
 
@@ -374,13 +373,13 @@ module _ (dialect : Dialect) (scope : List Binding) where
 abbrev pub Takes : {A : Type 0} → Option A → Result A Stop → Type 0
 Takes next (Ok state) = next ≡ Some state
 Takes next (Err stop.Stuck) = next ≡ None
-Takes next (Err stop.Memory) = Unit {0}
+Takes next (Err stop.Memory) = ⊤
 
 -- the same of a part of it, which changes the stack and gives the mode
 abbrev pub Turns : Next → Result Mode Stop → List Frame → Type 0
 Turns next (Ok mode) frames = next ≡ Some (frames, mode)
 Turns next (Err stop.Stuck) frames = next ≡ None
-Turns next (Err stop.Memory) frames = Unit {0}
+Turns next (Err stop.Memory) frames = ⊤
 
 -- the frame that was on top, if it binds at least so tightly
 abbrev pub TakesBound : ℕ → List Frame → Option Frame → List Frame → Type 0
@@ -389,4 +388,4 @@ TakesBound least old (Some frame) new = (top_binds least old ≡ true) × (old �
 
 abbrev pub Gathers : ℕ → List Frame → Meant Expr → Result (Meant Expr) Memory → List Frame → Type 0
 Gathers least old last (Ok operand) new = gathered least old last ≡ (new, operand)
-Gathers least old last (Err memory) new = Unit {0}
+Gathers least old last (Err memory) new = ⊤

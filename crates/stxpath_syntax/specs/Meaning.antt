@@ -54,7 +54,7 @@ made_of_two levels f (Bad fault) b = Bad fault
 made_of_two levels f High b = spoiled b
 made_of_two levels f (Fine a height) (Bad fault) = Bad fault
 made_of_two levels f (Fine a height) High = High
-made_of_two levels f (Fine a height) (Fine b more) = of_height (f a b) (max height more + levels)
+made_of_two levels f (Fine a height) (Fine b other) = of_height (f a b) (max height other + levels)
 
 -- no value yet
 abbrev pub none : {A : Type 0} → Meant (List A)

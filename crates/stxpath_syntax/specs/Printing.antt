@@ -1,5 +1,5 @@
 -- How expressions are printed, so that what is printed reads back as the same expression.
-use Rattle.std.specs.Prelude.{◌≡◌, ℕ, ◌-◌, Bool, true, false, ◌==◌, List, [], ◌∷◌, ◌++◌, Option, Some, None, if◌then◌else◌, codes}
+use Rattle.std.specs.Prelude.{◌≡◌, ℕ, ◌-◌, Bool, true, false, ◌==◌, List, [], ◌∷◌, ◌++◌, Option, Some, None, if◌then◌else◌, codes, ⊤}
 use Rattle.std.specs.Fmt.{signed_decimal}
 use Rattle.std.specs.List.{concat, flat_map, join_by, list_any, repeat}
 use Rattle.stx_base.specs.declared.expression.Cmp.{Cmp}
@@ -187,5 +187,5 @@ prefixes_in_step = fold-PathStep (List Binding) (List Binding) prefixes_of_layer
 
 -- each of these prefixes stands for its URI
 abbrev pub Agrees : List Binding → List Binding → Type 0
-Agrees scope [] = Unit {0}
+Agrees scope [] = ⊤
 Agrees scope (b ∷ bs) = (uri_of scope b.prefix ≡ Some b.uri) × Agrees scope bs

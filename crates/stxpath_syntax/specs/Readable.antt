@@ -1,5 +1,5 @@
 -- What some text is read as, in some dialect and scope.
-use Rattle.std.specs.Prelude.{ℕ, List, Ok, Contains}
+use Rattle.std.specs.Prelude.{ℕ, List, Ok, Contains, ⊤}
 use Rattle.stx_base.specs.declared.name.Binding.{Binding}
 use Rattle.stxpath_syntax.specs.declared.dialect.Dialect.{Dialect}
 use Rattle.stxpath_syntax.specs.declared.expr.Alternative.{Alternative}
@@ -26,5 +26,5 @@ IsReadableTemplate parts = (dialect : Dialect) × (scope : List Binding) × (tex
 
 -- plain characters, or an expression that some text is read as
 abbrev pub IsReadablePart : AvtPart → Type 0
-IsReadablePart (Chars text) = Unit {0}
+IsReadablePart (Chars text) = ⊤
 IsReadablePart (Value x) = IsReadable x

@@ -1,5 +1,5 @@
 -- What running tokens through the machine answers.
-use Rattle.std.specs.Prelude.{◌≡◌, ℕ, List, ◌∷◌, ◌++◌, Option, Some, None, Result, Ok, Err}
+use Rattle.std.specs.Prelude.{◌≡◌, ℕ, List, ◌∷◌, ◌++◌, Option, Some, None, Result, Ok, Err, ⊤}
 use Rattle.stx_base.specs.declared.name.Binding.{Binding}
 use Rattle.stxpath_syntax.specs.declared.dialect.Dialect.{Dialect}
 use Rattle.stxpath_syntax.specs.declared.expr.Alternative.{Alternative}
@@ -37,12 +37,12 @@ pub record Sticks (dialect : Dialect) (scope : List Binding) (begun : State) (ts
 abbrev pub Runs : Dialect → List Binding → State → List Placed → Result State ParseFault → Type 0
 Runs dialect scope begun ts (Ok state) = run dialect scope ts begun ≡ Some state
 Runs dialect scope begun ts (Err (fault.Path f)) = (t : Placed) × Sticks dialect scope begun ts t × (f ≡ record { kind = kind.Syntax; place = t.at })
-Runs dialect scope begun ts (Err fault.Memory) = Unit {0}
+Runs dialect scope begun ts (Err fault.Memory) = ⊤
 
 abbrev pub Nexts : Dialect → List Binding → State → Placed → Result State ParseFault → Type 0
 Nexts dialect scope state t (Ok next) = step dialect scope state t ≡ Some next
 Nexts dialect scope state t (Err (fault.Path f)) = (step dialect scope state t ≡ None) × (f ≡ record { kind = kind.Syntax; place = t.at })
-Nexts dialect scope state t (Err fault.Memory) = Unit {0}
+Nexts dialect scope state t (Err fault.Memory) = ⊤
 
 -- what a text is read as whose tokens run through, by what they mean; or its fault at the end, where they are no whole
 abbrev pub whole_read : {A : Type 0} → Option (Meant A) → ℕ → Read A

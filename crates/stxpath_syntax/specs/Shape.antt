@@ -1,5 +1,5 @@
 -- Expressions as trees: how many arguments each call has, and how high a tree is.
-use Rattle.std.specs.Prelude.{◌≡◌, ℕ, ◌+◌, ◌≤◌, All, max, Bool, true, ◌&&◌, List, [], ◌∷◌, length, map}
+use Rattle.std.specs.Prelude.{◌≡◌, ℕ, ◌+◌, ◌≤◌, All, max, Bool, true, ◌&&◌, List, [], ◌∷◌, length, map, ⊤}
 use Rattle.std.specs.List.{list_all}
 pub use Rattle.stx_base.specs.Functions.{permits}
 use Rattle.stxpath_syntax.specs.declared.expr.Alternative.{Alternative}
@@ -86,5 +86,5 @@ CanBeEvaluated x = (is_called_well x ≡ true) × (height x ≤ 64)
 
 -- the same of each predicate of an alternative
 abbrev pub PredicatesCanBeEvaluated : Alternative → Type 0
-PredicatesCanBeEvaluated alternative.Root = Unit {0}
+PredicatesCanBeEvaluated alternative.Root = ⊤
 PredicatesCanBeEvaluated (alternative.Steps steps) = All (λ step. All CanBeEvaluated step.predicates) steps

@@ -1,5 +1,5 @@
 -- Attribute value templates, and what the calls that read answer.
-use Rattle.std.specs.Prelude.{◌≡◌, ◌≢◌, ℕ, ◌+◌, Bool, true, false, ◌||◌, ◌==◌, List, [], ◌∷◌, ◌++◌, Option, Some, None, Result, Ok, Err, length, if◌then◌else◌}
+use Rattle.std.specs.Prelude.{◌≡◌, ◌≢◌, ℕ, ◌+◌, Bool, true, false, ◌||◌, ◌==◌, List, [], ◌∷◌, ◌++◌, Option, Some, None, Result, Ok, Err, length, if◌then◌else◌, ⊤}
 use Rattle.std.specs.Option.{option_map}
 use Rattle.stx_base.specs.declared.name.Binding.{Binding}
 use Rattle.stxpath_syntax.specs.declared.dialect.Dialect.{Dialect}
@@ -68,7 +68,7 @@ module _ (dialect : Dialect) (scope : List Binding) where
 abbrev pub Answers : {A : Type 0} → (Read A → Type 0) → Result A ParseFault → Type 0
 Answers Is (Ok a) = Is (Ok a)
 Answers Is (Err (fault.Path why)) = Is (Err why)
-Answers Is (Err fault.Memory) = Unit {0}
+Answers Is (Err fault.Memory) = ⊤
 
 abbrev pub IsExpression : Dialect → List Binding → ℕ → List ℕ → Read Expr → Type 0
 IsExpression dialect scope at text = Gives (grammar.Spells dialect scope 1) at text

@@ -1,5 +1,5 @@
 -- How a template is read, piece by piece.
-use Rattle.std.specs.Prelude.{◌≡◌, ℕ, ◌+◌, ◌<◌, ◌≤◌, List, [], ◌∷◌, ◌++◌, Result, Ok, Err, length, drop}
+use Rattle.std.specs.Prelude.{◌≡◌, ℕ, ◌+◌, ◌<◌, ◌≤◌, List, [], ◌∷◌, ◌++◌, Result, Ok, Err, length, drop, ⊤}
 use Rattle.stx_base.specs.declared.name.Binding.{Binding}
 use Rattle.stxpath_syntax.specs.declared.avt.Cut.{Cut}
 use Rattle.stxpath_syntax.specs.declared.avt.Piece.{Piece}
@@ -22,7 +22,7 @@ Cuts dialect scope at text (Ok cut) =
     (0 < cut.len) × (cut.len ≤ length text)
     × ((parts : Read (List AvtPart)) → Template dialect scope (at + cut.len) (drop cut.len text) parts → Template dialect scope at text (with_piece cut.piece parts))
 Cuts dialect scope at text (Err (fault.Path f)) = Template dialect scope at text (Err f)
-Cuts dialect scope at text (Err fault.Memory) = Unit {0}
+Cuts dialect scope at text (Err fault.Memory) = ⊤
 
 -- plain characters as a part, if there are some
 abbrev pub flushed : List ℕ → List AvtPart

@@ -16,7 +16,6 @@ use Rattle.stxpath_syntax.specs.declared.token.Operator.TheVariants as operator
 use Rattle.stxpath_syntax.specs.declared.token.Token.{Token}
 use Rattle.stxpath_syntax.specs.declared.token.Token.TheVariants as token
 use Rattle.stxpath_syntax.specs.declared.token.Placed.{Placed}
-use Rattle.stxpath_syntax.specs.Counting.{next_count}
 use Rattle.stxpath_syntax.specs.Words.{operator_named}
 
 -- whether a character at this place passes the test
@@ -171,10 +170,10 @@ abbrev pub begun : ℕ → Before
 begun at = record { at = at; opened = 0; is_operand = false }
 
 -- each closing bracket takes one off, whatever its kind, where one is open
-abbrev pub behind : Before → Token → ℕ → Before
-behind before t end = record {
+abbrev pub before_next : Before → Token → ℕ → Before
+before_next before t end = record {
   at = end;
-  opened = if opens t then next_count before.opened else if closes t then before.opened - 1 else before.opened;
+  opened = if opens t then before.opened + 1 else if closes t then before.opened - 1 else before.opened;
   is_operand = ends_operand t;
 }
 
@@ -203,7 +202,7 @@ Lexed before text [] None = drop (space text) text ≡ []
 Lexed before text [] (Some fault) =
     (drop (space text) text ≢ []) × Refuses before.opened (drop (space text) text) fault.kind × (fault.place ≡ before.at + space text)
 Lexed before text (t ∷ ts) over =
-    (len : ℕ) × Stands before text t len × Lexed (behind before t.token (before.at + len)) (drop len text) ts over
+    (len : ℕ) × Stands before text t len × Lexed (before_next before t.token (before.at + len)) (drop len text) ts over
 
 -- the tokens of a text that begins at a place
 abbrev pub Tokens : ℕ → List ℕ → List Placed → Option PathFault → Type 0

@@ -437,11 +437,12 @@ fn first_token(alloc: Global, text: &[char], place: usize) -> Result<(Token, usi
 }
 
 /// What stands before what follows a token that ends at a place.
-fn behind(before: Before, token: &Token, end: usize) -> Before
-    ensures { result ≡ spec.behind before token.now end }
+fn before_next(before: Before, token: &Token, end: usize) -> Before
+    requires { spec.is_too_deep before.opened token.now ≡ false }
+    ensures { result ≡ spec.before_next before token.now end }
 {
     let opened = if opens(token) {
-        before.opened.saturating_add(1)
+        before.opened + 1
     } else if closes(token) {
         before.opened.saturating_sub(1)
     } else {
@@ -502,7 +503,7 @@ pub fn tokens(alloc: Global, text: &[char], at: usize) -> Result<List<Placed>, P
     };
     let mut rest = text;
     'tokens: while let Some(next) = next_token(alloc, before, rest)? {
-        before = behind(before, &next.placed.token, before.at + next.len);
+        before = before_next(before, &next.placed.token, before.at + next.len);
         rest = &rest[next.len..];
         found.push(next.placed)?;
     }

@@ -99,9 +99,9 @@ fn pushed<T: Drop>(
     match value {
         Meant::Bad(fault) => Ok(Meant::Bad(fault)),
         Meant::High => Ok(Meant::High),
-        Meant::Fine(value, more) => {
+        Meant::Fine(value, other) => {
             values.push(value)?;
-            Ok(of_height(values, height.max(more)))
+            Ok(of_height(values, height.max(other)))
         }
     }
 }
@@ -146,9 +146,9 @@ fn paired(
     match right {
         Meant::Bad(fault) => Ok(instead(left, Meant::Bad(fault))),
         Meant::High => Ok(instead(left, Meant::High)),
-        Meant::Fine(right, more) => {
+        Meant::Fine(right, other) => {
             let both = pair(alloc, bin, left, right)?;
-            Ok(above(both, height.max(more)))
+            Ok(above(both, height.max(other)))
         }
     }
 }
@@ -296,7 +296,7 @@ fn path(steps: List<PathStep>, height: usize, test: Meant<Option<NodeTest>>) -> 
     match test {
         Meant::Bad(fault) => Meant::Bad(fault),
         Meant::High => Meant::High,
-        Meant::Fine(test, more) => above(Expr::Abs(steps, test), height.max(more)),
+        Meant::Fine(test, other) => above(Expr::Abs(steps, test), height.max(other)),
     }
 }
 
@@ -321,13 +321,13 @@ fn tested(
     match predicates {
         Meant::Bad(fault) => instead(test, Meant::Bad(fault)),
         Meant::High => instead(test, Meant::High),
-        Meant::Fine(predicates, more) => {
+        Meant::Fine(predicates, other) => {
             let step = PathStep {
                 link,
                 test,
                 predicates,
             };
-            of_height(step, height.max(more))
+            of_height(step, height.max(other))
         }
     }
 }

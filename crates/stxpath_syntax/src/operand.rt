@@ -1,7 +1,7 @@
 //! Tokens behind operands, and those that begin them.
 
-ghost use Rattle.std.specs.Prelude.{◌≡◌, Some as Just, IfOk};
-ghost use Rattle.stxpath_syntax.specs.Counting.{next_count};
+ghost use Rattle.std.specs.Prelude.{◌≡◌, ◌+◌, ◌<◌, ◌^◌, Some as Just, IfOk};
+ghost use Rattle.stxpath_syntax.specs.Counts.{CanCount, frame_count};
 ghost use Rattle.stxpath_syntax.specs.Grammar as grammar;
 ghost use Rattle.stxpath_syntax.specs.Meaning as meaning;
 ghost use Rattle.stxpath_syntax.specs.Ending as ending;
@@ -166,14 +166,16 @@ fn called(
     items: Meant<List<Expr>>,
     last: Meant<Expr>,
 ) -> Result<Mode, Stop>
-    ensures { spec.Takes (Just (Mode.Complete (meaning.called name at (next_count count) (meaning.and_also items last)))) result }
+    requires { count + 1 < 2 ^ 64 }
+    ensures { spec.Takes (Just (Mode.Complete (meaning.called name at (count + 1) (meaning.and_also items last)))) result }
 {
     let items = meant::and_also(items, last)?;
-    Ok(call(&name, at, count.saturating_add(1), items))
+    Ok(call(&name, at, count + 1, items))
 }
 
 /// `)` behind an expression.
 fn close(stack: &mut Stack<Frame>, last: Meant<Expr>) -> Result<Mode, Stop>
+    requires { CanCount stack.old }
     ensures { spec.Turns (spec.close (stack.old, last)) result stack.new }
 {
     let Some(frame) = stack.pop() else {
@@ -193,10 +195,11 @@ fn close(stack: &mut Stack<Frame>, last: Meant<Expr>) -> Result<Mode, Stop>
 
 /// Brackets with one more expression, behind a comma.
 fn more_grouped(items: Meant<List<Expr>>, count: usize, last: Meant<Expr>) -> Result<Frame, Stop>
+    requires { count + 1 < 2 ^ 64 }
     ensures { spec.Takes (spec.separated (Frame.Group items count) last) result }
 {
     let items = meant::and_also(items, last)?;
-    let count = count.saturating_add(1);
+    let count = count + 1;
     Ok(Frame::Group { items, count })
 }
 
@@ -208,10 +211,11 @@ fn more_called(
     count: usize,
     last: Meant<Expr>,
 ) -> Result<Frame, Stop>
+    requires { count + 1 < 2 ^ 64 }
     ensures { spec.Takes (spec.separated (Frame.Call name at items count) last) result }
 {
     let items = meant::and_also(items, last)?;
-    let count = count.saturating_add(1);
+    let count = count + 1;
     Ok(Frame::Call {
         name,
         at,
@@ -222,6 +226,7 @@ fn more_called(
 
 /// The frame of brackets with one more expression, behind a comma.
 fn separated(frame: Frame, last: Meant<Expr>) -> Result<Frame, Stop>
+    requires { frame_count frame + 1 < 2 ^ 64 }
     ensures { spec.Takes (spec.separated frame last) result }
 {
     match frame {
@@ -238,6 +243,7 @@ fn separated(frame: Frame, last: Meant<Expr>) -> Result<Frame, Stop>
 
 /// A comma behind an expression.
 fn separate(stack: &mut Stack<Frame>, last: Meant<Expr>) -> Result<Mode, Stop>
+    requires { CanCount stack.old }
     ensures { spec.Turns (spec.separate (stack.old, last)) result stack.new }
 {
     match stack.pop() {
@@ -289,43 +295,44 @@ fn wait(
 
 /// What ends an operand, or an operator that follows it.
 #[derive(Clone, Copy)]
-enum Behind {
+enum Sequel {
     Operator(Operator),
     Close,
     Comma,
     ClosePredicate,
 }
 
-fn sequel(token: &Token) -> Option<Behind>
-    ensures { result ≡ ending.sequel token.now }
+fn sequel_of(token: &Token) -> Option<Sequel>
+    ensures { result ≡ ending.sequel_of token.now }
 {
     match token {
-        Token::Operator(operator) => Some(Behind::Operator(*operator)),
-        Token::Close => Some(Behind::Close),
-        Token::Comma => Some(Behind::Comma),
-        Token::ClosePredicate => Some(Behind::ClosePredicate),
+        Token::Operator(operator) => Some(Sequel::Operator(*operator)),
+        Token::Close => Some(Sequel::Close),
+        Token::Comma => Some(Sequel::Comma),
+        Token::ClosePredicate => Some(Sequel::ClosePredicate),
         _ => None,
     }
 }
 
 /// What ends an operand, when all that binds tighter is one with it.
-fn end(behind: Behind, at: usize, stack: &mut Stack<Frame>, last: Meant<Expr>) -> Result<Mode, Stop>
-    ensures { spec.Turns (ending.ended behind at (stack.old, last)) result stack.new }
+fn end(sequel: Sequel, at: usize, stack: &mut Stack<Frame>, last: Meant<Expr>) -> Result<Mode, Stop>
+    requires { CanCount stack.old }
+    ensures { spec.Turns (ending.ended sequel at (stack.old, last)) result stack.new }
 {
-    match behind {
-        Behind::Operator(operator) => wait(operator, at, stack, last),
-        Behind::Close => close(stack, last),
-        Behind::Comma => separate(stack, last),
-        Behind::ClosePredicate => close_predicate(stack, last),
+    match sequel {
+        Sequel::Operator(operator) => wait(operator, at, stack, last),
+        Sequel::Close => close(stack, last),
+        Sequel::Comma => separate(stack, last),
+        Sequel::ClosePredicate => close_predicate(stack, last),
     }
 }
 
 /// How tightly an operand that ends so must bind.
-fn least(behind: Behind) -> u8
-    ensures { result ≡ ending.least behind }
+fn least(sequel: Sequel) -> u8
+    ensures { result ≡ ending.least sequel }
 {
-    match behind {
-        Behind::Operator(operator) => left_level(operator),
+    match sequel {
+        Sequel::Operator(operator) => left_level(operator),
         _ => 0,
     }
 }
@@ -338,12 +345,13 @@ pub fn complete(
     operand: Meant<Expr>,
     placed: &Placed,
 ) -> Result<Mode, Stop>
+    requires { CanCount stack.old }
     ensures { spec.Turns (spec.complete stack.old operand placed.now.at placed.now.token) result stack.new }
 {
-    match sequel(&placed.token) {
-        Some(behind) => {
-            let last = gather(alloc, least(behind), stack, operand)?;
-            end(behind, placed.at, stack, last)
+    match sequel_of(&placed.token) {
+        Some(sequel) => {
+            let last = gather(alloc, least(sequel), stack, operand)?;
+            end(sequel, placed.at, stack, last)
         }
         None => stuck(operand),
     }

@@ -2,6 +2,7 @@
 
 ghost use Rattle.std.specs.Prelude.{◌≡◌, ◌<◌, ◌≤◌, ◌+◌, ◌^◌, true, IfOk, length, map};
 ghost use Rattle.std.specs.List.{list_all};
+ghost use Rattle.stxpath_syntax.specs.Counts.{CountsTo, StateCanCount};
 ghost use Rattle.stxpath_syntax.specs.Running as running;
 ghost use Rattle.stxpath_syntax.specs.Shape as shape;
 ghost use Rattle.stxpath_syntax.specs.Template as spec;
@@ -40,6 +41,7 @@ fn next(
     state: State,
     placed: Placed,
 ) -> Result<State, ParseFault>
+    requires { StateCanCount state }
     ensures { running.Nexts dialect scope.now state placed result }
 {
     let at = placed.at;
@@ -57,6 +59,7 @@ fn run(
     begun: State,
     tokens: List<Placed>,
 ) -> Result<State, ParseFault>
+    requires { CountsTo 0 begun }
     ensures { running.Runs dialect scope.now begun tokens result }
 {
     let mut rest = Stack::from_list(tokens);

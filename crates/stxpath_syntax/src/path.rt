@@ -1,6 +1,7 @@
 //! Tokens in paths.
 
-ghost use Rattle.std.specs.Prelude.{◌≡◌, false, IfOk};
+ghost use Rattle.std.specs.Prelude.{◌≡◌, ◌+◌, ◌<◌, ◌^◌, false, IfOk};
+ghost use Rattle.stxpath_syntax.specs.Counts.{CanCount};
 ghost use Rattle.stxpath_syntax.specs.Machine as spec;
 ghost use Rattle.stxpath_syntax.specs.Meaning as meaning;
 
@@ -189,6 +190,7 @@ fn end_of_path(
     walk: Walk,
     placed: Placed,
 ) -> Result<Mode, Stop>
+    requires { CanCount stack.old }
     ensures { spec.Turns (spec.end_of_path stack.old walk placed.at placed.token) result stack.new }
 {
     let steps = all_steps(walk)?;
@@ -207,6 +209,7 @@ pub fn walk_on(
     walk: Walk,
     placed: Placed,
 ) -> Result<Mode, Stop>
+    requires { CanCount stack.old }
     ensures { spec.Turns (spec.walk_on stack.old walk placed.at placed.token) result stack.new }
 {
     match placed.token {
@@ -242,6 +245,7 @@ pub fn after_root(
     stack: &mut Stack<Frame>,
     placed: Placed,
 ) -> Result<Mode, Stop>
+    requires { CanCount stack.old }
     ensures { spec.Turns (spec.after_root scope.now stack.old placed.at placed.token) result stack.new }
 {
     if begins_step(is_pattern(stack), &placed.token) {
@@ -294,6 +298,7 @@ pub fn after_name(
     named: Named,
     placed: Placed,
 ) -> Result<Mode, Stop>
+    requires { CanCount stack.old }
     ensures { spec.Turns (spec.after_name dialect scope.now stack.old named placed.at placed.token) result stack.new }
 {
     if matches!(placed.token, Token::Open) {
@@ -341,6 +346,7 @@ pub fn above(
     count: u64,
     placed: Placed,
 ) -> Result<Mode, Stop>
+    requires { CanCount stack.old }
     ensures { spec.Turns (spec.above stack.old count placed.at placed.token) result stack.new }
 {
     if matches!(placed.token, Token::Slash) {
@@ -351,10 +357,11 @@ pub fn above(
 
 /// A token behind `.` or `..`, and `/`.
 pub fn higher(count: u64, token: Token) -> Result<Mode, Stop>
+    requires { count + 1 < 2 ^ 64 }
     ensures { spec.Takes (spec.higher count token) result }
 {
     match token {
-        Token::DotDot if count != 0 => Ok(Mode::Above(count.saturating_add(1))),
+        Token::DotDot if count != 0 => Ok(Mode::Above(count + 1)),
         Token::At => Ok(Mode::Attribute(Owner::Above(count))),
         _ => Err(Stop::Stuck),
     }

@@ -1,6 +1,6 @@
 //! A stack that contracts see as a list with the top first.
 
-ghost use Rattle.std.specs.Prelude.{◌≡◌, [], ◌∷◌, ◌↔◌, IsTrue, MatchOption, OnOk, OnErr};
+ghost use Rattle.std.specs.Prelude.{◌≡◌, ◌<◌, ◌^◌, [], ◌∷◌, ◌↔◌, length, IsTrue, MatchOption, OnOk, OnErr};
 ghost use Rattle.std.specs.Option.{option_copied};
 ghost use Rattle.stxpath_syntax.specs.Stacks.{top};
 
@@ -36,7 +36,8 @@ impl<T> Stack<T> {
 
     /// The list's items, the first on top. Allocates nothing.
     pub fn from_list(list: List<T>) -> Stack<T>
-        ensures { result ≡ list }
+        ensures value { result ≡ list }
+        ensures size { length result < 2 ^ 64 }
     {
         let mut items = list.into_vec();
         items.reverse();

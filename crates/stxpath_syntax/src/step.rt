@@ -1,6 +1,7 @@
 //! One token's part of the parser's work.
 
-ghost use Rattle.std.specs.Prelude.{◌≡◌, IfOk};
+ghost use Rattle.std.specs.Prelude.{◌≡◌, ◌+◌, ◌<◌, ◌^◌, IfOk};
+ghost use Rattle.stxpath_syntax.specs.Counts.{CanCount, StateCanCount, mode_count};
 ghost use Rattle.stxpath_syntax.specs.Machine as spec;
 
 use crate::dialect::Dialect;
@@ -42,6 +43,8 @@ fn turn(
     mode: Mode,
     placed: Placed,
 ) -> Result<Mode, Stop>
+    requires frames { CanCount stack.old }
+    requires mode { mode_count mode + 1 < 2 ^ 64 }
     ensures { spec.Turns (spec.turn dialect scope.now stack.old mode placed.at placed.token) result stack.new }
 {
     match mode {
@@ -71,6 +74,7 @@ pub fn step(
     state: State,
     placed: Placed,
 ) -> Result<State, Stop>
+    requires { StateCanCount state }
     ensures { spec.Takes (spec.step dialect scope.now state placed) result }
 {
     let State { mut stack, mode } = state;

@@ -1,5 +1,7 @@
-use Rattle.std.proofs.Common.{arith}
+use Rattle.std.proofs.Common.{◌∙◌, ap, arith}
 use Rattle.std.proofs.lemmas.Result.{err_from_is_err_and}
+use Rattle.stxpath_syntax.specs.Tokens.{is_too_deep}
+use Rattle.stxpath_syntax.proofs.Counts.{classed_deep}
 use Rattle.stxpath_syntax.proofs.Looping.{lex_fault, lex_end}
 use Rattle.stxpath_syntax.proofs.lex.tokens.Goals as goal
 
@@ -17,3 +19,9 @@ pub returns : goal.returns
 returns c =
     let h = rw c.in_default.is at c.in_ok-next.ensures in
     lex_end c.args.at c.args.text.now c.tokens.found c.tokens.before c.tokens.rest.now c.tokens.invariant.0 h
+
+pub before_next-before-requires : goal.before_next-before-requires
+before_next-before-requires c =
+    let h = rw c.in-Some.is at c.in_ok-next.ensures in
+    ap (λ t. is_too_deep c.tokens.before.opened t.token) h.0.is_it
+    ∙ classed_deep c.tokens.before.opened c.tokens.before.is_operand h.0.found.0 ∙ h.0.is_not_too_deep

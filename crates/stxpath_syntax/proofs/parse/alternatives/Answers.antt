@@ -1,7 +1,8 @@
-use Rattle.std.proofs.Common.{◌≡◌, ◌+◌, [], ◌∷◌, length, Some, Err, subst, ◌∙◌, ap, arith}
+use Rattle.std.proofs.Common.{◌≡◌, ◌+◌, [], ◌∷◌, length, Some, Err, sym, subst, ◌∙◌, ap, arith}
 use Rattle.std.proofs.lemmas.Result.{err_from_is_err_and}
 use Rattle.stxpath_syntax.specs.declared.state.Frame.TheVariants.{Alternatives}
 use Rattle.stxpath_syntax.specs.declared.state.Mode.TheVariants.{Alternative as AlternativeBegins}
+use Rattle.stxpath_syntax.specs.Counts.{CountTo}
 use Rattle.stxpath_syntax.specs.Grammar.{Pattern}
 use Rattle.stxpath_syntax.specs.Machine.{run, end_of_pattern}
 use Rattle.stxpath_syntax.specs.Meaning.{none}
@@ -39,3 +40,9 @@ returns c =
     let e = subst (λ end. Answers (λ read. read ≡ whole_read (end_of_pattern scope c.in_ok-state.state) end) c.whole_pattern.result) end c.whole_pattern.ensures in
     ran dialect scope (Pattern dialect scope) pattern_begun (end_of_pattern scope) (patterns dialect scope) 0 c.args.text.now c.in_ok-tokens.tokens
     c.in_ok-state.state c.whole_pattern.result c.in_ok-tokens.ensures h e
+
+pub run-requires : goal.run-requires
+run-requires c =
+    let laid : c.push.new.self ≡ Alternatives none ∷ []
+    = c.in_ok-push.ensures.ok ∙ ap (λ all. Alternatives all ∷ c.new-stack.result) c.none.ensures ∙ ap (λ frames. Alternatives none ∷ frames) c.new-stack.ensures in
+    record { frames = subst (CountTo 0) (sym laid) (omega arith, tt); mode = omega arith }

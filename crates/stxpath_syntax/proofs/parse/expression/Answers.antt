@@ -1,6 +1,7 @@
-use Rattle.std.proofs.Common.{◌≡◌, Some, Err, subst}
+use Rattle.std.proofs.Common.{◌≡◌, Some, Err, sym, subst, arith}
 use Rattle.std.proofs.lemmas.Result.{err_from_is_err_and}
 use Rattle.stxpath_syntax.specs.declared.state.Mode.TheVariants.{Operand}
+use Rattle.stxpath_syntax.specs.Counts.{CountTo}
 use Rattle.stxpath_syntax.specs.Grammar.{Spells}
 use Rattle.stxpath_syntax.specs.Machine.{run, end_of_expression}
 use Rattle.stxpath_syntax.specs.Running.{Runs}
@@ -30,3 +31,6 @@ returns c =
     let h = subst (λ frames. run dialect scope c.in_ok-tokens.tokens (in_state frames Operand) ≡ Some c.in_ok-state.state) c.new.ensures c.in_ok-state.ensures in
     ran dialect scope (Spells dialect scope 1) expression_begun (end_of_expression scope) (expressions dialect scope) c.args.at c.args.text.now c.in_ok-tokens.tokens
     c.in_ok-state.state c.whole_expression.result c.in_ok-tokens.ensures h c.whole_expression.ensures
+
+pub run-requires : goal.run-requires
+run-requires c = record { frames = subst (CountTo 0) (sym c.new.ensures) tt; mode = omega arith }
