@@ -1,5 +1,5 @@
 -- Where patterns fit, by their last steps.
-use Rattle.std.proofs.Common.{◌≡◌, ◌≢◌, ◌↔◌, ℕ, ◌+◌, ◌<◌, Bool, true, false, ◌&&◌, ◌==◌, List, [], ◌∷◌, ◌++◌, Option, None, Some, refl, ap, sym, subst, ◌∙◌, arith}
+use Rattle.std.proofs.Common.{◌≡◌, ◌≢◌, ◌↔◌, ℕ, ◌+◌, ◌<◌, Bool, true, false, ◌&&◌, ◌==◌, nat_lt, List, [], ◌∷◌, ◌++◌, Option, None, Some, refl, ap, sym, subst, ◌∙◌, arith}
 use Rattle.std.proofs.lemmas.Bool.{eqb-true, eq-eqb}
 use Rattle.node_stack.specs.Path.{Node, Document, Element, Chars, CData, Comment, Pi, Attribute, node_at}
 use Rattle.stx_base.specs.declared.node.NodeTest.TheVariants as test
@@ -50,8 +50,18 @@ slash_step g s is =
     let b = both (g.place == 1) (step_fits s g g.place) h in
     fits_by g (s ∷ []) None (alone g s g.place b.1 (subst (λ l. may_follow l None g.place ≡ true) (sym is) b.0)))
 
+deep_step : (g : Setting) (s : PathStep) → s.link ≡ link.Deep → steps_fit (s ∷ []) g None ≡ (nat_lt 0 g.place && step_fits s g g.place)
+deep_step g s is =
+    same_truth (steps_fit (s ∷ []) g None) (nat_lt 0 g.place && step_fits s g g.place)
+    (λ h.
+    let o = only g s h in
+    and_both (nat_lt 0 g.place) (step_fits s g g.place) (subst (λ l. may_follow l None g.place ≡ true) is o.follows) o.fits)
+    (λ h.
+    let b = both (nat_lt 0 g.place) (step_fits s g g.place) h in
+    fits_by g (s ∷ []) None (alone g s g.place b.1 (subst (λ l. may_follow l None g.place ≡ true) (sym is) b.0)))
+
 pub fits_by_step : FitsByStep
-fits_by_step = λ g s. (start_step g s, slash_step g s)
+fits_by_step = λ g s. (start_step g s, slash_step g s, deep_step g s)
 
 -- where steps lead doesn't depend on the current node
 moved : (g : Setting) (a b : ℕ) (steps : List PathStep) (before after : Option ℕ) → Leads (at_place a g) before steps after → Leads (at_place b g) before steps after

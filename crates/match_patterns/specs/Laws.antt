@@ -1,5 +1,5 @@
 -- What laws of the definitions say.
-use Rattle.std.specs.Prelude.{◌≡◌, ◌≢◌, ◌↔◌, ◌<◌, ℕ, ◌+◌, ◌==◌, true, ◌&&◌, List, [], ◌∷◌, ◌++◌, Some}
+use Rattle.std.specs.Prelude.{◌≡◌, ◌≢◌, ◌↔◌, ◌<◌, ℕ, ◌+◌, ◌==◌, nat_lt, true, ◌&&◌, List, [], ◌∷◌, ◌++◌, Some}
 use Rattle.node_stack.specs.Path.{Document, node_at}
 use Rattle.stxpath_eval.specs.Setting.{Setting}
 use Rattle.stxpath_syntax.specs.declared.expr.Alternative.TheVariants.{Root, Steps}
@@ -15,12 +15,14 @@ at_place place g = record g { place = place }
 abbrev pub FitsDocument : Type 0
 FitsDocument = (g : Setting) → fits Root g ≡ true ↔ node_at g.path g.place ≡ Some Document
 
--- A pattern of one step fits the nodes that pass its test and its predicates; behind `/` these are children of the document node.
+-- A pattern of one step fits the nodes that pass its test and its predicates; behind `/` these are children of the document node, and
+-- behind `//` any nodes but that one.
 abbrev pub FitsByStep : Type 0
 FitsByStep =
     (g : Setting) (s : PathStep)
     → (s.link ≡ Start → fits (Steps (s ∷ [])) g ≡ step_fits s g g.place)
     × (s.link ≡ Slash → fits (Steps (s ∷ [])) g ≡ (g.place == 1 && step_fits s g g.place))
+    × (s.link ≡ Deep → fits (Steps (s ∷ [])) g ≡ (nat_lt 0 g.place && step_fits s g g.place))
 
 -- Behind `/` a last step fits where the steps before it fit the parent.
 abbrev pub FitsByParent : Type 0
