@@ -1,5 +1,5 @@
 -- The names that a body says, as they wait to be found.
-use Rattle.std.specs.Prelude.{Bool, not, ◌&&◌, bytes_eq, List, [], ◌∷◌, ◌++◌, map, filter}
+use Rattle.std.specs.Prelude.{Bool, not, List, [], ◌∷◌, ◌++◌, map, filter}
 use Rattle.std.specs.List.{flat_map, list_any}
 use Rattle.std.specs.Option.{option_to_list}
 use Rattle.stx_base.specs.declared.name.Name.{Name}
@@ -13,16 +13,13 @@ use Rattle.stxpath_syntax.specs.declared.expr.Expr.TheFolds.{fold-Expr}
 use Rattle.stxpath_syntax.specs.declared.expr.Expr.TheOpen.{Expr-F, PathStep-F}
 use Rattle.stxpath_syntax.specs.declared.expr.PathStep.{PathStep}
 use Rattle.stxpath_syntax.specs.declared.expr.Pattern.{Pattern}
+pub use Rattle.result_writer.specs.Target.{same_name as is_same}
 use Rattle.sheet_model.specs.declared.instr.Instr.{Instr}
 use Rattle.sheet_model.specs.declared.instr.Instr.TheFolds.{fold-Instr}
 use Rattle.sheet_model.specs.declared.instr.Instr.TheOpen.{Instr-F, When-F}
 use Rattle.sheet_model.specs.declared.instr.WithParam.{WithParam}
 use Rattle.sheet_model.specs.declared.sheet.Variable.{Variable}
 use Rattle.sheet_model.specs.Parts.{base_named, buffer_named, conditions, copied_attributes, expressions, handed, procedure_named, templates}
-
--- expanded names agree by URI and local part (Namespaces in XML 1.0, 2.1)
-abbrev pub is_same : Name → Name → Bool
-is_same m n = bytes_eq m.uri n.uri && bytes_eq m.local n.local
 
 abbrev pub is_among : List Name → Name → Bool
 is_among names n = list_any (λ m. is_same m n) names
