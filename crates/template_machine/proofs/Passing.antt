@@ -9,7 +9,7 @@ use Rattle.result_writer.specs.Target.{Left, fault, next, nothing}
 use Rattle.result_writer.specs.declared.fault.ResultFault.{ResultFault}
 use Rattle.sheet_model.specs.declared.pass.Kinds.{Kinds}
 use Rattle.xml_events.specs.Tree as tree
-use Rattle.xml_events.specs.Tree.{Why, Mark, Fresh, Told, Begun, Stage, Waiting, Ready, Entered, Leaf, Element, Forest, End, Cut, Single, Nested}
+use Rattle.xml_events.specs.Tree.{Why, Mark, Fresh, Told, Begun, Stage, Waiting, Ready, Entered, Leaf, Forest, End, Cut, Single, Nested}
 use Rattle.group_scope.specs.Choice.{all_from, category, fitting, is_free}
 use Rattle.group_scope.specs.Rank.{best_of}
 use Rattle.template_machine.specs.Declaring.{at_start, makes}

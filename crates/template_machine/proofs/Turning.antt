@@ -1,0 +1,39 @@
+-- How a run goes on behind an event.
+use Rattle.std.proofs.Common.{◌≡◌, ◌≢◌, ℕ, List, sym, subst}
+use Rattle.template_machine.specs.Stops.{turn_of}
+use Rattle.template_machine.specs.Well.{IsWaiting}
+use Rattle.template_machine.specs.declared.program.Program.{Program}
+use Rattle.template_machine.specs.declared.run.Run.{Run}
+use Rattle.template_machine.specs.declared.stop.Stop.{Stop}
+use Rattle.template_machine.specs.declared.stop.Stop.TheVariants as stop
+use Rattle.template_machine.specs.declared.turn.Turn.TheVariants as turn
+use Rattle.template_machine.proofs.Fueled.{wanting}
+
+-- a run that stops wants nothing
+pub stop_more : (s : Stop) → turn_of s ≢ turn.More
+stop_more (stop.Fault f) = λ e. cc
+stop_more (stop.Spent at) = λ e. cc
+stop_more stop.Memory = λ e. cc
+
+pub stop_wants : (s : Stop) (name : List ℕ) → turn_of s ≢ turn.WantDocument name
+stop_wants (stop.Fault f) name = λ e. cc
+stop_wants (stop.Spent at) name = λ e. cc
+stop_wants stop.Memory name = λ e. cc
+
+-- nor does one that ended
+pub ended_more : turn.Ended ≢ turn.More
+ended_more = λ e. cc
+
+pub ended_wants : (name : List ℕ) → turn.Ended ≢ turn.WantDocument name
+ended_wants name = λ e. cc
+
+-- what is wanted is an event or a document
+pub more_wants : (name : List ℕ) → turn.More ≢ turn.WantDocument name
+more_wants name = λ e. cc
+
+pub wants_more : (name : List ℕ) → turn.WantDocument name ≢ turn.More
+wants_more name = λ e. cc
+
+-- the name of the document that is wanted is told
+pub wanted_waits : (p : Program) (r t : Run) (name : List ℕ) → t ≡ record r { wanted = name } → IsWaiting p r → IsWaiting p t
+wanted_waits p r t name is w = subst (IsWaiting p) (sym is) (wanting p r name w)

@@ -1,0 +1,5 @@
+use Rattle.template_machine.specs.Moments.{StandsAsBefore}
+use Rattle.template_machine.proofs.putting.Putting.keep_attributes.Given as goal
+
+abbrev pub invariant-loop-attr : goal.invariant-loop-attr
+invariant-loop-attr l = StandsAsBefore l.initial.self l.self

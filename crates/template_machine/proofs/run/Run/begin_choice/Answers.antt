@@ -1,0 +1,27 @@
+use Rattle.std.proofs.Common.{◌+◌, reverse}
+use Rattle.frame_stack.specs.Change.{with_pc}
+use Rattle.instr_code.specs.declared.code.Op.TheVariants as op
+use Rattle.template_machine.specs.Standing.{standing_of}
+use Rattle.template_machine.proofs.Moving.{moves_pc}
+use Rattle.template_machine.proofs.Operating.{at_body, at_place, behind_pc, goes_elsewhere}
+use Rattle.template_machine.proofs.Walking.{choice_begins}
+use Rattle.template_machine.proofs.Falling.{begins_pc}
+use Rattle.template_machine.proofs.run.Run.begin_choice.Goals as goal
+
+pub set_pc-requires : goal.set_pc-requires
+set_pc-requires c = (at_place c.args.program.now c.args.self.now c.args.running (op.Begin c.args.number) c.requires.op).1.2
+
+pub returns-clause-stands : goal.returns-clause-stands
+returns-clause-stands c =
+    let p = c.args.program.now in
+    let r = c.args.self.now in
+    let at = c.requires.op in
+    let w = at.well in
+    let o = op.Begin c.args.number in
+    let next = c.args.running.pc + 1 in
+    goes_elsewhere p r w c.set_pc.new.self (with_pc next) (λ o. next) (λ l. l) (moves_pc next) at.doing (behind_pc p r c.args.running o at next c.set_pc.new.self c.set_pc.ensures).0
+    (choice_begins p w.stations (reverse r.frames.frames) (standing_of r) c.args.running.pc c.args.number w.stand at.pc at.is c.requires.form
+    (at_body p r c.args.running o at).well)
+
+pub returns-clause-works : goal.returns-clause-works
+returns-clause-works c = begins_pc c.args.self.now (c.args.running.pc + 1) c.args.running.body c.set_pc.new.self c.requires.op.doing c.set_pc.ensures

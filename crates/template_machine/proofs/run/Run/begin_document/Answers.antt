@@ -1,0 +1,21 @@
+use Rattle.std.proofs.Common.{◌≡◌, suc, ◌-◌, ◌∙◌, Some, ap, arith}
+use Rattle.template_machine.proofs.Operating.{asked_at, waiting_pc}
+use Rattle.template_machine.proofs.Within.{document_on}
+use Rattle.template_machine.proofs.run.Run.begin_document.Goals as goal
+
+pub running-asked-requires : goal.running-asked-requires
+running-asked-requires c = waiting_pc c.args.program.now c.args.self.now c.requires
+
+pub overflow_sub-asked : goal.overflow_sub-asked
+overflow_sub-asked c = (asked_at c.args.program.now c.args.self.now c.running-asked.result.pc c.requires c.running-asked.ensures.pc).0
+
+pub instr_asked-requires : goal.instr_asked-requires
+instr_asked-requires c = (asked_at c.args.program.now c.args.self.now c.running-asked.result.pc c.requires c.running-asked.ensures.pc).2
+
+pub returns : goal.returns
+returns c =
+    let pc = c.running-asked.result.pc in
+    let asked = asked_at c.args.program.now c.args.self.now pc c.requires c.running-asked.ensures.pc in
+    let long : pc ≡ suc (pc - 1) = omega (arith, asked.0) in
+    document_on c.args.program.now c.args.self.now c.push.new.self c.enter_source.new.self (pc - 1) _ c.requires (c.running-asked.ensures.pc ∙ ap (λ n. Some n) long)
+    c.in_ok-push.ensures.ok c.in_ok-enter_source.ensures

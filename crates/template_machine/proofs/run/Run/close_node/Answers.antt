@@ -1,0 +1,30 @@
+use Rattle.std.proofs.Common.{refl, sym, subst}
+use Rattle.template_machine.specs.declared.run.Doing.TheVariants as doing
+use Rattle.template_machine.specs.Well.{IsWell}
+use Rattle.node_stack.specs.Path.{current}
+use Rattle.node_stack.specs.Stack.{path}
+use Rattle.template_machine.proofs.Overs.{goes_or_waits, node_left, some_end}
+use Rattle.template_machine.proofs.Sourcing.{has_scopes}
+use Rattle.template_machine.proofs.Lightened.{goes_on_list, load_same}
+use Rattle.template_machine.proofs.run.Run.close_node.Goals as goal
+
+pub close-change-requires-clause-scope : goal.close-change-requires-clause-scope
+close-change-requires-clause-scope c = has_scopes c.args.self.now.source c.requires.over.steady.source
+
+pub returns-clause-stands : goal.returns-clause-stands
+returns-clause-stands c =
+    let p = c.args.program.now in
+    let r = c.args.self.now in
+    let a = some_end (current (path r.source.stack)) c.requires.end in
+    let st = c.close-change.ensures.closed in
+    let m = record r { source = c.close-change.new.self; putting = c.see.new.self } in
+    let w = node_left p r (record m { doing = doing.List }) a.0 c.requires.over a.1.1 a.1.0
+    (record { outer = refl; aside = refl; store = refl; putting = record { targets = c.see.ensures.targets; shelves = c.see.ensures.shelves; holds = c.see.ensures.holds } }) refl
+    st.path_is st.scopes_are st.ahead_is st.held_is st.origin_is c.close-change.ensures.counts refl in
+    goes_or_waits p c.list_goes_on.result m c.list_goes_on.new.self c.list_goes_on.ensures.run c.list_goes_on.ensures.step (subst (IsWell p) (sym c.list_goes_on.ensures.run) w)
+
+pub returns-clause-works : goal.returns-clause-works
+returns-clause-works c =
+    let r = c.args.self.now in
+    let m = record r { source = c.close-change.new.self; putting = c.see.new.self } in
+    goes_on_list r m c.list_goes_on.new.self c.list_goes_on.ensures.run refl (load_same r m refl c.close-change.ensures.closed.ahead_is refl)

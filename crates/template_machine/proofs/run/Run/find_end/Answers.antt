@@ -1,0 +1,8 @@
+use Rattle.template_machine.proofs.Lightened.{end_found}
+use Rattle.template_machine.proofs.run.Run.find_end.Goals as goal
+
+pub returns-clause-works : goal.returns-clause-works
+returns-clause-works c = λ id buffer.
+    let p = c.args.program.now in
+    let over = c.requires.over in
+    end_found p c.args.self.now c.end_list.new.self p.limits.fuel id over.steady.places c.end_list.ensures buffer c.requires.list over.ahead

@@ -1,0 +1,41 @@
+use Rattle.std.proofs.Common.{sym, subst, ◌∙◌}
+use Rattle.template_machine.specs.Moments.{Follows}
+use Rattle.template_machine.specs.Work.{Falls}
+use Rattle.template_machine.proofs.Based.{has_root}
+use Rattle.template_machine.proofs.Turning.{more_wants, stop_more, stop_wants, wanted_waits, wants_more}
+use Rattle.template_machine.proofs.run.Run.go_on.Goals as goal
+
+pub loop-self-preserved : goal.loop-self-preserved
+loop-self-preserved g c = subst (λ s. Follows c.args.program.now s c.step.new.self) c.in-Ok-More.field-0-is c.in-Ok-More.ensures.stands
+
+pub loop-self-smaller : goal.loop-self-smaller
+loop-self-smaller g c = subst (λ s. Falls c.args.program.now c.loop-self.self s c.step.new.self) c.in-Ok-More.field-0-is c.in-Ok-More.ensures.works
+
+pub finish-requires : goal.finish-requires
+finish-requires g c = has_root c.args.program.now c.loop-self.self c.loop-self.invariant.steady
+
+pub returns-in-Ok-Wait-clause-more : goal.returns-in-Ok-Wait-clause-more
+returns-in-Ok-Wait-clause-more g c = λ e. subst (λ s. Follows c.args.program.now s c.step.new.self) c.in-Ok-Wait.field-0-is c.in-Ok-Wait.ensures.stands
+
+pub returns-in-Ok-Wait-clause-want : goal.returns-in-Ok-Wait-clause-want
+returns-in-Ok-Wait-clause-want g c = λ name e. absurd (more_wants name e)
+
+pub returns-in-Ok-Want-clause-more : goal.returns-in-Ok-Want-clause-more
+returns-in-Ok-Want-clause-more g c = λ e. absurd (wants_more _ (sym c.want_document.ensures.name ∙ e))
+
+pub returns-in-Ok-Want-clause-want : goal.returns-in-Ok-Want-clause-want
+returns-in-Ok-Want-clause-want g c = λ name e.
+    wanted_waits c.args.program.now c.step.new.self c.want_document.new.self _ c.want_document.ensures.rest
+    (subst (λ s. Follows c.args.program.now s c.step.new.self) c.in-Ok-Want.field-0-is c.in-Ok-Want.ensures.stands)
+
+pub returns-in-Ok-Over-clause-more : goal.returns-in-Ok-Over-clause-more
+returns-in-Ok-Over-clause-more g c = λ e. absurd (c.finish.ensures.more e)
+
+pub returns-in-Ok-Over-clause-want : goal.returns-in-Ok-Over-clause-want
+returns-in-Ok-Over-clause-want g c = λ name e. absurd (c.finish.ensures.want name e)
+
+pub returns-in-Err-clause-more : goal.returns-in-Err-clause-more
+returns-in-Err-clause-more g c = λ e. absurd (stop_more c.in-Err.stop (sym c.turn.ensures ∙ e))
+
+pub returns-in-Err-clause-want : goal.returns-in-Err-clause-want
+returns-in-Err-clause-want g c = λ name e. absurd (stop_wants c.in-Err.stop name (sym c.turn.ensures ∙ e))

@@ -1,0 +1,11 @@
+use Rattle.template_machine.specs.Well.{IsWell}
+use Rattle.template_machine.specs.Work.{work}
+use Rattle.template_machine.proofs.run.Run.go_on.Given as goal
+
+-- it goes on well
+abbrev pub invariant-loop-self : goal.invariant-loop-self
+invariant-loop-self g l = IsWell l.program l.self
+
+-- and each step leaves less to do
+abbrev pub decreases-loop-self : goal.decreases-loop-self
+decreases-loop-self g l = work l.program l.self

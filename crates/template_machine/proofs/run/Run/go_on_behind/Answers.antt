@@ -1,0 +1,27 @@
+use Rattle.std.proofs.Common.{sym, subst, ◌∙◌}
+use Rattle.template_machine.specs.Moments.{Follows}
+use Rattle.template_machine.proofs.Turning.{more_wants, wanted_waits, wants_more}
+use Rattle.template_machine.proofs.run.Run.go_on_behind.Goals as goal
+
+pub go_on-requires : goal.go_on-requires
+go_on-requires g c = subst (λ s. Follows c.args.program.now s c.args.self.now) c.in-More.is c.requires.follows
+
+pub returns-in-Wait-clause-more : goal.returns-in-Wait-clause-more
+returns-in-Wait-clause-more g c = λ e. subst (λ s. Follows c.args.program.now s c.args.self.now) c.in-Wait.is c.requires.follows
+
+pub returns-in-Wait-clause-want : goal.returns-in-Wait-clause-want
+returns-in-Wait-clause-want g c = λ name e. absurd (more_wants name e)
+
+pub returns-in-Want-clause-more : goal.returns-in-Want-clause-more
+returns-in-Want-clause-more g c = λ e. absurd (wants_more _ (sym c.want_document.ensures.name ∙ e))
+
+pub returns-in-Want-clause-want : goal.returns-in-Want-clause-want
+returns-in-Want-clause-want g c = λ name e.
+    wanted_waits c.args.program.now c.args.self.now c.want_document.new.self _ c.want_document.ensures.rest
+    (subst (λ s. Follows c.args.program.now s c.args.self.now) c.in-Want.is c.requires.follows)
+
+pub returns-in-Over-clause-more : goal.returns-in-Over-clause-more
+returns-in-Over-clause-more g c = λ e. absurd (c.finish.ensures.more e)
+
+pub returns-in-Over-clause-want : goal.returns-in-Over-clause-want
+returns-in-Over-clause-want g c = λ name e. absurd (c.finish.ensures.want name e)

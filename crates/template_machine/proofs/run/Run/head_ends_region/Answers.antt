@@ -1,0 +1,14 @@
+use Rattle.std.proofs.Common.{◌≡◌, ◌∙◌, ◌∷◌, true, reverse, ap, sym, subst}
+use Rattle.std.specs.Option.{option_copied}
+use Rattle.frame_stack.specs.declared.frame.Frame.{Frame}
+use Rattle.template_machine.specs.Well.{StandOnRegion}
+use Rattle.template_machine.proofs.Slots.{all_ok}
+use Rattle.template_machine.proofs.Tops.{top_frame}
+use Rattle.template_machine.proofs.run.Run.head_ends_region.Goals as goal
+
+pub returns-in-Some-Region : goal.returns-in-Some-Region
+returns-in-Some-Region c =
+    let xs = c.args.self.now.frames.frames in
+    let t = top_frame xs c.in-Some-Region.field-0.now (sym c.top.ensures ∙ ap option_copied c.in-Some-Region.is) in
+    let is = t.1 ∙ ap (λ (x : Frame). x ∷ t.0) c.in-Some-Region.field-0-is in
+    all_ok c.ends_region.result (λ over. over ≡ true → StandOnRegion (reverse xs)) (λ b e. subst StandOnRegion (sym is) tt)

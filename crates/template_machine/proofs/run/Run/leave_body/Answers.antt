@@ -1,0 +1,33 @@
+use Rattle.std.proofs.Common.{◌≡◌, ◌∙◌, true, false, reverse, ap, sym, arith}
+use Rattle.std.specs.Prelude.{◌&&◌, not}
+use Rattle.node_stack.specs.Path.{can_have_children}
+use Rattle.node_stack.specs.Stack.{path}
+use Rattle.template_machine.specs.Well.{is_again}
+use Rattle.template_machine.proofs.Taken.{body_left, body_waits}
+use Rattle.template_machine.proofs.Ways.{way_here}
+use Rattle.template_machine.proofs.Falling.{begins_within}
+use Rattle.template_machine.specs.Work.{Begins}
+use Rattle.template_machine.proofs.Operating.{on_ok}
+use Rattle.template_machine.proofs.run.Run.leave_body.Goals as goal
+
+pub end_process-requires : goal.end_process-requires
+end_process-requires c =
+    let r = c.args.self.now in
+    let again : is_again c.args.level (reverse r.frames.frames) ≡ true = cc in body_waits c.args.program.now r c.args.level c.args.spent c.requires again
+
+pub leave_node-requires : goal.leave_node-requires
+leave_node-requires c =
+    let r = c.args.self.now in
+    let apart : is_again c.args.level (reverse r.frames.frames) ≡ false = cc in
+    let gone : c.is_open.result ≡ false = cc in
+    body_left c.args.program.now r c.args.level c.args.spent c.requires apart
+    (ap (λ o. can_have_children o && not c.args.spent) (way_here (path r.source.stack)) ∙ sym c.is_open.ensures ∙ gone)
+
+pub returns-then-is_asked_again-clause-works : goal.returns-then-is_asked_again-clause-works
+returns-then-is_asked_again-clause-works c = begins_within 0 4 c.args.self.now c.end_process.new.self (omega arith) c.end_process.ensures.works
+
+pub returns-clause-works : goal.returns-clause-works
+returns-clause-works c =
+    let r = c.args.self.now in
+    let n = c.leave_node.new.self in
+    on_ok c.leave_node.result (Begins 2 r n) (Begins 4 r n) c.leave_node.ensures.works (λ b. begins_within 2 4 r n (omega arith) b)

@@ -1,0 +1,59 @@
+use Rattle.std.proofs.Common.{◌∙◌, refl, ap, sym, subst, arith}
+use Rattle.node_stack.specs.Path.{can_have_children}
+use Rattle.node_stack.specs.Stack.{path, path_node}
+use Rattle.std.specs.Option.{option_map}
+use Rattle.template_machine.specs.Sources.{FindsRoom, resumed_by, within_held}
+use Rattle.template_machine.proofs.Looking.{head_looked, head_resumed, holds_head, list_ended}
+use Rattle.template_machine.proofs.Ways.{way_depth, way_here}
+use Rattle.template_machine.proofs.Lightened.{begins_ok, known_less, resumed_falls}
+use Rattle.template_machine.specs.declared.source.Ahead.TheVariants as ahead
+use Rattle.template_machine.proofs.run.Run.look_ahead.Goals as goal
+
+pub head-requires : goal.head-requires
+head-requires g c = head_looked c.args.program.now c.args.self.now c.requires.well c.requires.list c.in-Here.is
+
+pub list_over-requires : goal.list_over-requires
+list_over-requires g c = list_ended c.args.program.now c.args.self.now c.requires.well c.requires.list c.in-Ended.is c.requires.events
+
+pub resume_held-requires-clause-children : goal.resume_held-requires-clause-children
+resume_held-requires-clause-children g c =
+    let r = c.args.self.now in
+    let h = holds_head c.args.program.now r c.requires.well c.requires.list c.in-Held.is c.requires.events in
+    sym (ap can_have_children (way_here (path r.source.stack))) ∙ h.list
+
+pub resume_held-requires-clause-room : goal.resume_held-requires-clause-room
+resume_held-requires-clause-room g c =
+    let r = c.args.self.now in
+    let h = holds_head c.args.program.now r c.requires.well c.requires.list c.in-Held.is c.requires.events in
+    subst (λ o. FindsRoom (option_map path_node o) (path r.source.stack)) (sym h.is) (λ e. omega (arith, h.can.room e, way_depth (path r.source.stack)))
+
+pub returns-in_ok-change-in-Held-clause-stands : goal.returns-in_ok-change-in-Held-clause-stands
+returns-in_ok-change-in-Held-clause-stands g c =
+    let p = c.args.program.now in
+    let r = c.args.self.now in
+    let h = holds_head p r c.requires.well c.requires.list c.in-Held.is c.requires.events in
+    let k = c.in_ok-change-in-Held.ensures in
+    let n = record r { putting = c.see.new.self; source = c.resume_held.new.self } in
+    head_resumed p r n c.requires.well h (record { outer = refl; aside = refl; store = refl; putting = c.see.ensures }) refl
+    (k.ok.path_is ∙ ap (λ o. resumed_by (option_map path_node o) (path r.source.stack)) h.is)
+    (k.ok.scopes_are ∙ ap (λ o. within_held (option_map path_node o) r.source.bindings) h.is) k.ok.ahead_is k.ok.origin_is k.counts c.requires.list
+
+pub returns-in-Here-clause-works : goal.returns-in-Here-clause-works
+returns-in-Here-clause-works g c =
+    let r = c.args.self.now in
+    let m = record r { source = record r.source { ahead = ahead.Nothing } } in
+    begins_ok c.args.program.now 6 5 r m c.head.new.self c.requires.well.steady.places refl
+    (known_less r m ahead.Here ahead.Nothing 6 c.in-Here.is refl refl refl refl) (omega arith) c.head.result c.head.ensures.works
+
+pub returns-in_ok-change-in-Held-clause-works : goal.returns-in_ok-change-in-Held-clause-works
+returns-in_ok-change-in-Held-clause-works g c =
+    let r = c.args.self.now in
+    let n = record r { putting = c.see.new.self; source = c.resume_held.new.self } in
+    resumed_falls c.args.program.now r n c.requires.well.steady.places refl c.in-Held.is refl c.in_ok-change-in-Held.ensures.ok.ahead_is refl c.requires.list
+
+pub returns-in-Ended-clause-works : goal.returns-in-Ended-clause-works
+returns-in-Ended-clause-works g c =
+    let r = c.args.self.now in
+    let m = record r { source = record r.source { ahead = ahead.Nothing } } in
+    begins_ok c.args.program.now 1 0 r m c.list_over.new.self c.requires.well.steady.places refl
+    (known_less r m ahead.Ended ahead.Nothing 1 c.in-Ended.is refl refl refl refl) (omega arith) c.list_over.result c.list_over.ensures.works

@@ -1,0 +1,76 @@
+use Rattle.std.proofs.Common.{◌≡◌, ◌+◌, ◌-◌, ◌<◌, ◌∙◌, ◌∷◌, reverse, refl, ap, sym, subst, arith, ◌*◌, ◌^◌}
+use Rattle.frame_stack.specs.Change.{changed, with_next}
+use Rattle.frame_stack.specs.Stack.{FrameStack}
+use Rattle.frame_stack.specs.declared.frame.Frame.TheVariants.{Attributes}
+use Rattle.template_machine.specs.Asking.{HasAsker}
+use Rattle.template_machine.proofs.Based.{are_based}
+use Rattle.template_machine.proofs.Looking.{attribute_taken, attributes_asker, attributes_go_on, attributes_over}
+use Rattle.template_machine.proofs.Tops.{top_changed}
+use Rattle.template_machine.proofs.Lightened.{attribute_less, attributes_weigh, begins_ok, load_off}
+use Rattle.template_machine.proofs.Falling.{falls_behind}
+use Rattle.template_machine.proofs.run.Run.next_attribute.Goals as goal
+use Rattle.template_machine.proofs.Shelved.{stands_still}
+
+pub asker-asker-requires : goal.asker-asker-requires
+asker-asker-requires g c =
+    let p = c.args.program.now in
+    let r = c.args.self.now in
+    let w = c.requires.well in
+    let a = attributes_go_on p r w c.args.next c.requires.list c.requires.next in
+    let frames : reverse c.set_next.new.self.frames ≡ Attributes (c.args.next + 1) a.asked ∷ a.frames =
+    ap (λ (x : FrameStack). reverse x.frames) c.set_next.ensures
+    ∙ ap (λ k. reverse (changed (with_next (c.args.next + 1)) (k - 1) r.frames.frames)) c.count-top.ensures
+    ∙ top_changed (with_next (c.args.next + 1)) r.frames.frames (Attributes c.args.next a.asked) a.frames a.is in
+    subst (HasAsker p) (sym frames) (attributes_asker p r w c.args.next a (are_based p r w.steady) (c.args.next + 1))
+
+pub take-requires-clause-head : goal.take-requires-clause-head
+take-requires-clause-head g c =
+    let p = c.args.program.now in
+    let r = c.args.self.now in
+    let w = c.requires.well in
+    let a = attributes_go_on p r w c.args.next c.requires.list c.requires.next in
+    let frames : reverse c.set_next.new.self.frames ≡ Attributes (c.args.next + 1) a.asked ∷ a.frames =
+    ap (λ (x : FrameStack). reverse x.frames) c.set_next.ensures
+    ∙ ap (λ k. reverse (changed (with_next (c.args.next + 1)) (k - 1) r.frames.frames)) c.count-top.ensures
+    ∙ top_changed (with_next (c.args.next + 1)) r.frames.frames (Attributes c.args.next a.asked) a.frames a.is in
+    let there : c.args.next < c.attributes.result = omega arith in
+    let n = record r { frames = c.set_next.new.self; source = record r.source { stack = c.enter_attribute.new.self } } in
+    attribute_taken p r n w c.args.next a (omega (arith, there, c.attributes.ensures)) (record { outer = refl; aside = refl; store = refl; putting = stands_still _ })
+    c.in_ok-enter_attribute.ensures.ok refl frames
+
+pub end_process-requires : goal.end_process-requires
+end_process-requires g c =
+    let p = c.args.program.now in
+    let r = c.args.self.now in
+    let w = c.requires.well in
+    let a = attributes_go_on p r w c.args.next c.requires.list c.requires.next in
+    let gone = c.take_off.ensures (Attributes c.args.next a.asked) a.frames a.is in
+    let n = record r { frames = c.take_off.new.frames } in
+    attributes_over p r n w c.args.next a (record { outer = refl; aside = refl; store = refl; putting = stands_still _ }) refl gone
+
+pub returns-then-next-attributes-clause-works : goal.returns-then-next-attributes-clause-works
+returns-then-next-attributes-clause-works g c =
+    let p = c.args.program.now in
+    let r = c.args.self.now in
+    let w = c.requires.well in
+    let a = attributes_go_on p r w c.args.next c.requires.list c.requires.next in
+    let frames : reverse c.set_next.new.self.frames ≡ Attributes (c.args.next + 1) a.asked ∷ a.frames =
+    ap (λ (x : FrameStack). reverse x.frames) c.set_next.ensures
+    ∙ ap (λ k. reverse (changed (with_next (c.args.next + 1)) (k - 1) r.frames.frames)) c.count-top.ensures
+    ∙ top_changed (with_next (c.args.next + 1)) r.frames.frames (Attributes c.args.next a.asked) a.frames a.is in
+    let small : c.args.next < 2 ^ 64 = omega (arith, c.ranges.next.fits) in
+    let n = record r { frames = c.set_next.new.self; source = record r.source { stack = c.enter_attribute.new.self } } in
+    begins_ok p 8 5 r n c.take.new.self w.steady.places refl (attribute_less r n c.args.next a.asked a.frames a.is frames refl refl small) (omega arith) c.take.result
+    c.take.ensures.works
+
+pub returns-clause-works : goal.returns-clause-works
+returns-clause-works g c =
+    let p = c.args.program.now in
+    let r = c.args.self.now in
+    let w = c.requires.well in
+    let a = attributes_go_on p r w c.args.next c.requires.list c.requires.next in
+    let gone = c.take_off.ensures (Attributes c.args.next a.asked) a.frames a.is in
+    let small : c.args.next < 2 ^ 64 = omega (arith, c.ranges.next.fits) in
+    let n = record r { frames = c.take_off.new.frames } in
+    falls_behind p (8 * (2 ^ 64 - c.args.next)) 0 r n c.end_process.new.self w.steady.places refl
+    (load_off r n (Attributes c.args.next a.asked) a.frames a.is gone refl refl) c.end_process.ensures.works (attributes_weigh c.args.next small)

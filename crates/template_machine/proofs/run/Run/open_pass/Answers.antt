@@ -1,0 +1,34 @@
+use Rattle.std.proofs.Common.{◌≡◌, ◌∙◌, ◌∷◌, ◌++◌, [], true, refl, ap, sym, subst, arith}
+use Rattle.frame_stack.specs.Stack.{with_frames}
+use Rattle.frame_stack.specs.declared.frame.Frame.TheVariants.{Pass}
+use Rattle.template_machine.specs.declared.run.Doing.TheVariants as doing
+use Rattle.template_machine.specs.declared.run.Run.{Run}
+use Rattle.template_machine.specs.Well.{IsWell}
+use Rattle.node_stack.specs.Path.{can_have_children}
+use Rattle.node_stack.specs.Stack.{path}
+use Rattle.template_machine.proofs.Overs.{goes_or_waits}
+use Rattle.template_machine.proofs.Taken.{head_passes}
+use Rattle.template_machine.proofs.Tops.{top_pushed}
+use Rattle.template_machine.proofs.Ways.{way_here, way_level}
+use Rattle.template_machine.proofs.Lightened.{pushed_list}
+use Rattle.template_machine.proofs.run.Run.open_pass.Goals as goal
+use Rattle.template_machine.proofs.Shelved.{stands_still}
+
+pub returns-clause-stands : goal.returns-clause-stands
+returns-clause-stands c =
+    let p = c.args.program.now in
+    let r = c.args.self.now in
+    let level = c.level.result in
+    let frame = Pass c.args.base level true in
+    let m = record r { frames = with_frames (r.frames.frames ++ frame ∷ []) r.frames } in
+    let e : c.push.new.self ≡ m = c.in_ok-push.ensures.ok in
+    let n = c.list_goes_on.new.self in
+    let run : n ≡ record m { doing = doing.List } = c.list_goes_on.ensures.run ∙ ap (λ (x : Run). record x { doing = doing.List }) e in
+    let w = head_passes p r (record m { doing = doing.List }) c.args.base level true c.requires.head
+    (record { outer = refl; aside = refl; store = refl; putting = stands_still _ }) refl (top_pushed r.frames.frames frame) c.requires.base
+    (c.level.ensures ∙ sym (way_level (path r.source.stack))) (ap can_have_children (way_here (path r.source.stack)) ∙ c.requires.list) refl in
+    goes_or_waits p c.list_goes_on.result c.push.new.self n c.list_goes_on.ensures.run c.list_goes_on.ensures.step (subst (IsWell p) (sym run) w)
+
+pub returns-clause-works : goal.returns-clause-works
+returns-clause-works c =
+    pushed_list 5 c.args.self.now c.push.new.self c.list_goes_on.new.self (Pass c.args.base c.level.result true) c.in_ok-push.ensures.ok c.list_goes_on.ensures.run (omega arith)

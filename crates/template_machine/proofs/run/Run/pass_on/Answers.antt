@@ -1,0 +1,33 @@
+use Rattle.std.proofs.Common.{◌+◌, reverse}
+use Rattle.frame_stack.specs.Change.{with_pc}
+use Rattle.instr_code.specs.declared.code.Op.TheVariants as op
+use Rattle.template_machine.specs.Standing.{standing_of}
+use Rattle.template_machine.proofs.Branching.{passes_on}
+use Rattle.template_machine.proofs.Moving.{moves_pc}
+use Rattle.template_machine.proofs.Operating.{at_body, at_place, behind_pc, goes_elsewhere}
+use Rattle.template_machine.proofs.Falling.{begins_pc}
+use Rattle.template_machine.proofs.run.Run.pass_on.Goals as goal
+
+pub set_pc-requires : goal.set_pc-requires
+set_pc-requires c = (at_place c.args.program.now c.args.self.now c.args.running (op.Do c.args.number) c.requires.op).1.2
+
+pub returns-clause-stands : goal.returns-clause-stands
+returns-clause-stands c =
+    let p = c.args.program.now in
+    let r = c.args.self.now in
+    let at = c.requires.op in
+    let w = at.well in
+    let o = op.Do c.args.number in
+    let next = c.args.running.pc + 1 in
+    let behind = behind_pc p r c.args.running o at next c.set_pc.new.self c.set_pc.ensures in
+    record {
+      well =
+          goes_elsewhere p r w c.set_pc.new.self (with_pc next) (λ o. next) (λ l. l) (moves_pc next) at.doing behind.0
+          (passes_on p w.stations (reverse r.frames.frames) (standing_of r) c.args.running.pc c.args.number w.stand at.pc at.is c.requires.form
+          (at_body p r c.args.running o at).well);
+      doing = at.doing;
+      place = behind.1;
+    }
+
+pub returns-clause-works : goal.returns-clause-works
+returns-clause-works c = begins_pc c.args.self.now (c.args.running.pc + 1) c.args.running.body c.set_pc.new.self c.requires.op.doing c.set_pc.ensures

@@ -1,0 +1,37 @@
+use Rattle.std.proofs.Common.{◌≡◌, suc, ◌-◌, ◌∙◌, true, length, Some, IsSome, refl, ap, sym, subst, add-one}
+use Rattle.std.specs.List.{slice_get}
+use Rattle.std.proofs.lemmas.Option.{slice_get_within}
+use Rattle.node_stack.specs.Path.{is_told}
+use Rattle.node_stack.specs.Stack.{path}
+use Rattle.stx_base.specs.declared.node.NodeTest.{NodeTest}
+use Rattle.template_machine.specs.Bodies.{below, level_of}
+use Rattle.template_machine.specs.Steps.{group_of, test_in}
+use Rattle.template_machine.proofs.Seeing.{and_then_from}
+use Rattle.template_machine.proofs.run.Run.setting.Goals as goal
+
+pub locals_at-requires : goal.locals_at-requires
+locals_at-requires c = subst (λ o. IsSome o) (sym c.requires.level_is) refl
+
+pub group_of-requires : goal.group_of-requires
+group_of-requires c = subst (λ o. IsSome o) (sym c.requires.group_is) refl
+
+pub test_of-requires-clause-there : goal.test_of-requires-clause-there
+test_of-requires-clause-there c =
+    let x = and_then_from level_of (slice_get c.args.self.now.frames.frames c.args.body) c.requires.level c.requires.level_is in
+    slice_get_within c.args.self.now.frames.frames c.args.body x.0 x.1
+
+pub test_of-requires-clause-test : goal.test_of-requires-clause-test
+test_of-requires-clause-test c =
+    subst (λ n. IsSome (test_in c.args.program.now.sheet (below n c.args.self.now.frames.frames))) (sym (add-one c.args.body))
+    (subst (λ o. IsSome o) (sym c.requires.test_is) refl)
+
+pub invariant_of-result : goal.invariant_of-result
+invariant_of-result c =
+    let found : test_in c.args.program.now.sheet (below (suc c.args.body) c.args.self.now.frames.frames) ≡ Some c.test_of.result.now =
+    ap (λ n. test_in c.args.program.now.sheet (below n c.args.self.now.frames.frames)) (sym (add-one c.args.body)) ∙ c.test_of.ensures in
+    let same : c.requires.test ≡ c.test_of.result.now = same_test (sym c.requires.test_is ∙ found) in
+    let nodes = path c.args.self.now.source.stack in
+    record { told = subst (λ (t : NodeTest). is_told nodes (length nodes.nodes - 1) t ≡ true) same c.requires.told }
+  where
+    same_test : {a b : NodeTest} → Some a ≡ Some b → a ≡ b
+    same_test e = cc

@@ -1,0 +1,25 @@
+use Rattle.std.proofs.Common.{◌≡◌, ◌+◌, ◌-◌, ◌<◌, subst, arith}
+use Rattle.template_machine.specs.Moments.{SkipsOn}
+use Rattle.template_machine.proofs.Arriving.{skip_goes_on, skip_is_over, skips_at}
+use Rattle.template_machine.proofs.Lightened.{skip_ended}
+use Rattle.template_machine.proofs.run.Run.skip_end.Goals as goal
+
+pub skip_to-requires : goal.skip_to-requires
+skip_to-requires c =
+    let p = c.args.program.now in
+    let r = c.args.self.now in
+    let m = c.end_list.new.self in
+    let more : 0 < c.args.depth = omega (arith, c.in-Some.ensures) in
+    let less : c.args.depth - 1 ≡ c.in-Some.less = omega (arith, c.in-Some.ensures) in
+    skips_at p r m c.in-Some.less _ c.end_list.ensures (subst (λ d. SkipsOn p d r) less (skip_goes_on p r c.args.depth c.requires more))
+
+pub find_end-requires-clause-over : goal.find_end-requires-clause-over
+find_end-requires-clause-over c =
+    let none : c.args.depth ≡ 0 = omega (arith, c.in-None.ensures) in skip_is_over c.args.program.now c.args.self.now c.args.depth c.requires none
+
+pub returns-in-Some-clause-works : goal.returns-in-Some-clause-works
+returns-in-Some-clause-works c = λ id buffer.
+    let p = c.args.program.now in
+    let one : c.in-Some.less + 1 ≡ c.args.depth = omega (arith, c.in-Some.ensures) in
+    skip_ended p c.args.self.now c.end_list.new.self c.skip_to.new.self p.limits.fuel id c.args.depth c.in-Some.less c.requires one c.end_list.ensures buffer
+    c.skip_to.ensures.works

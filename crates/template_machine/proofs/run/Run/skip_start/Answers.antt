@@ -1,0 +1,14 @@
+use Rattle.std.proofs.Common.{◌+◌}
+use Rattle.template_machine.proofs.Arriving.{skips_at}
+use Rattle.template_machine.proofs.Lightened.{skip_begun}
+use Rattle.template_machine.proofs.run.Run.skip_start.Goals as goal
+
+pub skip_to-requires : goal.skip_to-requires
+skip_to-requires c =
+    let m = c.begin.new.self in skips_at c.args.program.now c.args.self.now m (c.args.depth + 1) m.fuel c.begin.ensures.same c.requires
+
+pub returns-clause-works : goal.returns-clause-works
+returns-clause-works c = λ id buffer.
+    let p = c.args.program.now in
+    skip_begun p c.args.self.now c.begin.new.self c.skip_to.new.self p.limits.fuel id (c.args.depth + 1) c.requires c.begin.ensures.same c.in_ok-begin.ensures.ok buffer
+    c.skip_to.ensures.works

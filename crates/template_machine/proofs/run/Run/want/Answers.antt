@@ -1,0 +1,24 @@
+use Rattle.std.proofs.Common.{refl, sym, subst}
+use Rattle.template_machine.specs.Moments.{IsBuffer, IsDocument}
+use Rattle.template_machine.proofs.run.Run.want.Goals as goal
+
+pub returns-in-Main-clause-stands : goal.returns-in-Main-clause-stands
+returns-in-Main-clause-stands c = record {
+  well = c.requires.well;
+  doing = c.requires.list;
+  ahead = c.requires.ahead;
+  list = c.requires.events;
+  document = subst IsDocument (sym c.in-Main.is) tt;
+}
+
+pub returns-in-Document-clause-stands : goal.returns-in-Document-clause-stands
+returns-in-Document-clause-stands c = record {
+  well = c.requires.well;
+  doing = c.requires.list;
+  ahead = c.requires.ahead;
+  list = c.requires.events;
+  document = subst IsDocument (sym c.in-Document.is) tt;
+}
+
+pub tell-requires-clause-buffer : goal.tell-requires-clause-buffer
+tell-requires-clause-buffer c = subst (IsBuffer c.in-Buffer.id) (sym c.in-Buffer.is) refl

@@ -1,0 +1,18 @@
+use Rattle.std.proofs.Common.{Option, List, sym, ap, ◌∙◌, ℕ}
+use Rattle.std.specs.Option.{option_and_then}
+use Rattle.sheet_model.specs.Groups.{around, around_parent}
+use Rattle.sheet_model.specs.declared.sheet.Group.{Group}
+use Rattle.stxpath_values.specs.declared.value.Atom.{Atom}
+use Rattle.var_store.specs.Variables.{value_of}
+use Rattle.template_machine.specs.Variables.{first_some, newest}
+use Rattle.template_machine.proofs.Around.{found_outwards}
+use Rattle.template_machine.proofs.vars.InGroupsGroupVars.get.Goals as goal
+
+pub loop-outwards-preserved : goal.loop-outwards-preserved
+loop-outwards-preserved c =
+    let groups = c.args.self.now.groups.now in
+    let f : ℕ → Option (List Atom) = λ g. value_of c.args.name.now (newest c.args.self.now.store.now g) in
+    c.loop-outwards.invariant
+    ∙ ap (λ o. first_some f (around_parent (around groups) o)) c.in-Some.is
+    ∙ found_outwards f groups c.args.self.now.parents c.in-Some.number (sym c.in-None.ensures)
+    ∙ ap (λ o. first_some f (around_parent (around groups) o)) (sym (ap (option_and_then (λ (x : Group). x.parent)) c.in_ok-there.ensures.value))

@@ -1,0 +1,118 @@
+//! A run of a sheet, event by event.
+
+ghost use Rattle.std.specs.Prelude.{◌≡◌, ◌+◌, ◌<◌, ◌^◌, ℕ, IfOk, List as Items};
+ghost use Rattle.sheet_model.specs.Sound.{IsSound};
+ghost use Rattle.template_machine.specs.Between.{Continues, IsAsking, IsAskingForDocument, IsNew};
+ghost use Rattle.template_machine.specs.Moments.{Follows};
+
+use crate::program::Program;
+use crate::run::{Asker, Run, Step};
+use crate::sink::Sink;
+use crate::stop::Stop;
+use crate::turn::{Param, Turn};
+use sheet_model::Sheet;
+use std::alloc::Global;
+use stx_base::{Limits, List, Memory, RunCode, Spare};
+use xml_events::Event;
+
+/// A run of a sheet. What it puts goes to what takes it.
+#[derive(Drop)]
+pub struct Machine {
+    program: Program,
+    run: Run,
+}
+
+impl Machine {
+    pub fn new(
+        alloc: Global,
+        sheet: Sheet,
+        limits: Limits,
+        params: List<Param>,
+    ) -> Result<Machine, Memory>
+        requires sound { IsSound sheet }
+        requires depth { limits.depth + 1 < 2 ^ 32 }
+        requires elements { limits.elements + 1 < 2 ^ 32 }
+        ensures { IfOk result IsNew }
+    {
+        let program = Program::new(alloc, sheet, limits)?;
+        let run = Run::new(alloc, &program, params)?;
+        Ok(Machine { program, run })
+    }
+
+    /// Begins the main document node.
+    pub fn start<S: Sink>(&mut self, out: &mut S) -> Turn
+        requires { IsNew self.old }
+        ensures more { result ≡ Turn.More → IsAsking self.new }
+        ensures want { (name : Items ℕ) → result ≡ Turn.WantDocument name → IsAskingForDocument self.new }
+    {
+        match self.begin(out) {
+            Ok(step) => self.run.go_on_behind(&self.program, step, out),
+            Err(stop) => stop.turn(),
+        }
+    }
+
+    fn begin<S: Sink>(&mut self, out: &mut S) -> Result<Step, Stop>
+        requires { IsNew self.old }
+        ensures follows { IfOk result (λ step. Follows self.new.program step self.new.run) }
+        ensures program { self.new.program ≡ self.old.program }
+    {
+        self.run.make_all(&self.program)?;
+        self.run.take(&self.program, Asker::Root, out)
+    }
+
+    /// Takes the next event of the newest open document.
+    #[inline(always)]
+    pub fn on_event<S: Sink>(&mut self, event: Event, out: &mut S) -> Turn
+        requires asking { IsAsking self.old }
+        requires event { Continues self.old event }
+        ensures more { result ≡ Turn.More → IsAsking self.new }
+        ensures want { (name : Items ℕ) → result ≡ Turn.WantDocument name → IsAskingForDocument self.new }
+    {
+        self.run.source.count(&event);
+        match self.run.arrive(&self.program, event) {
+            Ok(()) => self.run.go_on(&self.program, out),
+            Err(stop) => stop.turn(),
+        }
+    }
+
+    /// The wanted document is there: its events come next.
+    pub fn document_opened<S: Sink>(&mut self, out: &mut S) -> Turn
+        requires { IsAskingForDocument self.old }
+        ensures more { result ≡ Turn.More → IsAsking self.new }
+        ensures want { (name : Items ℕ) → result ≡ Turn.WantDocument name → IsAskingForDocument self.new }
+    {
+        match self.run.begin_document(&self.program) {
+            Ok(()) => self.run.go_on(&self.program, out),
+            Err(stop) => stop.turn(),
+        }
+    }
+
+    /// There is no wanted document. Allocates nothing.
+    pub fn document_absent(&mut self) -> Turn
+        requires { IsAskingForDocument self.old }
+        ensures { self.new ≡ self.old }
+    {
+        let at = self.run.place_of_wanted(&self.program);
+        Stop::fault(RunCode::NoDocument, at).turn()
+    }
+
+    /// Texts that are done with, for the next events. Allocates nothing.
+    pub fn spare(&mut self) -> &mut Spare {
+        &mut self.run.putting.spare
+    }
+
+    /// How many frames wait. Allocates nothing.
+    pub fn frames(&self) -> usize {
+        self.run.frames.count()
+    }
+
+    /// How many lists of nodes are open. Allocates nothing.
+    pub fn levels(&self) -> usize {
+        self.run.levels(&self.program)
+    }
+
+    /// How many other documents are open. Allocates nothing.
+    pub fn sources(&self) -> u32 {
+        self.run.documents()
+    }
+}

@@ -1,0 +1,102 @@
+//! The output of a run as bytes.
+
+use crate::sink::Sink;
+use result_writer::{ResultFault, WriteStop, Writer};
+use std::alloc::Global;
+use std::mem;
+use stx_base::{Attr, Binding, List, Memory, Name, Spare, Text};
+
+/// The bytes that a run's parts settle, and its messages, each with a line feed.
+#[derive(Debug, Drop)]
+pub struct Output {
+    writer: Writer,
+    bytes: Vec<u8>,
+    notes: Vec<u8>,
+}
+
+impl Output {
+    /// None yet, of a run in whose output at most `limit` elements may be open at once. Allocates nothing.
+    pub fn new(alloc: Global, limit: u32) -> Output {
+        Output {
+            writer: Writer::new(alloc, limit),
+            bytes: Vec::new(alloc),
+            notes: Vec::new(alloc),
+        }
+    }
+
+    /// Exchanges what was taken so far for other bytes and messages. Allocates nothing.
+    pub fn exchange(&mut self, bytes: &mut Vec<u8>, notes: &mut Vec<u8>) {
+        mem::swap(&mut self.bytes, bytes);
+        mem::swap(&mut self.notes, notes);
+    }
+}
+
+impl Sink for Output {
+    fn start(
+        &mut self,
+        name: Name,
+        scope: &List<Binding>,
+        _spare: &mut Spare,
+    ) -> Result<(), WriteStop> {
+        self.writer.put_start(name, scope, &mut self.bytes)
+    }
+
+    #[inline(always)]
+    fn start_again(&mut self, name: Name, spare: &mut Spare) -> Result<(), WriteStop> {
+        self.writer.put_start_again(name, spare, &mut self.bytes)
+    }
+
+    fn attribute(&mut self, name: Name, value: Text) -> Result<(), WriteStop> {
+        self.writer.put_attribute(name, value)
+    }
+
+    #[inline(always)]
+    fn attributes(&mut self, attrs: List<Attr>) -> Result<(), WriteStop> {
+        if self.writer.takes_at_once(attrs.as_slice()) {
+            self.writer.put_attributes(attrs)?;
+            return Ok(());
+        }
+        for attr in attrs.into_vec() {
+            let Attr { name, value } = attr;
+            self.writer.put_attribute(name, value)?;
+        }
+        Ok(())
+    }
+
+    #[inline(always)]
+    fn end(&mut self, name: &Name, _spare: &mut Spare) -> Result<(), WriteStop> {
+        self.writer.put_end(name, &mut self.bytes)
+    }
+
+    #[inline(always)]
+    fn chars(&mut self, text: &Text) -> Result<(), WriteStop> {
+        self.writer.put_chars(text, &mut self.bytes)
+    }
+
+    fn cdata(&mut self, text: &Text) -> Result<(), WriteStop> {
+        self.writer.put_cdata(text, &mut self.bytes)?;
+        Ok(())
+    }
+
+    fn comment(&mut self, text: &Text) -> Result<(), WriteStop> {
+        self.writer.put_comment(text, &mut self.bytes)
+    }
+
+    fn instruction(&mut self, target: &Text, text: &Text) -> Result<(), WriteStop> {
+        self.writer.put_instruction(target, text, &mut self.bytes)
+    }
+
+    fn note(&mut self, text: &Text) -> Result<(), Memory> {
+        let len = self.notes.len();
+        let told = self.notes.extend_from_slice(text.as_str().as_bytes());
+        if told.is_err() || self.notes.push(b'\n').is_err() {
+            self.notes.truncate(len);
+            return Err(Memory);
+        }
+        Ok(())
+    }
+
+    fn finish(&mut self) -> Result<(), ResultFault> {
+        self.writer.finish()
+    }
+}

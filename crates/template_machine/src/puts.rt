@@ -1,0 +1,609 @@
+//! Instructions that put parts, and those around lists.
+
+ghost use Rattle.std.specs.Prelude.{◌≡◌, [], true, All, IfOk, OnOk, ◌<◌};
+ghost use Rattle.std.specs.Option.{ForSome};
+ghost use Rattle.sheet_model.specs.declared.instr.Instr.TheViews.{out-Instr};
+ghost use Rattle.stxpath_syntax.specs.Shape.{CanBeEvaluated};
+ghost use Rattle.template_machine.specs.Contexts.{Around, AroundBuffer, AroundTag, HasForm};
+ghost use Rattle.template_machine.specs.Evaluating.{ContentCanBeEvaluated, TemplateCanBeEvaluated};
+ghost use Rattle.template_machine.specs.Puts.{OnlyPuts};
+ghost use Rattle.template_machine.specs.Steps.{Sees};
+ghost use Rattle.template_machine.specs.Moments.{IsAtOp, CanPut};
+ghost use Rattle.template_machine.specs.Well.{AreTexts, IsSourceWell, IsWell};
+ghost use Rattle.template_machine.specs.Work.{Begins, work};
+ghost use Rattle.template_machine.specs.Working as working;
+ghost use Rattle.template_machine.specs.Working.{CanBeRun, Runs};
+
+use crate::bodies::locals_at;
+use crate::names::{Bare, computed_name};
+use crate::program::{Program, place_of};
+use crate::run::{Run, Running, Spot};
+use crate::sink::Sink;
+use crate::stop::{Stop, evaluated};
+use instr_code::Op;
+use node_stack::NodeView;
+use sheet_model::{Content, Instr, LiteralAttr};
+use std::alloc::Global;
+use stx_base::{Attr, Binding, List, Memory, Name, Place, RunCode, Text, is_space};
+use stxpath_syntax::{Avt, Expr, Pattern};
+use stxpath_values::Atom;
+
+impl Run {
+    /// An instruction that puts parts and has no list inside.
+    pub fn put<S: Sink>(
+        &mut self,
+        program: &Program,
+        instr: &Instr,
+        spot: Spot,
+        out: &mut S,
+    ) -> Result<(), Stop>
+        requires runs { Runs program.now self.old spot.body }
+        requires can { CanBeRun instr.now }
+        requires puts { working.puts (out-Instr instr.now) ≡ true }
+        ensures stands { OnOk result (IsWell program.now self.new) }
+        ensures works { OnOk result (Begins 0 self.old self.new) }
+    {
+        self.put_parts(program, instr, spot, out)
+    }
+
+    fn put_parts<S: Sink>(
+        &mut self,
+        program: &Program,
+        instr: &Instr,
+        spot: Spot,
+        out: &mut S,
+    ) -> Result<(), Stop>
+        requires target { CanPut self.old.putting }
+        requires sees { Sees program.now self.old spot.body }
+        requires can { CanBeRun instr.now }
+        requires puts { working.puts (out-Instr instr.now) ≡ true }
+        ensures { OnlyPuts self.old self.new }
+    {
+        match instr {
+            Instr::ValueOf {
+                select,
+                separator,
+                ..
+            } => self.put_value(program, select, separator, spot, out),
+            Instr::Chars { text, .. } => self.putting.text(text, spot.at, out),
+            Instr::LiteralChars { text, .. } => self.putting.text(text, spot.at, out),
+            Instr::StartElement {
+                name,
+                namespace,
+                scope,
+                ..
+            } => self.put_start(program, name, namespace, scope, spot, out),
+            Instr::EndElement {
+                name,
+                namespace,
+                scope,
+                ..
+            } => self.put_end(program, name, namespace, scope, spot, out),
+            Instr::Attribute {
+                name,
+                namespace,
+                scope,
+                content,
+                ..
+            } => self.put_attribute(program, name, namespace, scope, content, spot, out),
+            Instr::Comment { content, .. } => self.put_comment(program, content, spot, out),
+            Instr::Pi { name, content, .. } => {
+                self.put_instruction(program, name, content, spot, out)
+            }
+            Instr::Message { content, .. } => self.say(program, content, spot, out),
+            _ => unreachable!(),
+        }
+    }
+
+    fn put_value<S: Sink>(
+        &mut self,
+        program: &Program,
+        select: &Expr,
+        separator: &Option<Avt>,
+        spot: Spot,
+        out: &mut S,
+    ) -> Result<(), Stop>
+        requires target { CanPut self.old.putting }
+        requires sees { Sees program.now self.old spot.body }
+        requires select { CanBeEvaluated select.now }
+        requires separator { ForSome separator.now TemplateCanBeEvaluated }
+        ensures { OnlyPuts self.old self.new }
+    {
+        match separator {
+            None => {
+                // The string value of the current node is put as it stands.
+                if is_current(select) {
+                    let stack = &self.source.stack;
+                    let text = stack.text_of(stack.current());
+                    return self.putting.text(text, spot.at, out);
+                }
+                let text = evaluated(self.setting(program, spot.body).text(select), spot.at)?;
+                self.putting.text(&text, spot.at, out)
+            }
+            Some(separator) => {
+                let text = self
+                    .setting(program, spot.body)
+                    .parted_text(select, separator);
+                let text = evaluated(text, spot.at)?;
+                self.putting.text(&text, spot.at, out)
+            }
+        }
+    }
+
+    fn put_start<S: Sink>(
+        &mut self,
+        program: &Program,
+        name: &Avt,
+        namespace: &Option<Avt>,
+        scope: &List<Binding>,
+        spot: Spot,
+        out: &mut S,
+    ) -> Result<(), Stop>
+        requires target { CanPut self.old.putting }
+        requires sees { Sees program.now self.old spot.body }
+        requires name { TemplateCanBeEvaluated name.now }
+        requires namespace { ForSome namespace.now TemplateCanBeEvaluated }
+        ensures { OnlyPuts self.old self.new }
+    {
+        let name = self.element_name(program, name, namespace, scope, spot)?;
+        self.putting.start_named(name, spot.at, out)
+    }
+
+    fn put_end<S: Sink>(
+        &mut self,
+        program: &Program,
+        name: &Avt,
+        namespace: &Option<Avt>,
+        scope: &List<Binding>,
+        spot: Spot,
+        out: &mut S,
+    ) -> Result<(), Stop>
+        requires target { CanPut self.old.putting }
+        requires sees { Sees program.now self.old spot.body }
+        requires name { TemplateCanBeEvaluated name.now }
+        requires namespace { ForSome namespace.now TemplateCanBeEvaluated }
+        ensures { OnlyPuts self.old self.new }
+    {
+        let name = self.element_name(program, name, namespace, scope, spot)?;
+        self.putting.end(&name, spot.at, out)
+    }
+
+    fn put_attribute<S: Sink>(
+        &mut self,
+        program: &Program,
+        name: &Avt,
+        namespace: &Option<Avt>,
+        scope: &List<Binding>,
+        content: &Content,
+        spot: Spot,
+        out: &mut S,
+    ) -> Result<(), Stop>
+        requires target { CanPut self.old.putting }
+        requires sees { Sees program.now self.old spot.body }
+        requires name { TemplateCanBeEvaluated name.now }
+        requires namespace { ForSome namespace.now TemplateCanBeEvaluated }
+        requires content { ContentCanBeEvaluated content.now }
+        ensures { OnlyPuts self.old self.new }
+    {
+        let name = self.template(program, name, spot)?;
+        let namespace = self.namespace(program, namespace, spot)?;
+        let value = self.content(program, content, spot)?;
+        match computed_name(self.alloc, Bare::InNone, scope, namespace, &name)? {
+            Some(name) => self.putting.attribute(name, value, spot.at, out),
+            None => Err(Stop::fault(RunCode::BadName, spot.at)),
+        }
+    }
+
+    fn put_comment<S: Sink>(
+        &mut self,
+        program: &Program,
+        content: &Content,
+        spot: Spot,
+        out: &mut S,
+    ) -> Result<(), Stop>
+        requires target { CanPut self.old.putting }
+        requires sees { Sees program.now self.old spot.body }
+        requires content { ContentCanBeEvaluated content.now }
+        ensures { OnlyPuts self.old self.new }
+    {
+        let text = self.content(program, content, spot)?;
+        self.putting.comment(&text, spot.at, out)
+    }
+
+    fn put_instruction<S: Sink>(
+        &mut self,
+        program: &Program,
+        name: &Avt,
+        content: &Content,
+        spot: Spot,
+        out: &mut S,
+    ) -> Result<(), Stop>
+        requires target { CanPut self.old.putting }
+        requires sees { Sees program.now self.old spot.body }
+        requires name { TemplateCanBeEvaluated name.now }
+        requires content { ContentCanBeEvaluated content.now }
+        ensures { OnlyPuts self.old self.new }
+    {
+        let target = self.template(program, name, spot)?;
+        let text = self.content(program, content, spot)?;
+        let text = self.without_space(text)?;
+        self.putting.instruction(&target, &text, spot.at, out)
+    }
+
+    /// A message is said.
+    fn say<S: Sink>(
+        &self,
+        program: &Program,
+        content: &Content,
+        spot: Spot,
+        out: &mut S,
+    ) -> Result<(), Stop>
+        requires sees { Sees program.now self.now spot.body }
+        requires content { ContentCanBeEvaluated content.now }
+    {
+        let text = self.content(program, content, spot)?;
+        out.note(&text)?;
+        Ok(())
+    }
+
+    fn element_name(
+        &self,
+        program: &Program,
+        name: &Avt,
+        namespace: &Option<Avt>,
+        scope: &List<Binding>,
+        spot: Spot,
+    ) -> Result<Name, Stop>
+        requires sees { Sees program.now self.now spot.body }
+        requires name { TemplateCanBeEvaluated name.now }
+        requires namespace { ForSome namespace.now TemplateCanBeEvaluated }
+    {
+        let name = self.template(program, name, spot)?;
+        let namespace = self.namespace(program, namespace, spot)?;
+        match computed_name(self.alloc, Bare::InDefault, scope, namespace, &name)? {
+            Some(name) => Ok(name),
+            None => Err(Stop::fault(RunCode::BadName, spot.at)),
+        }
+    }
+
+    pub fn template(&self, program: &Program, template: &Avt, spot: Spot) -> Result<Text, Stop>
+        requires sees { Sees program.now self.now spot.body }
+        requires template { TemplateCanBeEvaluated template.now }
+    {
+        evaluated(self.setting(program, spot.body).template(template), spot.at)
+    }
+
+    fn namespace(
+        &self,
+        program: &Program,
+        namespace: &Option<Avt>,
+        spot: Spot,
+    ) -> Result<Option<Text>, Stop>
+        requires sees { Sees program.now self.now spot.body }
+        requires namespace { ForSome namespace.now TemplateCanBeEvaluated }
+    {
+        evaluated(
+            self.setting(program, spot.body)
+                .optional_template(namespace),
+            spot.at,
+        )
+    }
+
+    fn content(&self, program: &Program, content: &Content, spot: Spot) -> Result<Text, Stop>
+        requires sees { Sees program.now self.now spot.body }
+        requires content { ContentCanBeEvaluated content.now }
+    {
+        evaluated(self.setting(program, spot.body).content(content), spot.at)
+    }
+
+    /// A text without the white space that it begins with (XML 1.0, 2.6).
+    fn without_space(&self, text: Text) -> Result<Text, Stop> {
+        let trimmed = text.as_str().trim_start_matches(|c| is_space(c));
+        if trimmed.len() == text.as_str().len() {
+            return Ok(text);
+        }
+        Ok(Text::of(self.alloc, trimmed)?)
+    }
+
+    // Instructions around lists.
+
+    /// The begin of an instruction around a list.
+    pub fn open_list<S: Sink>(
+        &mut self,
+        program: &Program,
+        running: Running,
+        number: u32,
+        to: u32,
+        out: &mut S,
+    ) -> Result<(), Stop>
+        requires { IsAtOp program.now self.old running (Op.Open number to) }
+        ensures stands { OnOk result (IsWell program.now self.new) }
+        ensures works { OnOk result (work program.now self.new < work program.now self.old) }
+    {
+        let instr = program.instr(number);
+        let spot = Spot {
+            body: running.body,
+            at: place_of(instr),
+        };
+        self.spend(spot.at)?;
+        match instr {
+            Instr::Literal { name, attrs, .. } => {
+                self.open_literal(program, name, attrs.as_slice(), spot, out)?;
+                self.enter_list(program, running, number, to);
+                Ok(())
+            }
+            Instr::Copy { attributes, .. } => {
+                let inside = self.open_copy(attributes, spot.at, out)?;
+                self.enter_or_pass(program, running, number, to, inside);
+                Ok(())
+            }
+            Instr::Element {
+                name,
+                namespace,
+                scope,
+                ..
+            } => {
+                let name = self.element_name(program, name, namespace, scope, spot)?;
+                self.open_element(&name, spot, out)?;
+                self.enter_tagged(program, running, number, to, name)?;
+                Ok(())
+            }
+            Instr::ResultBuffer { clear, .. } => {
+                self.enter_buffer(program, running, number, to, *clear, spot.at)
+            }
+            _ => unreachable!(),
+        }
+    }
+
+    /// The end of an instruction around a list.
+    pub fn close_list<S: Sink>(
+        &mut self,
+        program: &Program,
+        running: Running,
+        number: u32,
+        out: &mut S,
+    ) -> Result<(), Stop>
+        requires { IsAtOp program.now self.old running (Op.Close number) }
+        ensures stands { OnOk result (IsWell program.now self.new) }
+        ensures works { OnOk result (work program.now self.new < work program.now self.old) }
+    {
+        match program.instr(number) {
+            Instr::Literal { name, at, .. } => {
+                self.putting.end(name, *at, out)?;
+                self.leave_list(program, running, number);
+                Ok(())
+            }
+            Instr::Copy { at, .. } => {
+                self.close_copy(*at, out)?;
+                self.leave_list(program, running, number);
+                Ok(())
+            }
+            Instr::Element { at, .. } => self.leave_tagged(program, running, number, *at, out),
+            Instr::ResultBuffer { at, .. } => self.leave_buffer(program, running, number, *at),
+            _ => unreachable!(),
+        }
+    }
+
+    /// A literal element's start, with its attributes.
+    fn open_literal<S: Sink>(
+        &mut self,
+        program: &Program,
+        name: &Name,
+        attrs: &[LiteralAttr],
+        spot: Spot,
+        out: &mut S,
+    ) -> Result<(), Stop>
+        requires target { CanPut self.old.putting }
+        requires sees { Sees program.now self.old spot.body }
+        requires attrs { All (λ attr. TemplateCanBeEvaluated attr.value) attrs.now }
+        ensures { OnlyPuts self.old self.new }
+    {
+        if attrs.is_empty() {
+            return self.putting.start(name, spot.at, out);
+        }
+        let mut made = self.putting.spare.attrs();
+        for attr in attrs {
+            let value = self.template(program, &attr.value, spot)?;
+            let name = self.putting.copied_name(&attr.name)?;
+            made.push(Attr { name, value })?;
+        }
+        self.putting.start(name, spot.at, out)?;
+        self.putting.attributes(made, spot.at, out)
+    }
+
+    /// The start of an element whose name was computed.
+    fn open_element<S: Sink>(&mut self, name: &Name, spot: Spot, out: &mut S) -> Result<(), Stop>
+        requires { CanPut self.old.putting }
+        ensures { OnlyPuts self.old self.new }
+    {
+        self.putting.start(name, spot.at, out)
+    }
+
+    /// A copy of the current node, without its children. The answer is whether the list inside is run.
+    fn open_copy<S: Sink>(
+        &mut self,
+        attributes: &Option<Pattern>,
+        at: Place,
+        out: &mut S,
+    ) -> Result<bool, Stop>
+        requires can { CanPut self.old.putting }
+        requires source { IsSourceWell self.old.source }
+        ensures { OnlyPuts self.old self.new }
+    {
+        let node = self.source.stack.current();
+        self.putting
+            .open_copy(node, &self.source.bindings, attributes, at, out)
+    }
+
+    fn close_copy<S: Sink>(&mut self, at: Place, out: &mut S) -> Result<(), Stop>
+        requires { CanPut self.old.putting }
+        ensures { OnlyPuts self.old self.new }
+    {
+        match self.source.stack.current() {
+            NodeView::Element { name, .. } => self.putting.end(name, at, out),
+            _ => Ok(()),
+        }
+    }
+
+    // Where the body goes on.
+
+    /// The list inside an instruction is run, or it isn't.
+    fn enter_or_pass(
+        &mut self,
+        program: &Program,
+        running: Running,
+        number: u32,
+        to: u32,
+        inside: bool,
+    )
+        requires op { IsAtOp program.now self.old running (Op.Open number to) }
+        requires form { HasForm program.now.code number Around }
+        ensures stands { IsWell program.now self.new }
+        ensures works { Begins 0 self.old self.new }
+    {
+        if inside {
+            self.enter_list(program, running, number, to);
+            return;
+        }
+        self.pass_list(program, running, number, to);
+    }
+
+    /// The list inside an instruction is run.
+    fn enter_list(&mut self, program: &Program, running: Running, number: u32, to: u32)
+        requires op { IsAtOp program.now self.old running (Op.Open number to) }
+        requires form { HasForm program.now.code number Around }
+        ensures stands { IsWell program.now self.new }
+        ensures works { Begins 0 self.old self.new }
+    {
+        self.frames.set_pc(running.body, running.pc + 1);
+    }
+
+    /// It isn't run.
+    fn pass_list(&mut self, program: &Program, running: Running, number: u32, to: u32)
+        requires { IsAtOp program.now self.old running (Op.Open number to) }
+        ensures stands { IsWell program.now self.new }
+        ensures works { Begins 0 self.old self.new }
+    {
+        self.frames.set_pc(running.body, to);
+    }
+
+    /// It is over.
+    fn leave_list(&mut self, program: &Program, running: Running, number: u32)
+        requires op { IsAtOp program.now self.old running (Op.Close number) }
+        requires form { HasForm program.now.code number Around }
+        ensures stands { IsWell program.now self.new }
+        ensures works { work program.now self.new < work program.now self.old }
+    {
+        self.frames.set_pc(running.body, running.pc + 1);
+    }
+
+    /// The list inside an element is run, whose name waits for its end.
+    fn enter_tagged(
+        &mut self,
+        program: &Program,
+        running: Running,
+        number: u32,
+        to: u32,
+        name: Name,
+    ) -> Result<(), Memory>
+        requires op { IsAtOp program.now self.old running (Op.Open number to) }
+        requires form { HasForm program.now.code number AroundTag }
+        ensures stands { OnOk result (IsWell program.now self.new) }
+        ensures works { OnOk result (Begins 0 self.old self.new) }
+    {
+        let value = self.name_value(name)?;
+        let nameless = nameless(self.alloc);
+        self.frames.set_pc(running.body, running.pc + 1);
+        self.frames.push_local(running.body, nameless, value)
+    }
+
+    /// A name as a value.
+    fn name_value(&self, name: Name) -> Result<List<Atom>, Memory>
+        ensures { IfOk result AreTexts }
+    {
+        let Name { uri, local, prefix } = name;
+        let mut value = List::new(self.alloc);
+        value.push(Atom::Chars(uri))?;
+        value.push(Atom::Chars(local))?;
+        value.push(Atom::Chars(prefix))?;
+        Ok(value)
+    }
+
+    /// Such an element ends.
+    fn leave_tagged<S: Sink>(
+        &mut self,
+        program: &Program,
+        running: Running,
+        number: u32,
+        at: Place,
+        out: &mut S,
+    ) -> Result<(), Stop>
+        requires op { IsAtOp program.now self.old running (Op.Close number) }
+        requires form { HasForm program.now.code number AroundTag }
+        ensures stands { OnOk result (IsWell program.now self.new) }
+        ensures works { OnOk result (work program.now self.new < work program.now self.old) }
+    {
+        let locals = locals_at(&self.frames, running.body);
+        let last = locals.len() - 1;
+        let name = self.putting.waiting_name(locals.value(last))?;
+        self.putting.end(&name, at, out)?;
+        self.frames.set_pc(running.body, running.pc + 1);
+        self.frames.cut_locals(running.body, last);
+        Ok(())
+    }
+
+    /// Parts go into a buffer from here on.
+    fn enter_buffer(
+        &mut self,
+        program: &Program,
+        running: Running,
+        number: u32,
+        to: u32,
+        clear: bool,
+        at: Place,
+    ) -> Result<(), Stop>
+        requires op { IsAtOp program.now self.old running (Op.Open number to) }
+        requires form { HasForm program.now.code number AroundBuffer }
+        ensures stands { OnOk result (IsWell program.now self.new) }
+        ensures works { OnOk result (Begins 0 self.old self.new) }
+    {
+        let buffer = program.link(number).named;
+        self.putting.begin_writing(buffer, clear, at)?;
+        self.frames.set_pc(running.body, running.pc + 1);
+        Ok(())
+    }
+
+    /// Parts go where they went before.
+    fn leave_buffer(
+        &mut self,
+        program: &Program,
+        running: Running,
+        number: u32,
+        at: Place,
+    ) -> Result<(), Stop>
+        requires op { IsAtOp program.now self.old running (Op.Close number) }
+        requires form { HasForm program.now.code number AroundBuffer }
+        ensures stands { OnOk result (IsWell program.now self.new) }
+        ensures works { OnOk result (work program.now self.new < work program.now self.old) }
+    {
+        self.putting.end_writing(at)?;
+        self.frames.set_pc(running.body, running.pc + 1);
+        Ok(())
+    }
+}
+
+/// Whether it is the current node.
+fn is_current(select: &Expr) -> bool {
+    matches!(select, Expr::Up(0, None))
+}
+
+/// The name of a value that waits, which no expression can say.
+fn nameless(alloc: Global) -> Name
+    ensures { result.local ≡ [] }
+{
+    Name {
+        uri: Text::new(alloc),
+        local: Text::new(alloc),
+        prefix: Text::new(alloc),
+    }
+}

@@ -1,0 +1,441 @@
+//! Where parts go: into the innermost buffer that is written, or else into the output.
+
+ghost use Rattle.std.specs.Prelude.{◌≡◌, ◌<◌, ℕ, [], true, IfOk, IsSome, OnOk, Some, length, map};
+ghost use Rattle.stx_base.specs.Character.{is_cdata_text};
+ghost use Rattle.node_stack.specs.Open.{node_of};
+ghost use Rattle.sheet_model.specs.Sound.{BuffersAreWhole, IsSmall};
+ghost use Rattle.result_writer.specs.Target.{holds_cdata_text};
+ghost use Rattle.event_buffers.specs.Buffers.{copies_of};
+ghost use Rattle.event_buffers.specs.Declaring.{declared_by};
+ghost use Rattle.template_machine.specs.Puts as spec;
+ghost use Rattle.template_machine.specs.Puts.{BeginsWriting, EndsWriting};
+ghost use Rattle.template_machine.specs.Sections.{HoldsSection};
+ghost use Rattle.template_machine.specs.Moments.{StandsAsBefore, CanPut};
+ghost use Rattle.template_machine.specs.Well.{AreTexts};
+
+use crate::bindings::{Bindings, Change};
+use crate::sink::Sink;
+use crate::stop::{Stop, buffered, written};
+use event_buffers::Buffers;
+use node_stack::{NodeView, passes};
+use sheet_model::Sheet;
+use std::alloc::Global;
+use stx_base::{
+    Attr, Binding, Copied, Limits, List, Memory, Name, Part, Place, RunCode, Spare, Text,
+};
+use stxpath_syntax::{Alternative, Pattern};
+use stxpath_values::Atom;
+
+/// Where parts go, and what texts are made of.
+#[derive(Debug, Drop)]
+pub struct Putting {
+    alloc: Global,
+    pub buffers: Buffers,
+    /// The buffers that are written, the innermost last.
+    targets: List<u32>,
+    /// Texts that are done with.
+    pub spare: Spare,
+    /// Whether the output's last start was in the scope of the current node. So it needn't be compared.
+    is_told: bool,
+    no_bindings: List<Binding>,
+}
+
+impl Putting {
+    pub fn new(alloc: Global, sheet: &Sheet, limits: &Limits) -> Result<Putting, Memory>
+        requires whole { BuffersAreWhole sheet.now }
+        requires small { IsSmall sheet.now }
+        ensures targets { IfOk result (λ made. made.targets ≡ []) }
+        ensures buffers { IfOk result (λ made. made.buffers ≡ record { limit = limits.now.buffer; elements = limits.now.elements; buffers = map declared_by sheet.now.buffers }) }
+    {
+        Ok(Putting {
+            alloc,
+            buffers: Buffers::new(alloc, sheet, limits)?,
+            targets: List::new(alloc),
+            spare: Spare::new(alloc),
+            is_told: false,
+            no_bindings: List::new(alloc),
+        })
+    }
+
+    /// The bindings in force at the current node are others, or may be.
+    #[inline(always)]
+    pub fn see(&mut self, change: Change)
+        ensures { StandsAsBefore self.old self.new }
+    {
+        self.is_told = self.is_told && change == Change::Same;
+    }
+
+    /// Parts go into a buffer from here on.
+    pub fn begin_writing(&mut self, buffer: u32, clear: bool, at: Place) -> Result<(), Stop>
+        requires id { buffer < length self.old.buffers.buffers }
+        requires copy { 0 < length (copies_of self.old.buffers buffer) }
+        ensures { OnOk result (BeginsWriting buffer self.old self.new) }
+    {
+        buffered(self.buffers.open_write(buffer, clear), at)?;
+        self.targets.push(buffer)?;
+        Ok(())
+    }
+
+    /// Parts go where they went before.
+    pub fn end_writing(&mut self, at: Place) -> Result<(), Stop>
+        requires written { CanPut self.old }
+        requires some { IsSome (spec.target_of self.old) }
+        ensures { (id : ℕ) → spec.target_of self.old ≡ Some id → OnOk result (EndsWriting id self.old self.new) }
+    {
+        let buffer = self.targets.pop().unwrap();
+        buffered(self.buffers.close_write(buffer), at)
+    }
+
+    /// The innermost buffer that is written. Allocates nothing.
+    #[inline(always)]
+    fn target(&self) -> Option<u32>
+        ensures { result ≡ spec.target_of self.now }
+    {
+        self.targets.last().copied()
+    }
+
+    /// A part goes into the innermost buffer that is written.
+    fn keep(&mut self, buffer: u32, part: Part, at: Place) -> Result<(), Stop>
+        requires can { CanPut self.old }
+        requires target { spec.target_of self.old ≡ Some buffer }
+        requires text { holds_cdata_text part ≡ true }
+        ensures { StandsAsBefore self.old self.new }
+    {
+        buffered(self.buffers.put(buffer, part), at)
+    }
+
+    /// A copy of a text, made of one that is done with.
+    #[inline(always)]
+    pub fn copied(&mut self, text: &Text) -> Result<Text, Memory>
+        ensures same { StandsAsBefore self.old self.new }
+        ensures copy { IfOk result (λ made. made ≡ text.now) }
+    {
+        if text.is_empty() {
+            return Ok(Text::new(self.alloc));
+        }
+        self.spare.text(text.as_str())
+    }
+
+    #[inline(always)]
+    pub fn copied_name(&mut self, name: &Name) -> Result<Name, Memory>
+        ensures same { StandsAsBefore self.old self.new }
+        ensures copy { IfOk result (λ made. made ≡ name.now) }
+    {
+        let uri = self.copied(&name.uri)?;
+        let local = self.copied(&name.local)?;
+        let prefix = self.copied(&name.prefix)?;
+        Ok(Name { uri, local, prefix })
+    }
+
+    /// An element's start in an empty scope.
+    pub fn start<S: Sink>(&mut self, name: &Name, at: Place, out: &mut S) -> Result<(), Stop>
+        requires { CanPut self.old }
+        ensures { StandsAsBefore self.old self.new }
+    {
+        let name = self.copied_name(name)?;
+        self.start_named(name, at, out)
+    }
+
+    /// The same of a name that is handed over.
+    pub fn start_named<S: Sink>(&mut self, name: Name, at: Place, out: &mut S) -> Result<(), Stop>
+        requires { CanPut self.old }
+        ensures { StandsAsBefore self.old self.new }
+    {
+        if let Some(buffer) = self.target() {
+            let scope = List::new(self.alloc);
+            return self.keep(buffer, Part::Start { name, scope }, at);
+        }
+        self.is_told = false;
+        written(out.start(name, &self.no_bindings, &mut self.spare), at)
+    }
+
+    /// The start of an element of the document that is current.
+    #[inline(always)]
+    pub fn start_there<S: Sink>(
+        &mut self,
+        name: &Name,
+        bindings: &Bindings,
+        at: Place,
+        out: &mut S,
+    ) -> Result<(), Stop>
+        requires { CanPut self.old }
+        ensures { StandsAsBefore self.old self.new }
+    {
+        let name = self.copied_name(name)?;
+        if let Some(buffer) = self.target() {
+            let scope = bindings.in_force().copy(self.alloc)?;
+            return self.keep(buffer, Part::Start { name, scope }, at);
+        }
+        if self.is_told {
+            return written(out.start_again(name, &mut self.spare), at);
+        }
+        written(out.start(name, bindings.in_force(), &mut self.spare), at)?;
+        self.is_told = true;
+        Ok(())
+    }
+
+    pub fn attribute<S: Sink>(
+        &mut self,
+        name: Name,
+        value: Text,
+        at: Place,
+        out: &mut S,
+    ) -> Result<(), Stop>
+        requires { CanPut self.old }
+        ensures { StandsAsBefore self.old self.new }
+    {
+        match self.target() {
+            Some(buffer) => self.keep(buffer, Part::Attribute { name, value }, at),
+            None => written(out.attribute(name, value), at),
+        }
+    }
+
+    /// Attributes, one after another.
+    #[inline(always)]
+    pub fn attributes<S: Sink>(
+        &mut self,
+        attrs: List<Attr>,
+        at: Place,
+        out: &mut S,
+    ) -> Result<(), Stop>
+        requires { CanPut self.old }
+        ensures { StandsAsBefore self.old self.new }
+    {
+        match self.target() {
+            Some(buffer) => self.keep_attributes(buffer, attrs, at),
+            None => written(out.attributes(attrs), at),
+        }
+    }
+
+    /// Attributes go into a buffer, one after another.
+    fn keep_attributes(&mut self, buffer: u32, attrs: List<Attr>, at: Place) -> Result<(), Stop>
+        requires can { CanPut self.old }
+        requires target { spec.target_of self.old ≡ Some buffer }
+        ensures { StandsAsBefore self.old self.new }
+    {
+        for attr in attrs.into_vec() {
+            let Attr { name, value } = attr;
+            self.keep(buffer, Part::Attribute { name, value }, at)?;
+        }
+        Ok(())
+    }
+
+    /// Copies of an element's attributes, or of those of them that pass.
+    #[inline(always)]
+    pub fn attributes_of<S: Sink>(
+        &mut self,
+        attrs: &List<Attr>,
+        at: Place,
+        out: &mut S,
+    ) -> Result<(), Stop>
+        requires { CanPut self.old }
+        ensures { StandsAsBefore self.old self.new }
+    {
+        if attrs.is_empty() {
+            return Ok(());
+        }
+        let mut copies = self.spare.attrs();
+        for attr in attrs.as_slice() {
+            let copy = self.copied_attr(attr)?;
+            copies.push(copy)?;
+        }
+        self.attributes(copies, at, out)
+    }
+
+    #[inline(always)]
+    pub fn copied_attr(&mut self, attr: &Attr) -> Result<Attr, Memory>
+        ensures same { StandsAsBefore self.old self.new }
+        ensures copy { IfOk result (λ made. made ≡ attr.now) }
+    {
+        let name = self.copied_name(&attr.name)?;
+        let value = self.copied(&attr.value)?;
+        Ok(Attr { name, value })
+    }
+
+    #[inline(always)]
+    pub fn end<S: Sink>(&mut self, name: &Name, at: Place, out: &mut S) -> Result<(), Stop>
+        requires { CanPut self.old }
+        ensures { StandsAsBefore self.old self.new }
+    {
+        if let Some(buffer) = self.target() {
+            let name = name.copy(self.alloc)?;
+            return self.keep(buffer, Part::End { name }, at);
+        }
+        written(out.end(name, &mut self.spare), at)
+    }
+
+    #[inline(always)]
+    pub fn chars<S: Sink>(&mut self, text: &Text, at: Place, out: &mut S) -> Result<(), Stop>
+        requires { CanPut self.old }
+        ensures { StandsAsBefore self.old self.new }
+    {
+        if let Some(buffer) = self.target() {
+            let text = text.copy(self.alloc)?;
+            return self.keep(buffer, Part::Chars { text }, at);
+        }
+        written(out.chars(text), at)
+    }
+
+    /// A text that an instruction gives, which is no part where it is empty.
+    pub fn text<S: Sink>(&mut self, text: &Text, at: Place, out: &mut S) -> Result<(), Stop>
+        requires { CanPut self.old }
+        ensures { StandsAsBefore self.old self.new }
+    {
+        if text.is_empty() {
+            return Ok(());
+        }
+        self.chars(text, at, out)
+    }
+
+    pub fn cdata<S: Sink>(&mut self, text: &Text, at: Place, out: &mut S) -> Result<(), Stop>
+        requires can { CanPut self.old }
+        requires text { is_cdata_text text.now ≡ true }
+        ensures { StandsAsBefore self.old self.new }
+    {
+        if let Some(buffer) = self.target() {
+            let text = text.copy(self.alloc)?;
+            return self.keep(buffer, Part::CData { text }, at);
+        }
+        written(out.cdata(text), at)
+    }
+
+    pub fn comment<S: Sink>(&mut self, text: &Text, at: Place, out: &mut S) -> Result<(), Stop>
+        requires { CanPut self.old }
+        ensures { StandsAsBefore self.old self.new }
+    {
+        if let Some(buffer) = self.target() {
+            let text = text.copy(self.alloc)?;
+            return self.keep(buffer, Part::Comment { text }, at);
+        }
+        written(out.comment(text), at)
+    }
+
+    pub fn instruction<S: Sink>(
+        &mut self,
+        target: &Text,
+        text: &Text,
+        at: Place,
+        out: &mut S,
+    ) -> Result<(), Stop>
+        requires { CanPut self.old }
+        ensures { StandsAsBefore self.old self.new }
+    {
+        if let Some(buffer) = self.target() {
+            let target = target.copy(self.alloc)?;
+            let text = text.copy(self.alloc)?;
+            return self.keep(buffer, Part::Pi { target, text }, at);
+        }
+        written(out.instruction(target, text), at)
+    }
+
+    /// A copy of a node, without its children. The answer is whether the node has an inside.
+    pub fn open_copy<S: Sink>(
+        &mut self,
+        node: NodeView<'_>,
+        bindings: &Bindings,
+        attributes: &Option<Pattern>,
+        at: Place,
+        out: &mut S,
+    ) -> Result<bool, Stop>
+        requires can { CanPut self.old }
+        requires text { HoldsSection (node_of node) }
+        ensures { StandsAsBefore self.old self.new }
+    {
+        match node {
+            NodeView::Document => Ok(true),
+            NodeView::Element { name, attrs, .. } => {
+                self.start_there(name, bindings, at, out)?;
+                self.passing_attributes(attrs, attributes, at, out)?;
+                Ok(true)
+            }
+            NodeView::Chars(text) => {
+                self.text(text, at, out)?;
+                Ok(false)
+            }
+            NodeView::CData(text) => {
+                self.cdata(text, at, out)?;
+                Ok(false)
+            }
+            NodeView::Comment(text) => {
+                self.comment(text, at, out)?;
+                Ok(false)
+            }
+            NodeView::Pi { target, text } => {
+                self.instruction(target, text, at, out)?;
+                Ok(false)
+            }
+            NodeView::Attribute(attr) => {
+                let Attr { name, value } = self.copied_attr(attr)?;
+                self.attribute(name, value, at, out)?;
+                Ok(false)
+            }
+        }
+    }
+
+    /// Copies of those of an element's attributes that a pattern's tests pass.
+    fn passing_attributes<S: Sink>(
+        &mut self,
+        attrs: &List<Attr>,
+        pattern: &Option<Pattern>,
+        at: Place,
+        out: &mut S,
+    ) -> Result<(), Stop>
+        requires { CanPut self.old }
+        ensures { StandsAsBefore self.old self.new }
+    {
+        let Some(pattern) = pattern else {
+            return Ok(());
+        };
+        let mut copies = self.spare.attrs();
+        for attr in attrs.as_slice() {
+            if !passes_some(pattern, attr) {
+                continue;
+            }
+            let copy = self.copied_attr(attr)?;
+            copies.push(copy)?;
+        }
+        self.attributes(copies, at, out)
+    }
+
+    /// A copy of the name that waits for the end of its element.
+    pub fn waiting_name(&mut self, value: &List<Atom>) -> Result<Name, Memory>
+        requires { AreTexts value.now }
+        ensures { StandsAsBefore self.old self.new }
+    {
+        match value.as_slice() {
+            [Atom::Chars(uri), Atom::Chars(local), Atom::Chars(prefix)] => {
+                let uri = self.copied(uri)?;
+                let local = self.copied(local)?;
+                let prefix = self.copied(prefix)?;
+                Ok(Name { uri, local, prefix })
+            }
+            _ => unreachable!(),
+        }
+    }
+
+    /// The output ends, at the root of the sheet.
+    pub fn finish<S: Sink>(&self, at: Place, out: &mut S) -> Result<(), Stop> {
+        match out.finish() {
+            Ok(()) => Ok(()),
+            Err(_) => Err(Stop::fault(RunCode::UnclosedResult, at)),
+        }
+    }
+}
+
+/// Whether the test of some alternative passes an attribute.
+fn passes_some(pattern: &Pattern, attr: &Attr) -> bool {
+    let alternatives = pattern.alternatives.as_slice();
+    alternatives
+        .iter()
+        .any(|alternative| passes_attr(alternative, attr))
+}
+
+fn passes_attr(alternative: &Alternative, attr: &Attr) -> bool {
+    match alternative {
+        Alternative::Root => false,
+        Alternative::Steps(steps) => match steps.last() {
+            Some(step) => passes(&step.test, NodeView::Attribute(attr)),
+            None => false,
+        },
+    }
+}
