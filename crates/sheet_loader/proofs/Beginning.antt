@@ -6,7 +6,6 @@ use Rattle.std.proofs.lemmas.List.{length-append}
 use Rattle.std.specs.Option.{option_map_or}
 use Rattle.stx_base.specs.Course.{Halt}
 use Rattle.stx_base.specs.declared.fault.Place.{Place}
-use Rattle.stx_base.specs.declared.fault.SheetCode.{SheetCode}
 use Rattle.stx_base.specs.declared.fault.SheetCode.TheVariants as code
 use Rattle.stx_base.specs.declared.name.Attr.{Attr}
 use Rattle.stx_base.specs.declared.name.Binding.{Binding}
@@ -54,19 +53,10 @@ module _ (reads : Reads) (files : List (Option File)) where
   other_from same at d f (Err (stop.Code why)) h = answer_then reads files same h
   other_from same at d f (Err stop.Memory) h = tt
 
-  -- a refusal of what is no element of the language is one of a tag
-  pub other_refused : (x : Does Listed) (at : Place) (d : Draft) (f : Future) (r : stopped.Refused) → BehindOther reads files x at d f (Err r) → BehindTag reads files x at d f (Err r)
-  other_refused x at d f (stop.Code why) h = h
-  other_refused x at d f stop.Memory h = tt
-
   -- the fault is told with its place
   pub told_at : (x : Does Listed) (at : Place) (d : Draft) (f : Future) (r : stopped.Refused) → BehindTag reads files x at d f (Err r) → Behind reads files x d f (Err (stop_at r at))
   told_at x at d f (stop.Code why) h = h
   told_at x at d f stop.Memory h = tt
-
-  -- what halts at the tag
-  pub halts_at : (x : Does Listed) (at : Place) (d : Draft) (f : Future) (r : Result (Option (List ℕ)) stopped.Refused) (why : SheetCode) → r ≡ Err (stop.Code why) → SameAnswer reads files x (Halt (Refused at why)) → BehindTag reads files x at d f r
-  halts_at x at d f r why is h = subst (BehindTag reads files x at d f) (sym is) h
 
 -- no file is opened where nothing changes
 pub unopened : (A : Type 0) (d : Draft) (r : stopped.Refused) → SameFilesByTag {A = A} (Err r) d d

@@ -5,7 +5,7 @@ use Rattle.std.specs.List.{list_all}
 use Rattle.std.proofs.Math.Nat.{mul-le-mul_left, mul-le-mul_right, mul_assoc, one-le-pow, pow-le-pow_right, pow-succ'}
 use Rattle.std.proofs.Math.Seq.{drop-cons}
 use Rattle.std.proofs.lemmas.Bool.{and_parts, leb-true}
-use Rattle.sheet_loader.specs.Values.{is_digit, number, hundredths, are_digits}
+use Rattle.sheet_loader.specs.Values.{is_digit, number, are_digits}
 
 -- What the first so many digits write. The bound holds of any bytes, and is such that a number of 32 bits is wide enough.
 pub record Counts (digits : List ℕ) (i n : ℕ) : Type 0 where
@@ -61,9 +61,6 @@ none-left [] (suc i) h = refl
 none-left (d ∷ ds) zero h = absurd (omega arith)
 none-left (d ∷ ds) (suc i) h = none-left ds i (omega arith)
 
-pub counts-end : (digits : List ℕ) (i n : ℕ) → length digits ≤ i → Counts digits i n → n ≡ number 0 digits
-counts-end digits i n all c = sym (ap (number n) (none-left digits i all)) ∙ c.counted
-
 -- so many digits write less than the next power of ten
 number-below : (ds : List ℕ) (n : ℕ) → list_all is_digit ds ≡ true → number n ds + 1 ≤ (n + 1) * 10 ^ length ds
 number-below [] n h = omega arith
@@ -89,13 +86,3 @@ module _ (most : ℕ) (ds : List ℕ) (h : are_digits 1 most ds ≡ true) where
       let low = number-below ds 0 size-and-digits.1 in
       let power = pow-le-pow_right {n = 10} (lit< tt) at-most in
       omega (arith, low, power)
-
-pub hundredths-one : (ds : List ℕ) → length ds ≡ 1 → hundredths ds ≡ number 0 ds * 10
-hundredths-one [] e = absurd (omega arith)
-hundredths-one (d ∷ []) e = refl
-hundredths-one (d ∷ c ∷ ds) e = absurd (omega arith)
-
-pub hundredths-other : (ds : List ℕ) → ¬ (length ds ≡ 1) → hundredths ds ≡ number 0 ds
-hundredths-other [] e = refl
-hundredths-other (d ∷ []) e = absurd (e refl)
-hundredths-other (d ∷ c ∷ ds) e = refl

@@ -1,7 +1,6 @@
 -- What is gathered of a tag's values.
-use Rattle.std.proofs.Common.{◌≡◌, ℕ, suc, ◌+◌, ◌<◌, length, drop, get_or, arith, Bool, true, false, not, ◌&&◌, ◌||◌, List, [], ◌∷◌, ◌++◌, Option, Some, None, Result, Ok, Err, refl, sym, ap, subst, ◌∙◌, append_assoc}
+use Rattle.std.proofs.Common.{◌≡◌, ℕ, suc, ◌+◌, ◌<◌, length, drop, get_or, arith, Bool, true, false, not, ◌&&◌, ◌||◌, List, [], ◌∷◌, ◌++◌, Option, Some, None, Ok, Err, refl, ap, ◌∙◌, append_assoc}
 use Rattle.std.proofs.Math.Seq.{drop-cons}
-use Rattle.std.proofs.lemmas.List.{append-nil}
 use Rattle.std.specs.List.{list_any}
 use Rattle.std.specs.Option.{option_or}
 use Rattle.stx_base.specs.declared.fault.SheetCode.{SheetCode}
@@ -10,15 +9,12 @@ use Rattle.stx_base.specs.declared.name.Attr.{Attr}
 use Rattle.stx_base.specs.declared.name.Binding.{Binding}
 use Rattle.stxpath_syntax.specs.declared.dialect.Dialect.{Dialect}
 use Rattle.sheet_loader.specs.Attributes.{Row}
-use Rattle.sheet_loader.specs.Gathering.{Adds, Gathers, IsJudged, attribute_fault, first_other, other_fault, value_fault, values_in}
-use Rattle.sheet_loader.specs.Judging.{first_of, is_version, refuses, value_found, values_found}
-use Rattle.sheet_loader.specs.Making.{Values}
-use Rattle.sheet_loader.specs.Tags.{Found, found_at, found_by, is_bad_value, is_missing, is_unknown, path_fault, text_at}
+use Rattle.sheet_loader.specs.Gathering.{Adds, Gathers, first_other, other_fault, values_in}
+use Rattle.sheet_loader.specs.Judging.{is_version, refuses, value_found, values_found}
+use Rattle.sheet_loader.specs.Tags.{Found, found_at, found_by, is_bad_value, is_missing, path_fault, text_at}
 use Rattle.sheet_loader.specs.Values.{Reads}
 use Rattle.sheet_loader.specs.Versions.{Version}
-use Rattle.sheet_loader.specs.declared.refused.Refused.{Refused}
 use Rattle.sheet_loader.specs.declared.tag.Gathered.{Gathered}
-use Rattle.sheet_loader.specs.declared.values.Values as given
 
 or-assoc : (a b c : Bool) → ((a || b) || c) ≡ (a || (b || c))
 or-assoc true b c = refl
@@ -77,26 +73,6 @@ or_none : {A : Type 0} (o : Option A) → o ≡ option_or o None
 or_none None = refl
 or_none (Some a) = refl
 
-pub gathers-all : (reads : Reads) (dialect : Dialect) (scope : List Binding) (attrs : List Attr) (all : List Row) (g : Gathered)
-    → Gathers reads dialect scope attrs all [] g → Gathered_all (found_at reads dialect scope all attrs) all g
-gathers-all reads dialect scope attrs all g h = record {
-  values = sym (append-nil (values_in g.values)) ∙ h.values;
-  bad = or_false g.has_bad_value ∙ h.bad;
-  path = or_none g.path_fault ∙ h.path;
-}
-
--- the same judgement of what is the same
-pub judged-as : (fault other : Option SheetCode) (values others : Values) (r : Result given.Values Refused) → fault ≡ other → values ≡ others
-    → IsJudged fault values r → IsJudged other others r
-judged-as fault other values others r e f j = subst (λ v. IsJudged other v r) f (subst (λ o. IsJudged o values r) e j)
-
--- the first fault of several
-pub refuses-first : (t : Bool) (why : SheetCode) (rest : List (Option SheetCode)) → t ≡ true → first_of (refuses t why ∷ rest) ≡ Some why
-refuses-first t why rest h = ap (λ b. first_of (refuses b why ∷ rest)) h
-
-pub refuses-next : (t : Bool) (why : SheetCode) (rest : List (Option SheetCode)) → t ≡ false → first_of (refuses t why ∷ rest) ≡ first_of rest
-refuses-next t why rest h = ap (λ b. first_of (refuses b why ∷ rest)) h
-
 -- The faults of a tag's attributes, one after the other.
 module _ (reads : Reads) (version : Version) (scope : List Binding) (rows : List Row) (attrs : List Attr) where
   abbrev found : List Found
@@ -110,39 +86,6 @@ module _ (reads : Reads) (version : Version) (scope : List Binding) (rows : List
 
   abbrev of_missing : List (Option SheetCode)
   of_missing = refuses (list_any (is_missing attrs) rows) code.MissingAttribute ∷ of_version
-
-  pub fault_unknown : list_any (is_unknown rows) attrs ≡ true → attribute_fault reads version scope rows attrs ≡ Some code.UnknownAttribute
-  fault_unknown h = refuses-first (list_any (is_unknown rows) attrs) code.UnknownAttribute of_missing h
-
-  pub fault_missing : list_any (is_unknown rows) attrs ≡ false → list_any (is_missing attrs) rows ≡ true
-      → attribute_fault reads version scope rows attrs ≡ Some code.MissingAttribute
-  fault_missing u h =
-      refuses-next (list_any (is_unknown rows) attrs) code.UnknownAttribute of_missing u
-      ∙ refuses-first (list_any (is_missing attrs) rows) code.MissingAttribute of_version h
-
-  pub fault_version : list_any (is_unknown rows) attrs ≡ false → list_any (is_missing attrs) rows ≡ false
-      → (list_any (λ row. is_version row.form) rows && not version.is_known) ≡ true → attribute_fault reads version scope rows attrs ≡ Some code.Version
-  fault_version u m h =
-      refuses-next (list_any (is_unknown rows) attrs) code.UnknownAttribute of_missing u
-      ∙ refuses-next (list_any (is_missing attrs) rows) code.MissingAttribute of_version m
-      ∙ refuses-first (list_any (λ row. is_version row.form) rows && not version.is_known) code.Version of_values h
-
-  pub fault_values : list_any (is_unknown rows) attrs ≡ false → list_any (is_missing attrs) rows ≡ false
-      → (list_any (λ row. is_version row.form) rows && not version.is_known) ≡ false → attribute_fault reads version scope rows attrs ≡ value_fault found
-  fault_values u m h =
-      refuses-next (list_any (is_unknown rows) attrs) code.UnknownAttribute of_missing u
-      ∙ refuses-next (list_any (is_missing attrs) rows) code.MissingAttribute of_version m
-      ∙ refuses-next (list_any (λ row. is_version row.form) rows && not version.is_known) code.Version of_values h
-
-  -- what is judged of all that was gathered is what the tag shows
-  pub judged-all : (g : Gathered) (r : Result given.Values Refused) → list_any (is_unknown rows) attrs ≡ false → list_any (is_missing attrs) rows ≡ false
-      → (list_any (λ row. is_version row.form) rows && not version.is_known) ≡ false → Gathers reads version.dialect scope attrs rows [] g
-      → ((all : List Found) → g.has_bad_value ≡ list_any is_bad_value all → g.path_fault ≡ first_other all → IsJudged (value_fault all) (values_in g.values) r)
-      → IsJudged (attribute_fault reads version scope rows attrs) (values_found rows found) r
-  judged-all g r u m h gathers judge =
-      let all = gathers-all reads version.dialect scope attrs rows g gathers in
-      judged-as (value_fault found) (attribute_fault reads version scope rows attrs) (values_in g.values) (values_found rows found) r
-      (sym (fault_values u m h)) all.values (judge found all.bad all.path)
 
 -- the row at a place, and those behind it
 pub row_here : {A : Type 0} (xs : List A) (i : ℕ) (d : A) → i < length xs → drop i xs ≡ get_or xs i d ∷ drop (i + 1) xs

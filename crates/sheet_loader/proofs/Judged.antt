@@ -34,10 +34,6 @@ use Rattle.sheet_loader.specs.declared.refused.Refused.{Refused}
 use Rattle.sheet_loader.specs.declared.refused.Refused.TheVariants as refused
 use Rattle.sheet_loader.specs.declared.values.Values.{Values}
 
--- a fault that stands already is the first one
-pub judged_fault : (fault : Option SheetCode) (vs : making.Values) (why : SheetCode) (r : Result Values Refused) → r ≡ Err (refused.Code why) → fault ≡ Some why → IsJudged fault vs r
-judged_fault fault vs why r is h = subst (IsJudged fault vs) (sym is) h
-
 -- the same version, and the same attributes
 pub judged_as : (reads : Reads) (v w : frame.Version) (scope : List Binding) (rs : List Row) (a b : List Attr) (r : Result Values Refused) → v ≡ w → a ≡ b
     → IsJudged (attribute_fault reads (version_of v) scope rs a) (values_found rs (found_at reads v.dialect scope rs a)) r

@@ -16,30 +16,14 @@ use Rattle.sheet_model.specs.declared.sheet.Sheet.{Sheet}
 use Rattle.sheet_model.specs.declared.sheet.Variable.{Variable}
 use Rattle.sheet_loader.specs.Elements as element
 use Rattle.sheet_loader.specs.Keys.{Owned, has_own, with_maybe, with_name, with_own}
-use Rattle.sheet_loader.specs.Known.{AreGiven, Declares, HasLocals, Known, Knows, declared_by, nothing_declared}
-use Rattle.sheet_loader.specs.Making.{bare, with_params}
-use Rattle.sheet_loader.specs.Reading.{Item}
+use Rattle.sheet_loader.specs.Known.{Declares, Knows, declared_by, nothing_declared}
+use Rattle.sheet_loader.specs.Making.{bare}
 use Rattle.sheet_loader.specs.References.{has_buffer, has_procedure, has_variable, is_named}
 use Rattle.sheet_loader.proofs.SeenLemmas.{any_alike, seen}
-
--- prefixes count for nothing
-pub among-bare : (names : List Name) (n : Name) → is_among (map bare names) n ≡ is_among names n
-among-bare [] n = refl
-among-bare (m ∷ names) n = ap (λ t. is_same m n || t) (among-bare names n)
-
-pub locals-known : (k : Known) (locals : List Name) → k.locals ≡ map bare locals → HasLocals k locals
-locals-known k locals e n = ap (λ l. is_among l n) e ∙ among-bare locals n
 
 given-names : (ps : List WithParam) (n : Name) → is_among (map bare (map (λ (p : WithParam). p.name) ps)) n ≡ list_any (λ (p : WithParam). is_same p.name n) ps
 given-names [] n = refl
 given-names (p ∷ ps) n = ap (λ t. is_same p.name n || t) (given-names ps n)
-
-pub given-known : (given : List Name) (items : List Item) → given ≡ map bare (map (λ (p : WithParam). p.name) (with_params items)) → AreGiven given items
-given-known given items e n = ap (λ l. is_among l n) e ∙ given-names (with_params items) n
-
--- a name that isn't there goes behind the others
-pub with_name-new : (names : List Name) (n : Name) → is_among names n ≡ false → with_name names n ≡ names ++ n ∷ []
-with_name-new names n h = ap (λ t. if t then names else names ++ n ∷ []) h
 
 any_behind : {A : Type 0} (f : A → Bool) (xs : List A) (x : A) → list_any f (xs ++ x ∷ []) ≡ (list_any f xs || f x)
 any_behind f [] x = or_false (f x)

@@ -64,4 +64,3 @@ pub mod Texts
 pub mod Unread
 pub mod VariableLemmas
 pub mod Versions
-pub mod Wording

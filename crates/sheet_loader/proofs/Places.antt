@@ -1,12 +1,10 @@
 -- How places change with their lists.
-use Rattle.std.proofs.Common.{◌≡◌, ℕ, List, [], ◌∷◌, ◌++◌, Option, Some, None, refl}
+use Rattle.std.proofs.Common.{◌≡◌, ℕ, List, ◌∷◌, ◌++◌, Option, Some, None, refl}
 use Rattle.xml_events.specs.Document.{inner, outer}
 use Rattle.xml_events.specs.Tree.{Future, Leaf, Mark, Single}
 use Rattle.sheet_loader.specs.Levels.{A_file, A_literal, A_part, An_element, Level, Place_in, The_sheet, What, entered, place_in, version_around, with_items}
-use Rattle.sheet_loader.specs.Reading.{File, Item, Listed}
+use Rattle.sheet_loader.specs.Reading.{File, Item}
 use Rattle.sheet_loader.specs.Remaining.{version_by}
-use Rattle.sheet_loader.specs.Resuming.{Open, Of_element, Of_file, Of_literal, Of_part, continue}
-use Rattle.sheet_loader.specs.Values.{Reads}
 use Rattle.sheet_loader.specs.Versions.{Version}
 
 -- a place behind these items too
@@ -28,11 +26,3 @@ module _ (names : List (List ℕ)) (files : List (Option File)) where
 pub version_leaf : (version : Option Version) (mark : Mark) (leaf : Leaf) (f : Future) → version_by version (Single mark leaf (inner f) ∷ outer f) ≡ version_by version f
 version_leaf None mark leaf f = refl
 version_leaf (Some version) mark leaf f = refl
-
--- nothing more of a future counts than its lists
-pub lists_of_future : (reads : Reads) (files : List (Option File)) (opens : List Open) (r : Listed) (f : Future) → continue reads files opens r f ≡ continue reads files opens r (inner f ∷ outer f)
-lists_of_future reads files [] r f = refl
-lists_of_future reads files (Of_element here before e kind v ∷ opens) r f = refl
-lists_of_future reads files (Of_file here before e kind v ∷ opens) r f = refl
-lists_of_future reads files (Of_literal here before e attrs ∷ opens) r f = refl
-lists_of_future reads files (Of_part here before e ∷ opens) r f = refl

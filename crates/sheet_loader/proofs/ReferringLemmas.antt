@@ -29,11 +29,6 @@ earlier-bare at sheet from [] = refl
 earlier-bare at sheet from (n ∷ names) =
     ap (λ l. (if has_variable sheet from n then [] else refers at No_earlier_variable) ++ l) (earlier-bare at sheet from names)
 
--- one name more
-pub variables-more : (at : Place) (locals : List Name) (from : ℕ) (names : List Name) (n : Name)
-    → to_variables at locals from (names ++ n ∷ []) ≡ to_variables at locals from names ++ to_variables at locals from (n ∷ [])
-variables-more at locals from names n = flat_map-append (λ n. if is_among locals n then [] else refers at (A_variable from (bare n))) names (n ∷ [])
-
 pub earlier-more : (at : Place) (sheet : Sheet) (from : ℕ) (names : List Name) (n : Name)
     → to_earlier at sheet from (names ++ n ∷ []) ≡ to_earlier at sheet from names ++ to_earlier at sheet from (n ∷ [])
 earlier-more at sheet from names n = flat_map-append (λ n. if has_variable sheet from n then [] else refers at No_earlier_variable) names (n ∷ [])
@@ -46,13 +41,6 @@ refers-nothing k = ap (λ l. record k { references = l }) (sym (append-nil k.ref
 pub refers-both : (k0 k1 k2 : Known) (xs ys : List Reference) → k1 ≡ refers_to xs k0 → k2 ≡ refers_to ys k1 → k2 ≡ refers_to (xs ++ ys) k0
 refers-both k0 k1 k2 xs ys e f =
     f ∙ ap (refers_to ys) e ∙ ap (λ l. record k0 { references = l }) (append_assoc k0.references xs ys)
-
-pub refers-variables : (k0 k1 k2 : Known) (at : Place) (from : ℕ) (names : List Name) (n : Name) → k1 ≡ refers_to (to_variables at k0.locals from names) k0
-    → k2 ≡ refers_to (to_variables at k1.locals from (n ∷ [])) k1 → k2 ≡ refers_to (to_variables at k0.locals from (names ++ n ∷ [])) k0
-refers-variables k0 k1 k2 at from names n e f =
-    refers-both k0 k1 k2 (to_variables at k0.locals from names) (to_variables at k0.locals from (n ∷ [])) e
-    (f ∙ ap (λ l. refers_to (to_variables at l from (n ∷ [])) k1) (ap (λ (k : Known). k.locals) e))
-    ∙ ap (λ l. refers_to l k0) (sym (variables-more at k0.locals from names n))
 
 pub refers-all : (k0 k1 k2 k3 k4 : Known) (g b p e : List Reference) → k1 ≡ refers_to g k0 → k2 ≡ refers_to b k1 → k3 ≡ refers_to p k2 → k4 ≡ refers_to e k3
     → k4 ≡ refers_to (g ++ b ++ p ++ e) k0

@@ -2,7 +2,7 @@
 use Rattle.std.proofs.Common.{◌≡◌, ℕ, ◌-◌, List, [], ◌∷◌, ◌++◌, length, slice_get, Option, Some, None, refl, ap, sym, ◌∙◌, zero, suc, arith, if◌then◌else◌, codes}
 use Rattle.std.proofs.Math.Path.{subst}
 use Rattle.stx_base.specs.Course.{Ret, Say, Ask, Given, Gives, and_then, run, value}
-use Rattle.stx_base.proofs.Course.{and_then_assoc, below_self, deeper, given_below, same_back, same_equal, same_then, unfolded, value_and_then, with_result_below}
+use Rattle.stx_base.proofs.Course.{and_then_assoc, below_self, deeper, given_below, same_equal, same_then, unfolded, value_and_then, with_result_below}
 use Rattle.xml_events.specs.Tree.{Chars, CData, Comment, Pi, End, Cut, Single, Nested, Need, Bad}
 use Rattle.sheet_loader.specs.Judging.{scope_at}
 use Rattle.sheet_loader.specs.Making.{as_word, value_at}
@@ -19,9 +19,6 @@ module _ (reads : Reads) (files : List (Option File)) where
 
   pub answer_then : {x y z : Does Listed} → SameAnswer reads files x y → SameAnswer reads files y z → SameAnswer reads files x z
   answer_then a b = record { ends = same_then a.ends b.ends; to = λ names r h. b.to names r (a.to names r h); from = λ names r h. a.from names r (b.from names r h) }
-
-  pub answer_back : {x y : Does Listed} → SameAnswer reads files x y → SameAnswer reads files y x
-  answer_back a = record { ends = same_back a.ends; to = a.from; from = a.to }
 
   -- a call does what its code says
   called : (q : Job) (k : Listed → Does Listed) → SameAnswer reads files (Ask q k) (and_then (code_of_job reads files q) k)

@@ -51,18 +51,6 @@ parts_no_document With_params h = cc
 parts_no_document (Characters c) h = cc
 parts_no_document Nothing h = cc
 
--- the sheet's own file is a file
-pub own_document : (i : Inside) → is_own i ≡ true → is_document i ≡ true
-own_document (Document c) h = refl
-own_document (Declarations c) h = cc
-own_document Start_of_body h = cc
-own_document Body h = cc
-own_document Branches h = cc
-own_document With_params h = cc
-own_document (Characters c) h = cc
-own_document Parts h = cc
-own_document Nothing h = cc
-
 root_makes : (k : Kind) → element.is_transform k ≡ true → makes_group k ≡ true
 root_makes element.Transform h = refl
 root_makes other h = cc

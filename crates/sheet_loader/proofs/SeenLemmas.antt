@@ -1,5 +1,5 @@
 -- What groups see, name by name and group by group.
-use Rattle.std.proofs.Common.{◌≡◌, ℕ, zero, suc, Bool, true, false, ◌&&◌, ◌||◌, ◌==◌, List, [], ◌∷◌, Option, refl, ap, sym, ◌∙◌, eq-eqb}
+use Rattle.std.proofs.Common.{◌≡◌, ℕ, suc, Bool, true, false, ◌&&◌, ◌||◌, ◌==◌, List, [], ◌∷◌, Option, refl, ap, sym, ◌∙◌, eq-eqb}
 use Rattle.std.proofs.lemmas.Bool.{eqb-true}
 use Rattle.std.specs.List.{list_any}
 use Rattle.stx_base.specs.declared.name.Name.{Name}
@@ -62,21 +62,9 @@ seen group name n gs xs =
     ∙ any_alike (λ x. list_any (λ g. group x == g && is_same (name x) n) gs) (λ x. list_any (λ g. g == group x) gs && is_same (name x) n)
     (λ x. one_group (group x) (is_same (name x) n) gs) xs
 
--- a group that fits is among those around it
-pub seen_here : (fits : ℕ → Bool) (groups : List Group) (levels g : ℕ) → fits g ≡ true → list_any fits (around_within groups levels g) ≡ true
-seen_here fits groups zero g h = ap (λ t. t || false) h
-seen_here fits groups (suc n) g h = ap (λ t. t || list_any fits (around_parent (around_within groups n) (parent_of groups g))) h
-
 -- where a group doesn't fit those around it are left
 pub seen_around : (fits : ℕ → Bool) (groups : List Group) (levels g : ℕ) (p : Option ℕ) → fits g ≡ false → parent_of groups g ≡ p
     → list_any fits (around_within groups (suc levels) g) ≡ list_any fits (around_parent (around_within groups levels) p)
 seen_around fits groups levels g p h e =
     ap (λ t. t || list_any fits (around_parent (around_within groups levels) (parent_of groups g))) h
     ∙ ap (λ o. list_any fits (around_parent (around_within groups levels) o)) e
-
-pub seen_last : (fits : ℕ → Bool) (groups : List Group) (g : ℕ) → list_any fits (around_within groups zero g) ≡ fits g
-seen_last fits groups g = or_false (fits g)
-  where
-    or_false : (b : Bool) → (b || false) ≡ b
-    or_false true = refl
-    or_false false = refl

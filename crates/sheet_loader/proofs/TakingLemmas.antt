@@ -1,6 +1,6 @@
 -- The values of a tag, from which one is taken.
-use Rattle.std.proofs.Common.{◌≡◌, ℕ, zero, suc, ◌<◌, Bool, true, false, List, [], ◌∷◌, ◌++◌, length, map, take, drop, get_or, Some, None, refl, ap, sym, ◌∙◌, append_assoc, arith}
-use Rattle.std.proofs.lemmas.List.{append-nil, drop-map, drop_all, length-map, map-append, take-map, take_all}
+use Rattle.std.proofs.Common.{◌≡◌, ℕ, zero, suc, ◌<◌, Bool, true, false, List, [], ◌∷◌, ◌++◌, length, map, take, drop, get_or, Some, refl, ap, sym, ◌∙◌, append_assoc}
+use Rattle.std.proofs.lemmas.List.{drop-map, map-append, take-map}
 use Rattle.std.proofs.lemmas.Option.{slice_get-get_or, slice_get-map}
 use Rattle.std.proofs.lemmas.Slice.Eq.{bytes_eq-Decides}
 use Rattle.std.specs.Option.{option_map}
@@ -39,9 +39,6 @@ pub record NoneOf (name : List ℕ) (v : Values) (i : ℕ) : Type 0 where
   pub value : value_at name v ≡ value_at name (drop i v)
   pub others : without name v ≡ take i v ++ without name (drop i v)
 
-pub none_of_none : (name : List ℕ) (v : Values) → NoneOf name v 0
-none_of_none name v = record { value = refl; others = refl }
-
 pub none_of_more : (name : List ℕ) (v : Values) (i : ℕ) (x : List ℕ × Value) → slice_get v i ≡ Some x → bytes_eq x.0 name ≡ false → NoneOf name v i → NoneOf name v (suc i)
 none_of_more name v i x e h none = record {
   value = none.value ∙ ap (value_at name) (drop_at v i x e) ∙ ap (λ t. if t then Some x.1 else value_at name (drop (suc i) v)) h;
@@ -62,19 +59,6 @@ here_is name v i x within e h none = (
   none.others ∙ ap (λ l. take i v ++ without name l) (drop_at v i x e)
       ∙ ap (λ t. take i v ++ (if t then drop (suc i) v else x ∷ without name (drop (suc i) v))) h,
 )
-
-pub none_is : (name : List ℕ) (v : Values) → NoneOf name v (length v) → IsPlace name v None
-none_is name v none = (
-  none.value ∙ ap (value_at name) (drop_all (length v) v (omega arith)),
-  none.others ∙ ap (λ l. take (length v) v ++ without name l) (drop_all (length v) v (omega arith)) ∙ append-nil (take (length v) v) ∙ take_all (length v) v (omega arith),
-)
-
--- values as the program has them, and one that is taken out
-pub length-is : {A B : Type 0} (f : A → B) (xs : List A) (i : ℕ) → i < length (map f xs) → i < length xs
-length-is f xs i h = (let same = length-map xs f in omega arith)
-
-pub taken-is : {A B C : Type 0} (f : A → B) (g : B → C) (xs : List A) (i : ℕ) (d : A) → i < length xs → option_map g (slice_get (map f xs) i) ≡ Some (g (f (get_or xs i d)))
-taken-is f g xs i d h = ap (option_map g) (slice_get-map f xs i ∙ ap (option_map f) (slice_get-get_or xs i d h))
 
 pub others-are : {A B : Type 0} (f : A → B) (xs : List A) (i : ℕ) → map f (remove xs i) ≡ remove (map f xs) i
 others-are f xs i =
