@@ -1,3 +1,5 @@
+//! Reads a sheet from events: where its files are read, and what comes next.
+
 ghost use Rattle.std.specs.Prelude.{◌≡◌, ◌∷◌, [], true, Some, None, List, Option, IfOk, IfErr, IsErr, IsOk, OnErr, OnOk};
 ghost use Rattle.std.specs.Option.{option_copied};
 ghost use Rattle.stx_base.specs.declared.fault.Place as place;
