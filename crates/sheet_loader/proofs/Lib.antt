@@ -30,6 +30,7 @@ pub mod LiteralAnswers
 pub mod LiteralAttrs
 pub mod LiteralEnds
 pub mod LiteralStarts
+pub mod ListSteps
 pub mod LoaderSteps
 pub mod MakingLemmas
 pub mod NodeParts

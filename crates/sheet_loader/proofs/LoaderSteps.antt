@@ -17,6 +17,7 @@ use Rattle.xml_events.specs.Tree.{Bad, CData, Chars, Comment, Cut, End, Future, 
 use Rattle.xml_events.specs.declared.event.Event.{Event}
 use Rattle.xml_events.specs.declared.event.Event.TheVariants as event
 use Rattle.sheet_loader.proofs.FileEnds.{include_what}
+use Rattle.sheet_loader.proofs.ListSteps.{element_opened, include_open, last_closed, list_closed, lists_kept}
 use Rattle.sheet_loader.proofs.Places.{version_leaf}
 use Rattle.sheet_loader.proofs.Resuming.{answer_then, cuts_list, equal_answer, passes_over}
 use Rattle.sheet_loader.specs.Drafts.{file_around, level_in, levels_in, loading_of, parts_around}
@@ -24,6 +25,7 @@ use Rattle.sheet_loader.specs.Elements.{Include}
 use Rattle.sheet_loader.specs.Events.{Behind, BehindEnd, BehindNode, begins, progress_at_end, stage_of}
 use Rattle.sheet_loader.specs.Known as known
 use Rattle.sheet_loader.specs.Levels.{An_element, Level, Place_in, What, entered, name_at, place_in, tag_of, version_around}
+use Rattle.sheet_loader.specs.Lists.{EndsLastOr, OpensElementList, SameLists}
 use Rattle.sheet_loader.specs.Load.{nothing, sheet_of, whole}
 use Rattle.sheet_loader.specs.Loaders.{EndsAtLimit, EndsBad, EndsInFault, GivesSheet, MissesIt, OpensIt, OpensName, Standing, TakesEvent, is_over, is_refused, stopped_at, wanted_in}
 use Rattle.sheet_loader.specs.Making.{Values, nameless}
@@ -49,56 +51,56 @@ use Rattle.sheet_loader.specs.declared.refused.Stop.TheVariants as stop
 module _ (old new : Draft) where
   -- a start tag
   pub tag_taken : (at : Place) (offset : ℕ) (name : Name) (attrs : List Attr) (decls : List Binding) (first : First) (wanted : Result (Option (List ℕ)) Stop)
-      → OnOk wanted (IsSound new) → SameFiles wanted old new → IfOk wanted (λ w. WantsFile w at new)
+      → OnOk wanted (IsSound new) → SameFiles wanted old new → IfOk wanted (λ w. WantsFile w at new) → OnOk wanted (OpensElementList old new)
       → ((reads : Reads) (files : List (Option File)) (first : First) (f : Future) → Behind reads files (remaining reads files (Reads_on (stage_of old)) (begins (record { offset = offset; name = name; attrs = attrs; decls = decls }) first f)) new f wanted)
       → TakesOr (event.Start offset name attrs decls first) old new (behind_tag at wanted)
-  tag_taken at offset name attrs decls first (Ok None) sound same wants behind = record { sound = sound; takes = λ reads files f. behind reads files first f; names = same }
-  tag_taken at offset name attrs decls first (Ok (Some href)) sound same wants behind = record { sound = (sound, wants); takes = λ reads files f. behind reads files first f; names = same }
-  tag_taken at offset name attrs decls first (Err (stop.Fault why place)) sound same wants behind = record { sound = tt; takes = λ reads files f. behind reads files first f; names = same }
-  tag_taken at offset name attrs decls first (Err stop.Memory) sound same wants behind = tt
+  tag_taken at offset name attrs decls first (Ok None) sound same wants opens behind = record { sound = sound; takes = λ reads files f. behind reads files first f; names = same; lists = element_opened old new opens }
+  tag_taken at offset name attrs decls first (Ok (Some href)) sound same wants opens behind = record { sound = (sound, wants); takes = λ reads files f. behind reads files first f; names = same; lists = (tt, element_opened old new opens, include_open href at new wants) }
+  tag_taken at offset name attrs decls first (Err (stop.Fault why place)) sound same wants opens behind = record { sound = tt; takes = λ reads files f. behind reads files first f; names = same; lists = tt }
+  tag_taken at offset name attrs decls first (Err stop.Memory) sound same wants opens behind = tt
 
   -- the end of an element
   pub end_taken : (offset : ℕ) (ended : Result Bool Stop)
-      → OnOk ended (IsSound new) → SameFiles ended old new
+      → OnOk ended (IsSound new) → SameFiles ended old new → IfOk ended (λ is_all. EndsLastOr is_all old new)
       → ((reads : Reads) (files : List (Option File)) (mark : Mark) (offset : ℕ) (f : Future) → BehindEnd reads files (remaining reads files (Reads_on (stage_of old)) (End mark offset ∷ f)) new f ended)
       → TakesOr (event.End offset) old new (behind_end ended)
-  end_taken offset (Ok true) sound same behind = record { sound = sound; takes = λ reads files f. behind reads files Told offset f; names = same }
-  end_taken offset (Ok false) sound same behind = record { sound = sound; takes = λ reads files f. behind reads files Told offset f; names = same }
-  end_taken offset (Err (stop.Fault why place)) sound same behind = record { sound = tt; takes = λ reads files f. behind reads files Told offset f; names = same }
-  end_taken offset (Err stop.Memory) sound same behind = tt
+  end_taken offset (Ok true) sound same closes behind = record { sound = sound; takes = λ reads files f. behind reads files Told offset f; names = same; lists = last_closed old closes }
+  end_taken offset (Ok false) sound same closes behind = record { sound = sound; takes = λ reads files f. behind reads files Told offset f; names = same; lists = list_closed old new closes }
+  end_taken offset (Err (stop.Fault why place)) sound same closes behind = record { sound = tt; takes = λ reads files f. behind reads files Told offset f; names = same; lists = tt }
+  end_taken offset (Err stop.Memory) sound same closes behind = tt
 
   -- the end of a document
   pub document_taken : (offset : ℕ) (ended : Result Bool Stop)
-      → OnOk ended (IsSound new) → SameFiles ended old new
+      → OnOk ended (IsSound new) → SameFiles ended old new → IfOk ended (λ is_all. EndsLastOr is_all old new)
       → ((reads : Reads) (files : List (Option File)) (mark : Mark) (offset : ℕ) (f : Future) → BehindEnd reads files (remaining reads files (Reads_on (stage_of old)) (End mark offset ∷ f)) new f ended)
       → TakesOr (event.DocumentEnd offset) old new (behind_end ended)
-  document_taken offset (Ok true) sound same behind = record { sound = sound; takes = λ reads files f. behind reads files Told offset f; names = same }
-  document_taken offset (Ok false) sound same behind = record { sound = sound; takes = λ reads files f. behind reads files Told offset f; names = same }
-  document_taken offset (Err (stop.Fault why place)) sound same behind = record { sound = tt; takes = λ reads files f. behind reads files Told offset f; names = same }
-  document_taken offset (Err stop.Memory) sound same behind = tt
+  document_taken offset (Ok true) sound same closes behind = record { sound = sound; takes = λ reads files f. behind reads files Told offset f; names = same; lists = last_closed old closes }
+  document_taken offset (Ok false) sound same closes behind = record { sound = sound; takes = λ reads files f. behind reads files Told offset f; names = same; lists = list_closed old new closes }
+  document_taken offset (Err (stop.Fault why place)) sound same closes behind = record { sound = tt; takes = λ reads files f. behind reads files Told offset f; names = same; lists = tt }
+  document_taken offset (Err stop.Memory) sound same closes behind = tt
 
   -- a text
   pub chars_taken : (offset : ℕ) (text : List ℕ) (taken : Result (Unit {0}) Stop)
-      → OnOk taken (IsSound new) → SameFiles taken old new
+      → OnOk taken (IsSound new) → SameFiles taken old new → OnOk taken (SameLists old new)
       → ((reads : Reads) (files : List (Option File)) (mark : Mark) (f : Future) → BehindNode reads files (remaining reads files (Reads_on (stage_of old)) (Single mark (Chars offset text) (inner f) ∷ outer f)) new f taken)
       → TakesOr (event.Chars offset text) old new (behind_node taken)
-  chars_taken offset text (Ok done) sound same behind = record { sound = sound; takes = λ reads files f. behind reads files Told f; names = same }
-  chars_taken offset text (Err (stop.Fault why place)) sound same behind = record { sound = tt; takes = λ reads files f. behind reads files Told f; names = same }
-  chars_taken offset text (Err stop.Memory) sound same behind = tt
+  chars_taken offset text (Ok done) sound same lists behind = record { sound = sound; takes = λ reads files f. behind reads files Told f; names = same; lists = lists_kept old new lists }
+  chars_taken offset text (Err (stop.Fault why place)) sound same lists behind = record { sound = tt; takes = λ reads files f. behind reads files Told f; names = same; lists = tt }
+  chars_taken offset text (Err stop.Memory) sound same lists behind = tt
 
   -- a CDATA section
   pub cdata_taken : (offset : ℕ) (text : List ℕ) (taken : Result (Unit {0}) Stop)
-      → OnOk taken (IsSound new) → SameFiles taken old new
+      → OnOk taken (IsSound new) → SameFiles taken old new → OnOk taken (SameLists old new)
       → ((reads : Reads) (files : List (Option File)) (mark : Mark) (f : Future) → BehindNode reads files (remaining reads files (Reads_on (stage_of old)) (Single mark (CData offset text) (inner f) ∷ outer f)) new f taken)
       → TakesOr (event.CData offset text) old new (behind_node taken)
-  cdata_taken offset text (Ok done) sound same behind = record { sound = sound; takes = λ reads files f. behind reads files Told f; names = same }
-  cdata_taken offset text (Err (stop.Fault why place)) sound same behind = record { sound = tt; takes = λ reads files f. behind reads files Told f; names = same }
-  cdata_taken offset text (Err stop.Memory) sound same behind = tt
+  cdata_taken offset text (Ok done) sound same lists behind = record { sound = sound; takes = λ reads files f. behind reads files Told f; names = same; lists = lists_kept old new lists }
+  cdata_taken offset text (Err (stop.Fault why place)) sound same lists behind = record { sound = tt; takes = λ reads files f. behind reads files Told f; names = same; lists = tt }
+  cdata_taken offset text (Err stop.Memory) sound same lists behind = tt
 
 module _ (d : Draft) (sound : IsSound d) where
   -- a comment counts for nothing
   pub comment_passed : (offset : ℕ) (text : List ℕ) → TakesOr (event.Comment offset text) d d progress.Reads
-  comment_passed offset text = record { sound = sound; takes = λ reads files f. passes reads files f; names = refl } where
+  comment_passed offset text = record { sound = sound; takes = λ reads files f. passes reads files f; names = refl; lists = refl } where
     passes : (reads : Reads) (files : List (Option File)) (f : Future) → SameAnswer reads files (remaining reads files (Reads_on (stage_of d)) (Single Told (Comment offset text) (inner f) ∷ outer f)) (remaining reads files (Reads_on (stage_of d)) f)
     passes reads files f =
         let s = stage_of d in
@@ -110,7 +112,7 @@ module _ (d : Draft) (sound : IsSound d) where
 
   -- so does a processing instruction
   pub pi_passed : (offset : ℕ) (target text : List ℕ) → TakesOr (event.Pi offset target text) d d progress.Reads
-  pi_passed offset target text = record { sound = sound; takes = λ reads files f. passes reads files f; names = refl } where
+  pi_passed offset target text = record { sound = sound; takes = λ reads files f. passes reads files f; names = refl; lists = refl } where
     passes : (reads : Reads) (files : List (Option File)) (f : Future) → SameAnswer reads files (remaining reads files (Reads_on (stage_of d)) (Single Told (Pi offset target text) (inner f) ∷ outer f)) (remaining reads files (Reads_on (stage_of d)) f)
     passes reads files f =
         let s = stage_of d in

@@ -11,6 +11,7 @@ pub mod Keys
 pub mod Known
 pub mod Laws
 pub mod Levels
+pub mod Lists
 pub mod Load
 pub mod Loaders
 pub mod Making

@@ -3,6 +3,7 @@ use Rattle.std.specs.Prelude.{◌≡◌, ℕ, Bool, true, List, Option, Some, No
 use Rattle.stx_base.specs.declared.fault.Place.{Place}
 use Rattle.xml_events.specs.declared.event.Event.{Event}
 use Rattle.sheet_loader.specs.Events.{progress_at_end, stage_of}
+use Rattle.sheet_loader.specs.Lists.{KeepsLists}
 use Rattle.sheet_loader.specs.Loaders.{TakesEvent}
 use Rattle.sheet_loader.specs.Named.{Includes, names_of}
 use Rattle.sheet_loader.specs.Remaining.{Progress, Reads_on, Refused_at, Spent, Wants_file}
@@ -57,6 +58,7 @@ pub record Takes (e : Event) (old new : Draft) (p : loader.Progress) : Type 0 wh
   pub sound : IsSoundBy p new
   pub takes : TakesEvent e (Reads_on (stage_of old)) (progress_in p new)
   pub names : names_of new ≡ names_of old
+  pub lists : KeepsLists e (Reads_on (stage_of old)) (progress_in p new)
 
 abbrev pub TakesOr : Event → (old new : Draft) → loader.Progress → Type 0
 TakesOr e old new progress.Spent = Unit {0}

@@ -1,11 +1,12 @@
 //! Reads a sheet from events: where its files are read, and what comes next.
 
-ghost use Rattle.std.specs.Prelude.{◌≡◌, ◌∷◌, [], true, Some, None, List, Option, IfOk, IfErr, IsErr, IsOk, OnErr, OnOk};
+ghost use Rattle.std.specs.Prelude.{◌≡◌, ◌∷◌, [], true, Some, None, List, Option, IfOk, IfErr, IsErr, IsOk, IsSome, OnErr, OnOk};
 ghost use Rattle.std.specs.Option.{option_copied};
 ghost use Rattle.stx_base.specs.declared.fault.Place as place;
 ghost use Rattle.sheet_loader.specs.Events.{progress_at_end};
 ghost use Rattle.sheet_loader.specs.Load.{sheet_of};
 ghost use Rattle.sheet_loader.specs.Levels.{name_at};
+ghost use Rattle.sheet_loader.specs.Lists.{FilesAre, KeepsLists, OpensList};
 ghost use Rattle.sheet_loader.specs.Named.{names_of};
 ghost use Rattle.sheet_loader.specs.Loaders.{EndsAtLimit, EndsBad, EndsInFault, GivesSheet, MissesIt, OpensIt, OpensName, TakesEvent, is_over as over, is_refused, stopped_at, wanted_in};
 ghost use Rattle.sheet_loader.specs.Progress as stands;
@@ -190,6 +191,8 @@ impl Loader {
         requires { wanted_in self.old.progress ≡ None }
         ensures takes { OnOk result (TakesEvent event self.old.progress self.new.progress) }
         ensures names { OnOk result (self.new.names ≡ self.old.names) }
+        ensures lists { OnOk result (KeepsLists event self.old.progress self.new.progress) }
+        ensures files { OnOk result (FilesAre self.new.names self.new.progress) }
         ensures memory { OnErr result (self.new.progress ≡ Spent) }
         ensures spent { self.old.progress ≡ Spent → IsErr result }
     {
@@ -223,6 +226,7 @@ impl Loader {
     pub fn opened(&mut self) -> Result<(), Memory>
         ensures opens { OnOk result (OpensIt self.old self.new) }
         ensures names { OnOk result (OpensName (wanted_in self.old.progress) self.old.names self.new.names) }
+        ensures list { OnOk result (OpensList self.old self.new) }
         ensures memory { OnErr result (self.new.progress ≡ Spent) }
         ensures other { wanted_in self.old.progress ≡ None → (IsOk result) × (self.new ≡ self.old) }
     {
@@ -245,6 +249,7 @@ impl Loader {
     pub fn absent(&mut self)
         ensures misses { MissesIt self.old self.new }
         ensures names { self.new.names ≡ self.old.names }
+        ensures over { IsSome (wanted_in self.old.progress) → over self.new.progress ≡ true }
         ensures other { wanted_in self.old.progress ≡ None → self.new ≡ self.old }
     {
         match self.progress {
@@ -259,6 +264,7 @@ impl Loader {
     pub fn bad(&mut self, fault: XmlFault)
         ensures ends { EndsBad fault self.old.progress self.new.progress }
         ensures names { self.new.names ≡ self.old.names }
+        ensures over { wanted_in self.old.progress ≡ None → over self.new.progress ≡ true }
     {
         let at = self.draft.place(fault.offset);
         self.refuse(SheetCode::BadXml, at);
@@ -268,6 +274,7 @@ impl Loader {
     pub fn too_large(&mut self, offset: u64)
         ensures ends { EndsAtLimit offset self.old.progress self.new.progress }
         ensures names { self.new.names ≡ self.old.names }
+        ensures over { wanted_in self.old.progress ≡ None → over self.new.progress ≡ true }
     {
         let at = self.draft.place(offset);
         self.refuse(SheetCode::SheetTooLarge, at);

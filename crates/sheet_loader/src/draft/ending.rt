@@ -1,6 +1,6 @@
 //! What ends in a sheet, with what it adds, and its texts.
 
-ghost use Rattle.std.specs.Prelude.{◌≡◌, ◌&&◌, ℕ, ◌∷◌, [], List, Option, map, not, take, true, ◌++◌, OnOk};
+ghost use Rattle.std.specs.Prelude.{◌≡◌, ◌&&◌, ℕ, ◌∷◌, [], List, Option, map, not, take, true, ◌++◌, IfOk, OnOk};
 ghost use Rattle.std.specs.List.{list_all};
 ghost use Rattle.std.specs.Str.{chars};
 ghost use Rattle.stx_base.specs.Character as character;
@@ -13,6 +13,7 @@ ghost use Rattle.sheet_loader.specs.Steps.{AddsItem, AddsItems, AddsToList, Adds
 ghost use Rattle.sheet_loader.specs.Keys.{name_of, own_of};
 ghost use Rattle.sheet_loader.specs.Events.{BehindEnd, BehindNode, TakesItems, place_at, stage_of, stage_within};
 ghost use Rattle.sheet_loader.specs.Gathering.{values_in};
+ghost use Rattle.sheet_loader.specs.Lists.{EndsLastOr, LeavesList, SameLists};
 ghost use Rattle.sheet_loader.specs.Named.{SameFiles, names_of};
 ghost use Rattle.sheet_loader.specs.Making as making;
 ghost use Rattle.sheet_loader.specs.Meant.{inside_of, item_of, kind_of};
@@ -67,6 +68,7 @@ impl Draft {
         ensures sound { OnOk result (IsSound self.new) }
         ensures chars { (reads : Reads) (files : List (Option File)) (mark : tree.Mark) (f : Future) → BehindNode reads files (remaining.remaining reads files (remaining.Reads_on (stage_of self.old)) (Single mark (tree.Chars offset text) (inner f) ∷ outer f)) self.new f result }
         ensures files { SameFiles result self.old self.new }
+        ensures lists { OnOk result (SameLists self.old self.new) }
         ensures cdata { (reads : Reads) (files : List (Option File)) (mark : tree.Mark) (f : Future) → BehindNode reads files (remaining.remaining reads files (remaining.Reads_on (stage_of self.old)) (Single mark (tree.CData offset text) (inner f) ∷ outer f)) self.new f result }
     {
         let inside = self.top.inside;
@@ -86,6 +88,7 @@ impl Draft {
         requires allowed { element.allows_text (inside_of self.old.top.inside) ≡ true }
         ensures sound { OnOk result (IsSound self.new) }
         ensures files { OnOk result (names_of self.new ≡ names_of self.old) }
+        ensures lists { OnOk result (SameLists self.old self.new) }
         ensures takes { OnOk result ((reads : Reads) (files : List (Option File)) (f : Future) → let here = (place_at files f self.old).here in TakesItems (read.text_item reads files here offset text here.inside) self.old self.new) }
     {
         let at = self.place(offset);
@@ -108,6 +111,7 @@ impl Draft {
         requires { IsSound self.old }
         ensures sound { OnOk result (IsSound self.new) }
         ensures files { SameFiles result self.old self.new }
+        ensures lists { IfOk result (λ is_all. EndsLastOr is_all self.old self.new) }
         ensures behind { (reads : Reads) (files : List (Option File)) (mark : tree.Mark) (offset : ℕ) (f : Future) → BehindEnd reads files (remaining.remaining reads files (remaining.Reads_on (stage_of self.old)) (End mark offset ∷ f)) self.new f result }
     {
         match self.below.pop() {
@@ -127,6 +131,7 @@ impl Draft {
         requires { IsSoundWithin frame self.old }
         ensures sound { OnOk result (IsSound self.new) }
         ensures files { SameFiles result self.old self.new }
+        ensures lists { OnOk result (LeavesList frame.opened self.old self.new) }
         ensures behind { (reads : Reads) (files : List (Option File)) (mark : tree.Mark) (offset : ℕ) (f : Future) → BehindNode reads files (remaining.remaining reads files (remaining.Reads_on (stage_within frame self.old)) (End mark offset ∷ f)) self.new f result }
     {
         let Frame {

@@ -20,6 +20,7 @@ ghost use Rattle.sheet_loader.specs.Events.{Behind, BehindTag, BehindOther, begi
 ghost use Rattle.sheet_loader.specs.Gathering.{IsJudged, name_fault, values_in};
 ghost use Rattle.sheet_loader.specs.Judging as judging;
 ghost use Rattle.sheet_loader.specs.Known as known;
+ghost use Rattle.sheet_loader.specs.Lists.{OpensElementList, OpensFileList};
 ghost use Rattle.sheet_loader.specs.Named.{IsApart, SameFiles, SameFilesByTag, WantsFile, is_being_read, names_of};
 ghost use Rattle.sheet_loader.specs.Making as making;
 ghost use Rattle.sheet_loader.specs.Meant.{before_of, inside_of, kind_of};
@@ -133,6 +134,7 @@ impl Draft {
         ensures sound { OnOk result (IsSound self.new) }
         ensures wanted { IfOk result (λ wanted. WantsFile wanted (record { file = self.old.file.number; offset = offset }) self.new) }
         ensures files { SameFiles result self.old self.new }
+        ensures lists { OnOk result (OpensElementList self.old self.new) }
         ensures behind { (reads : Reads) (files : List (Option File)) (first : First) (f : Future) → Behind reads files (remaining.remaining reads files (remaining.Reads_on (stage_of self.old)) (begins (record { offset = offset; name = name; attrs = attrs; decls = decls }) first f)) self.new f result }
     {
         let at = self.place(offset);
@@ -156,6 +158,7 @@ impl Draft {
         ensures sound { OnOk result (IsSound self.new) }
         ensures wanted { IfOk result (λ wanted. WantsFile wanted (record { file = self.old.file.number; offset = tag.offset }) self.new) }
         ensures files { SameFilesByTag result self.old self.new }
+        ensures lists { OnOk result (OpensElementList self.old self.new) }
         ensures behind { (reads : Reads) (files : List (Option File)) (first : First) (f : Future) → BehindTag reads files (remaining.remaining reads files (remaining.Reads_on (stage_of (before_tag self.old tag.around))) (begins (element_of tag self.old) first f)) (record { file = self.old.file.number; offset = tag.offset }) self.new f result }
     {
         if self.top.inside.is_document() {
@@ -178,6 +181,7 @@ impl Draft {
         ensures sound { OnOk result (IsSound self.new) }
         ensures wanted { IfOk result (λ wanted. WantsFile wanted (record { file = self.old.file.number; offset = tag.offset }) self.new) }
         ensures files { SameFilesByTag result self.old self.new }
+        ensures lists { OnOk result (OpensElementList self.old self.new) }
         ensures behind { (reads : Reads) (files : List (Option File)) (first : First) (f : Future) → let e = element_of tag self.old in let p = place_at files (begins e first f) (before_tag self.old tag.around) in BehindTag reads files (then_next reads files p (read.known reads files p.here p.before e (inner f) (element.kind_named tag.name.local) (loading_of self.old)) f) (record { file = self.old.file.number; offset = tag.offset }) self.new f result }
     {
         match kind_named(tag.name.local.as_str()) {
@@ -194,6 +198,7 @@ impl Draft {
         ensures sound { OnOk result (IsSound self.new) }
         ensures wanted { IfOk result (λ wanted. WantsFile wanted (record { file = self.old.file.number; offset = tag.offset }) self.new) }
         ensures files { SameFilesByTag result self.old self.new }
+        ensures lists { OnOk result (OpensElementList self.old self.new) }
         ensures behind { (reads : Reads) (files : List (Option File)) (first : First) (f : Future) → let e = element_of tag self.old in let p = place_at files (begins e first f) (before_tag self.old tag.around) in BehindTag reads files (then_next reads files p (read.element_of reads files p.here p.before e (inner f) p.here.inside (loading_of self.old)) f) (record { file = self.old.file.number; offset = tag.offset }) self.new f result }
     {
         if !is_transform(&tag.name) {
@@ -221,6 +226,7 @@ impl Draft {
         ensures sound { OnOk result (IsSound self.new) }
         ensures wanted { IfOk result (λ wanted. WantsFile wanted (record { file = self.old.file.number; offset = tag.offset }) self.new) }
         ensures files { SameFilesByTag result self.old self.new }
+        ensures lists { OnOk result (OpensElementList self.old self.new) }
         ensures behind { (reads : Reads) (files : List (Option File)) (first : First) (f : Future) → let e = element_of tag self.old in let p = place_at files (begins e first f) (before_tag self.old tag.around) in BehindTag reads files (then_next reads files p (read.known reads files p.here p.before e (inner f) (Some (kind_of kind)) (loading_of self.old)) f) (record { file = self.old.file.number; offset = tag.offset }) self.new f result }
     {
         match self.judge(kind, &tag) {
@@ -335,6 +341,7 @@ impl Draft {
         ensures sound { OnOk result (IsSound self.new) }
         ensures wanted { IfOk result (λ wanted. WantsFile wanted (record { file = self.old.file.number; offset = tag.offset }) self.new) }
         ensures files { OnOk result (names_of self.new ≡ names_of self.old) }
+        ensures lists { OnOk result (OpensElementList self.old self.new) }
         ensures behind { IfOk result (λ wanted. (reads : Reads) (files : List (Option File)) (first : First) (f : Future) → let e = element_of tag self.old in let p = place_at files (begins e first f) (before_tag self.old tag.around) in SameAnswer reads files (then_next reads files p (read.good reads files p.here p.before e (inner f) (kind_of kind) (values_in values) (loading_of self.old)) f) (remaining.remaining reads files (progress_behind wanted self.new) f)) }
     {
         let mut values = values;
@@ -447,6 +454,7 @@ impl Draft {
         requires version { is_some self.old.file.version ≡ true }
         ensures sound { OnOk result (IsSound self.new) }
         ensures files { SameFilesByTag result self.old self.new }
+        ensures lists { OnOk result (OpensElementList self.old self.new) }
         ensures behind { (reads : Reads) (files : List (Option File)) (first : First) (f : Future) → let e = element_of tag self.old in let p = place_at files (begins e first f) (before_tag self.old tag.around) in BehindOther reads files (then_next reads files p (read.literal_judged reads files p.here p.before e (inner f) p.here.inside (loading_of self.old)) f) (record { file = self.old.file.number; offset = tag.offset }) self.new f result }
     {
         let inside = self.top.inside;
@@ -484,6 +492,7 @@ impl Draft {
         requires no_parts { is_of_parts (inside_of self.old.top.inside) ≡ false }
         ensures sound { OnOk result (IsSound self.new) }
         ensures files { SameFilesByTag result self.old self.new }
+        ensures lists { OnOk result (OpensElementList self.old self.new) }
         ensures behind { (reads : Reads) (files : List (Option File)) (first : First) (f : Future) → let e = element_of tag self.old in let p = place_at files (begins e first f) (before_tag self.old tag.around) in BehindOther reads files (then_next reads files p (option_map_or (λ why. reading.refused p.here e.offset why) (path_fault (read.templates reads files p.here e)) (read.literal reads files p.here p.before e (inner f) (loading_of self.old))) f) (record { file = self.old.file.number; offset = tag.offset }) self.new f result }
     {
         let StartTag {
@@ -536,6 +545,7 @@ impl Draft {
         requires parts { is_of_parts (inside_of self.old.top.inside) ≡ true }
         ensures sound { OnOk result (IsSound self.new) }
         ensures files { OnOk result (names_of self.new ≡ names_of self.old) }
+        ensures lists { OnOk result (OpensElementList self.old self.new) }
         ensures behind { OnOk result ((reads : Reads) (files : List (Option File)) (first : First) (f : Future) → let e = element_of tag self.old in let p = place_at files (begins e first f) (before_tag self.old tag.around) in SameAnswer reads files (then_next reads files p (read.copied reads files p.here e (inner f) (loading_of self.old)) f) (remaining.remaining reads files (remaining.Reads_on (stage_of self.new)) f)) }
     {
         let StartTag {
@@ -570,6 +580,7 @@ impl Draft {
         requires wanted { (at : base.Place) × WantsFile (Some name) at self.old }
         ensures sound { OnOk result (IsSound self.new) }
         ensures names { OnOk result ((loading_of self.new).sheet.files ≡ (loading_of self.old).sheet.files ++ name ∷ []) }
+        ensures list { OnOk result (OpensFileList self.old self.new) }
         ensures behind { OnOk result ((reads : Reads) (files : List (Option File)) (file : File) (f : Future) → slice_get files (length (loading_of self.old).sheet.files) ≡ Some (Some file) → file.version ≡ version_of language file.nodes → SameAnswer reads files (remaining.remaining reads files (remaining.Wants_file name (stage_of self.old)) f) (Say name (remaining.remaining reads files (remaining.Reads_on (stage_of self.new)) (file.nodes ∷ f)))) }
     {
         let number = number(self.sheet.files.len() + 1)?;

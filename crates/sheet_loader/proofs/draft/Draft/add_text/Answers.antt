@@ -12,6 +12,8 @@ use Rattle.sheet_loader.specs.Read.{text_item}
 use Rattle.sheet_loader.specs.Reading as reading
 use Rattle.sheet_loader.specs.Sound.{is_of_parts, is_outside}
 use Rattle.sheet_loader.specs.Meant.{inside_of}
+use Rattle.sheet_loader.proofs.ListSteps.{item_added}
+use Rattle.sheet_loader.specs.declared.draft.Draft.{Draft}
 use Rattle.sheet_loader.proofs.draft.Draft.add_text.Goals as goal
 
 pub returns-in-Characters-clause-sound : goal.returns-in-Characters-clause-sound
@@ -62,3 +64,14 @@ returns-in-Parts-clause-files c = on_ok_weaker c.take_part.result (λ takes. ap 
 
 pub returns-in_default-clause-files : goal.returns-in_default-clause-files
 returns-in_default-clause-files c = on_ok_weaker c.take_item-in_default.result (λ adds. ap names_of adds.others) c.take_item-in_default.ensures
+
+pub returns-in-Characters-clause-lists : goal.returns-in-Characters-clause-lists
+returns-in-Characters-clause-lists c = on_ok_weaker c.take_item.result (λ adds. item_added (reading.Text c.args.text) c.args.self.now c.take_item.new.self adds) c.take_item.ensures
+
+pub returns-in-Parts-clause-lists : goal.returns-in-Parts-clause-lists
+returns-in-Parts-clause-lists c =
+    on_ok_weaker c.take_part.result (λ e. record { top = ap (λ (x : Draft). x.top.opened) e; below = ap (λ (x : Draft). x.below) e; number = ap (λ (x : Draft). x.file.number) e }) c.take_part.ensures
+
+pub returns-in_default-clause-lists : goal.returns-in_default-clause-lists
+returns-in_default-clause-lists c =
+    on_ok_weaker c.take_item-in_default.result (λ adds. item_added (reading.Instruction (instr.LiteralChars c.args.text c.place-at.result)) c.args.self.now c.take_item-in_default.new.self adds) c.take_item-in_default.ensures

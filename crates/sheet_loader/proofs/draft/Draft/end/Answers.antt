@@ -12,6 +12,7 @@ use Rattle.sheet_loader.specs.declared.draft.Draft.{Draft}
 use Rattle.sheet_loader.specs.declared.frame.Frame.{Frame}
 use Rattle.sheet_loader.specs.declared.refused.Stop.{Stop}
 use Rattle.sheet_loader.specs.declared.refused.Stop.TheVariants as stop
+use Rattle.sheet_loader.specs.Lists.{number_around}
 use Rattle.sheet_loader.proofs.draft.Draft.end.Goals as goal
 
 -- a list that ends in a fault, or for want of memory, ends so whichever it is
@@ -58,3 +59,18 @@ returns-in-Err-clause-behind c = λ reads files mark offset f.
     stopped reads files x c.end_list.new.self c.end_list.new.self f why
     (moved d new c.end_list.new.self c.in-Some.around c.replace-frame.result [] (ap (λ (t : Frame). record d { top = t; below = c.pop.new.self }) c.replace-frame.ensures.after) c.in-Some.ensures.items c.replace-frame.ensures.value (Err why) reads files mark offset f
     (c.in-Err.ensures.behind reads files mark offset f))
+
+pub returns-in-None-clause-lists : goal.returns-in-None-clause-lists
+returns-in-None-clause-lists c =
+    c.in-None.ensures.items ∙ ap (λ (l : List Frame). l ++ []) (c.in-None.ensures.rest ∙ ap (λ (n : ℕ). take (n - 1) c.args.self.now.below.items) c.in-None.ensures.cases.0)
+
+pub returns-in-Ok-clause-lists : goal.returns-in-Ok-clause-lists
+returns-in-Ok-clause-lists c =
+    let d = c.args.self.now in
+    let leaves = c.in-Ok.ensures.lists in
+    record {
+      around = c.in-Some.around;
+      below = c.in-Some.ensures.items ∙ ap (λ b. b.items ++ c.in-Some.around ∷ []) (sym leaves.below);
+      top = leaves.top ∙ ap (λ (t : Frame). t.opened) c.replace-frame.ensures.after;
+      number = leaves.number ∙ ap (λ (t : Frame). number_around t.opened d.file.number) c.replace-frame.ensures.value;
+    }

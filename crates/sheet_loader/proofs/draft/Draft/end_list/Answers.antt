@@ -1,5 +1,5 @@
 -- Each list ends as its frame says.
-use Rattle.std.proofs.Common.{◌≡◌, ℕ, false, List, [], ◌∷◌, Option, Result, ap, map, take, sym}
+use Rattle.std.proofs.Common.{◌≡◌, ℕ, false, List, [], ◌∷◌, Option, Result, ap, map, take, sym, ◌∙◌}
 use Rattle.std.proofs.Math.Path.{subst}
 use Rattle.stxpath_syntax.specs.declared.dialect.Dialect.TheVariants.{One}
 use Rattle.stx_base.specs.declared.fault.Place.{Place}
@@ -29,6 +29,9 @@ use Rattle.sheet_loader.specs.declared.frame.Opened.{Opened}
 use Rattle.sheet_loader.specs.declared.frame.Opened.TheVariants as opened
 use Rattle.sheet_loader.specs.declared.refused.Stop.{Stop}
 use Rattle.sheet_loader.specs.declared.register.Register.{Register}
+use Rattle.sheet_loader.proofs.ListSteps.{element_ended}
+use Rattle.sheet_loader.specs.Lists.{LeavesList, number_around}
+use Rattle.std.proofs.lemmas.Result.{on_ok_weaker}
 use Rattle.sheet_loader.proofs.draft.Draft.end_list.Goals as goal
 
 -- what is so of a frame by what its list stands in
@@ -125,3 +128,32 @@ returns-in-Literal-clause-files c = ap names_of c.in_ok-end_literal-in-Literal.e
 
 pub returns-clause-files : goal.returns-clause-files
 returns-clause-files c = ap names_of c.in_ok-end_part-in-Part.ensures
+
+-- what is so of the lists, by what the list that ends stands in
+leaves_by : (f : Frame) (o : Opened) (d new : Draft) → f.opened ≡ o → new.top.opened ≡ d.top.opened → new.below ≡ d.below → new.file.number ≡ number_around o d.file.number → LeavesList f.opened d new
+leaves_by f o d new e top below number = record { top = top; below = below; number = number ∙ ap (λ (x : Opened). number_around x d.file.number) (sym e) }
+
+pub returns-in-File-clause-lists : goal.returns-in-File-clause-lists
+returns-in-File-clause-lists c =
+    let e = c.end_file.ensures.others in
+    leaves_by c.args.frame (opened.File c.in-File.includer) c.args.self.now c.end_file.new.self c.in-File.is (ap (λ (x : Draft). x.top.opened) e) (ap (λ (x : Draft). x.below) e) (ap (λ (x : Draft). x.file.number) e)
+
+pub returns-in-Literal-clause-lists : goal.returns-in-Literal-clause-lists
+returns-in-Literal-clause-lists c =
+    let e = c.in_ok-end_literal-in-Literal.ensures.others in
+    leaves_by c.args.frame (opened.Literal c.in-Literal.name c.in-Literal.attrs) c.args.self.now c.end_literal.new.self c.in-Literal.is (ap (λ (x : Draft). x.top.opened) e) (ap (λ (x : Draft). x.below) e) (ap (λ (x : Draft). x.file.number) e)
+
+pub returns-clause-lists : goal.returns-clause-lists
+returns-clause-lists c =
+    let e = c.in_ok-end_part-in-Part.ensures in
+    leaves_by c.args.frame (opened.Part c.in-Part.name c.in-Part.start) c.args.self.now c.end_part.new.self c.in-Part.is (ap (λ (x : Draft). x.top.opened) e) (ap (λ (x : Draft). x.below) e) (ap (λ (x : Draft). x.file.number) e)
+
+pub returns-in-Element-clause-lists : goal.returns-in-Element-clause-lists
+returns-in-Element-clause-lists c =
+    let d = c.args.self.now in
+    let mid = c.end_element-ended.new.self in
+    let e = c.leave_scope.ensures in
+    on_ok_weaker c.end_element-ended.result (λ same.
+    leaves_by c.args.frame (opened.Element c.in-Element.kind c.in-Element.values c.in-Element.own) d c.leave_scope.new.self c.in-Element.is
+    (ap (λ (x : Draft). x.top.opened) e ∙ same.top) (ap (λ (x : Draft). x.below) e ∙ same.below) (ap (λ (x : Draft). x.file.number) e ∙ same.number))
+    (element_ended (kind_of c.in-Element.kind) c.place-at.result (values_in c.in-Element.values) (own_of c.in-Element.own) (map item_of c.args.frame.items) (record d { register = c.leave.new.self }) mid c.end_element-ended.result c.end_element-ended.ensures)

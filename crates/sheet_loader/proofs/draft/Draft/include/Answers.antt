@@ -98,3 +98,18 @@ returns-clause-behind c =
     (same_reading d mid new c.args.name c.push.new.self c.replace-includer.new.dest c.replace-includer.result c.in_ok-number.number list e.0 ∙ c.in_ok-read_name.ensures.kept c.requires.wanted.1.fresh)
     (stepwise d mid new c.args.name c.push.new.self c.replace-includer.new.dest c.replace-includer.result c.in_ok-number.number list m c.in_ok-push.ensures.ok (c.replace-includer.ensures.after ∙ c.new.ensures) c.replace-includer.ensures.value c.list_within-list.ensures.list e.0)
     (around d mid new c.args.name c.push.new.self c.replace-includer.new.dest c.replace-includer.result c.in_ok-number.number list m e.1) reads files file f there by_nodes) c.push-2.ensures
+
+pub returns-clause-list : goal.returns-clause-list
+returns-clause-list c =
+    let d = c.args.self.now in
+    let mid = c.read_name.new.self in
+    let new = c.push-2.new.self in
+    let list = c.list_within-list.result in
+    let m = c.in_ok-read_name.ensures.others in
+    on_ok_weaker c.push-2.result (λ e.
+    let is = stepwise d mid new c.args.name c.push.new.self c.replace-includer.new.dest c.replace-includer.result c.in_ok-number.number list m c.in_ok-push.ensures.ok (c.replace-includer.ensures.after ∙ c.new.ensures) c.replace-includer.ensures.value c.list_within-list.ensures.list e.0 in
+    record {
+      file = ap (λ (x : Draft). x.top.opened) is;
+      around = around d mid new c.args.name c.push.new.self c.replace-includer.new.dest c.replace-includer.result c.in_ok-number.number list m e.1;
+      number = ap (λ (x : Draft). x.file.number) is ∙ next_number d c.in_ok-number.number c.len.result c.in_ok-number.ensures c.len.ensures.value;
+    }) c.push-2.ensures

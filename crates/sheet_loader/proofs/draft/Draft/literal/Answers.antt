@@ -1,5 +1,5 @@
 -- The list of the element stands within the innermost one, or an attribute's fault is told.
-use Rattle.std.proofs.Common.{ap, ◌∙◌}
+use Rattle.std.proofs.Common.{ap, sym, ◌∙◌}
 use Rattle.std.proofs.Math.Path.{subst}
 use Rattle.stx_base.specs.declared.fault.Place.{Place}
 use Rattle.sheet_loader.proofs.Beginning.{unopened}
@@ -7,6 +7,7 @@ use Rattle.sheet_loader.proofs.LiteralAnswers.{Refers, literal_opens, literal_so
 use Rattle.sheet_loader.specs.Named.{names_of}
 use Rattle.sheet_loader.specs.declared.draft.Draft.{Draft}
 use Rattle.sheet_loader.specs.declared.frame.Frame.{Frame}
+use Rattle.sheet_loader.specs.Lists.{IsOfElement}
 use Rattle.sheet_loader.proofs.draft.Draft.literal.Goals as goal
 
 pub returns-in-Err-clause-files : goal.returns-in-Err-clause-files
@@ -38,3 +39,12 @@ returns-in_ok-push-in-Ok-clause-behind c = λ reads files first f.
     (subst (λ (at : Place). Refers d at c.in-Ok.attrs r) c.place-at.ensures c.in_ok-refer_by_literal-in-Ok.ensures)
     (c.in_ok-push-in-Ok.ensures.0 ∙ ap (λ (t : Frame). let w : Draft = record d { register = r; top = t; below = c.push.new.self.below } in w) c.list_within-list.ensures.list)
     c.in_ok-push-in-Ok.ensures.1 (c.in-Ok.ensures reads).0 (c.in-Ok.ensures reads).1
+
+pub returns-in_ok-push-in-Ok-clause-lists : goal.returns-in_ok-push-in-Ok-clause-lists
+returns-in_ok-push-in-Ok-clause-lists c =
+    let e = c.in_ok-push-in-Ok.ensures.0 in
+    record {
+      element = subst (λ (x : Draft). IsOfElement x.top.opened) (sym e) (subst (λ (t : Frame). IsOfElement t.opened) (sym c.list_within-list.ensures.list) tt);
+      around = c.in_ok-push-in-Ok.ensures.1;
+      number = ap (λ (x : Draft). x.file.number) e;
+    }

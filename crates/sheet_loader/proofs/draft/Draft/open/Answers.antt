@@ -1,5 +1,5 @@
 -- The steps by which an element is opened.
-use Rattle.std.proofs.Common.{ℕ, List, [], ◌∷◌, ◌++◌, length, ap, ◌∙◌}
+use Rattle.std.proofs.Common.{ℕ, List, [], ◌∷◌, ◌++◌, length, ap, sym, ◌∙◌}
 use Rattle.std.proofs.Math.Path.{subst}
 use Rattle.sheet_model.specs.declared.pass.Pass.{Pass}
 use Rattle.sheet_loader.proofs.ElementStarts.{element_list}
@@ -14,6 +14,7 @@ use Rattle.sheet_loader.specs.Steps.{Enters}
 use Rattle.sheet_loader.specs.declared.draft.Draft.{Draft}
 use Rattle.sheet_loader.specs.declared.frame.Frame.{Frame}
 use Rattle.sheet_loader.specs.declared.item.Item.{Item}
+use Rattle.sheet_loader.specs.Lists.{IsOfElement}
 use Rattle.sheet_loader.proofs.draft.Draft.open.Goals as goal
 use Rattle.sheet_loader.proofs.draft.Draft.open.Goals.{After-drop-tag-5}
 
@@ -72,3 +73,12 @@ returns-clause-files c = opening_files _ _ _ _ _ _ _ _ _ _ _ _ _ _ _ _ (steps c)
 pub returns-clause-behind : goal.returns-clause-behind
 returns-clause-behind c = λ reads files first f.
     opening_answer _ _ _ _ _ _ _ _ _ _ _ _ _ _ _ _ (steps c) reads files first f c.wanted_file-wanted.result c.wanted_file-wanted.ensures.wanted
+
+pub returns-clause-lists : goal.returns-clause-lists
+returns-clause-lists c =
+    let s = steps c in
+    record {
+      element = subst (λ (x : Draft). IsOfElement x.top.opened) (sym s.is) tt;
+      around = s.below;
+      number = ap (λ (x : Draft). x.file.number) s.is;
+    }

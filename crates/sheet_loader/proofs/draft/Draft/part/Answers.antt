@@ -1,5 +1,5 @@
 -- The list of an element of a buffer's content stands within the innermost one.
-use Rattle.std.proofs.Common.{◌≡◌, ℕ, [], ◌∷◌, ◌++◌, length, ap, ◌∙◌}
+use Rattle.std.proofs.Common.{◌≡◌, ℕ, [], ◌∷◌, ◌++◌, length, ap, sym, ◌∙◌}
 use Rattle.std.proofs.lemmas.Result.{on_ok_weaker}
 use Rattle.sheet_loader.proofs.PartStarts.{part_list, part_start_answer, part_start_sound}
 use Rattle.sheet_loader.specs.Known.{known}
@@ -12,6 +12,8 @@ use Rattle.sheet_loader.specs.declared.frame.Opened.TheVariants as opened
 use Rattle.sheet_loader.specs.declared.inside.Before.TheVariants as before
 use Rattle.sheet_loader.specs.declared.inside.Inside.TheVariants as inside
 use Rattle.sheet_loader.specs.declared.names.NameSet.{NameSet}
+use Rattle.sheet_loader.specs.Lists.{IsOfElement}
+use Rattle.std.proofs.Math.Path.{subst}
 use Rattle.sheet_loader.proofs.draft.Draft.part.Goals as goal
 
 -- the list of the element, in a draft that has its start
@@ -69,3 +71,16 @@ returns-clause-files c =
     let list = c.list_within-list.result in
     on_ok_weaker c.push.result (λ e.
     ap names_of (pushed_is d c.add_start.new.self new c.args.tag list c.len-start.result c.len-start.ensures.value c.in_ok-add_start.ensures c.list_within-list.ensures.list e.0)) c.push.ensures
+
+pub returns-clause-lists : goal.returns-clause-lists
+returns-clause-lists c =
+    let d = c.args.self.now in
+    let new = c.push.new.self in
+    let list = c.list_within-list.result in
+    on_ok_weaker c.push.result (λ e.
+    let is = pushed_is d c.add_start.new.self new c.args.tag list c.len-start.result c.len-start.ensures.value c.in_ok-add_start.ensures c.list_within-list.ensures.list e.0 in
+    record {
+      element = subst (λ (x : Draft). IsOfElement x.top.opened) (sym is) tt;
+      around = e.1 ∙ ap (λ x. x.below.items ++ x.top ∷ []) c.in_ok-add_start.ensures;
+      number = ap (λ (x : Draft). x.file.number) is;
+    }) c.push.ensures

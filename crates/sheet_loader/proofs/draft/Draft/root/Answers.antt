@@ -9,6 +9,8 @@ use Rattle.sheet_loader.specs.Drafts.{version_taken}
 use Rattle.sheet_loader.specs.Judging.{is_transform_named}
 use Rattle.sheet_loader.specs.Named.{WantsFile, names_of}
 use Rattle.sheet_loader.specs.declared.draft.Draft.{Draft}
+use Rattle.sheet_loader.proofs.ListSteps.{opens_from}
+use Rattle.std.proofs.lemmas.Result.{on_ok_weaker}
 use Rattle.sheet_loader.proofs.draft.Draft.root.Goals as goal
 
 -- the version is taken from the attributes of the tag
@@ -45,3 +47,9 @@ returns-clause-behind c = λ reads files first f.
     let h : is_transform_named c.args.tag.name ≡ true = cc in
     root_behind d c.args.tag c.requires.sound c.requires.document c.take_version.new.self (taken d c.take_version.new.self c.as_slice.result.now c.args.tag.attrs c.take_version.ensures c.as_slice.ensures)
     h reads files first f c.element.new.self c.element.result (c.element.ensures.behind reads files first f)
+
+pub returns-clause-lists : goal.returns-clause-lists
+returns-clause-lists c =
+    let e = c.take_version.ensures in
+    on_ok_weaker c.element.result (λ opens.
+    opens_from c.args.self.now c.take_version.new.self c.element.new.self (ap (λ (x : Draft). x.below) e) (ap (λ (x : Draft). x.top) e) (ap (λ (x : Draft). x.file.number) e) opens) c.element.ensures.lists

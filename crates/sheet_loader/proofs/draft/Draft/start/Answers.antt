@@ -10,6 +10,7 @@ use Rattle.sheet_loader.specs.Remaining.{Reads_on, remaining}
 use Rattle.sheet_loader.specs.declared.draft.Draft.{Draft}
 use Rattle.sheet_loader.specs.declared.frame.OpenFile.{OpenFile}
 use Rattle.sheet_loader.specs.declared.refused.Stop.{Stop}
+use Rattle.sheet_loader.proofs.ListSteps.{opens_from}
 use Rattle.sheet_loader.proofs.draft.Draft.start.Goals as goal
 
 pub begin-requires-clause-sound : goal.begin-requires-clause-sound
@@ -47,3 +48,7 @@ returns-in-Err-clause-behind c = λ reads files first f.
     (told_at reads files x at c.begin.new.self f c.in-Err.refused
     (tag_from reads files (start_comes d c.args.offset c.args.name c.args.attrs c.args.decls c.declare.new.self c.len-around.result c.in_ok-declare.ensures c.len-around.ensures.value reads files first f)
     at c.begin.new.self f (Err c.in-Err.refused) (c.in-Err.ensures.behind reads files first f)))
+
+pub returns-in-Ok-clause-lists : goal.returns-in-Ok-clause-lists
+returns-in-Ok-clause-lists c =
+    opens_from c.args.self.now (record c.args.self.now { file = c.declare.new.self }) c.begin.new.self refl refl (ap (λ (g : OpenFile). g.number) c.in_ok-declare.ensures) c.in-Ok.ensures.lists

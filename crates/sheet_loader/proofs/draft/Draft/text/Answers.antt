@@ -1,5 +1,5 @@
 -- A text counts for nothing, or is refused, or is taken.
-use Rattle.std.proofs.Common.{ap, sym, ◌∙◌}
+use Rattle.std.proofs.Common.{ap, refl, sym, ◌∙◌}
 use Rattle.stx_base.specs.Course.{Halt}
 use Rattle.stx_base.specs.declared.fault.SheetCode.TheVariants as code
 use Rattle.sheet_loader.proofs.Resuming.{answer_then, equal_answer}
@@ -40,3 +40,6 @@ pub returns-clause-cdata : goal.returns-clause-cdata
 returns-clause-cdata c = λ reads files mark f.
     answer_then reads files (cdata_comes reads files (stage_of c.args.self.now) mark c.args.offset c.args.text f)
     (equal_answer reads files (taken_step c.args.self.now c.requires reads files c.args.offset c.args.text f c.add_text.new.self (sym c.counts_for_nothing.ensures ∙ c.if-counts_for_nothing.false) (sym c.allows_text.ensures ∙ c.if-not-allows_text.false) (c.in_ok-add_text.ensures.takes reads files f)))
+
+pub returns-then-counts_for_nothing-clause-lists : goal.returns-then-counts_for_nothing-clause-lists
+returns-then-counts_for_nothing-clause-lists c = record { top = refl; below = refl; number = refl }

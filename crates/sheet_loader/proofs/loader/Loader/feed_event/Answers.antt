@@ -3,9 +3,12 @@ use Rattle.std.proofs.Common.{◌≡◌, ap, sym, ◌∙◌}
 use Rattle.std.proofs.Math.Path.{subst}
 use Rattle.sheet_loader.proofs.LoaderSteps.{kept_over, spent_of}
 use Rattle.sheet_loader.specs.Loaders.{Standing, TakesEvent, wanted_in}
+use Rattle.sheet_loader.specs.Named.{names_of}
 use Rattle.sheet_loader.specs.Progress.{IsSoundBy, progress_in}
 use Rattle.sheet_loader.specs.Remaining.{Progress, Reads_on, Spent, Stage}
 use Rattle.sheet_loader.specs.declared.loader.Progress as loader
+use Rattle.sheet_loader.proofs.ListSteps.{files_are, lists_over}
+use Rattle.sheet_loader.specs.Lists.{FilesAre, KeepsLists}
 use Rattle.sheet_loader.proofs.loader.Loader.feed_event.Goals as goal
 
 reads_or_spent : (s : Stage) → Reads_on s ≡ Spent → ⊥
@@ -51,3 +54,25 @@ returns-in_default-clause-takes c =
 pub returns-in_default-clause-spent : goal.returns-in_default-clause-spent
 returns-in_default-clause-spent c = λ spent.
     absurd (c.in_default.not-Spent (spent_of c.self.inside.progress c.self.inside.draft (ap (λ (s : Standing). s.progress) c.self.view_is ∙ spent)))
+
+pub returns-in-Ok-clause-lists : goal.returns-in-Ok-clause-lists
+returns-in-Ok-clause-lists c =
+    let d = c.self.inside.draft in
+    subst (λ (q : loader.Progress). KeepsLists c.args.event c.args.self.now.progress (progress_in q c.advance.new.draft)) (sym c.turn_to.ensures)
+    (subst (λ (o : Progress). KeepsLists c.args.event o (progress_in c.in-Ok.progress c.advance.new.draft))
+    (ap (λ (p : loader.Progress). progress_in p d) (sym c.in-Reads.is) ∙ ap (λ (s : Standing). s.progress) c.self.view_is)
+    c.in-Ok.ensures.lists)
+
+pub returns-in_default-clause-lists : goal.returns-in_default-clause-lists
+returns-in_default-clause-lists c =
+    let d = c.self.inside.draft in
+    let p = c.self.inside.progress in
+    let e = ap (λ (s : Standing). s.progress) c.self.view_is in
+    subst (λ (o : Progress). KeepsLists c.args.event o o) e (lists_over p d c.args.event (ap wanted_in e ∙ c.requires) c.in_default.not-Reads)
+
+pub returns-in-Ok-clause-files : goal.returns-in-Ok-clause-files
+returns-in-Ok-clause-files c =
+    subst (λ (q : loader.Progress). FilesAre (names_of c.advance.new.draft) (progress_in q c.advance.new.draft)) (sym c.turn_to.ensures) (files_are c.in-Ok.progress c.advance.new.draft)
+
+pub returns-in_default-clause-files : goal.returns-in_default-clause-files
+returns-in_default-clause-files c = subst (λ (s : Standing). FilesAre s.names s.progress) c.self.view_is (files_are c.self.inside.progress c.self.inside.draft)

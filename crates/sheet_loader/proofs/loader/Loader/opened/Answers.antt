@@ -5,6 +5,8 @@ use Rattle.sheet_loader.proofs.LoaderSteps.{name_kept, opens_it, opens_name, ope
 use Rattle.sheet_loader.specs.Loaders.{OpensIt, Standing, wanted_in}
 use Rattle.sheet_loader.specs.Progress.{IsSoundBy, progress_in}
 use Rattle.sheet_loader.specs.declared.loader.Progress as loader
+use Rattle.sheet_loader.proofs.ListSteps.{opens_list, opens_no_list}
+use Rattle.sheet_loader.specs.Lists.{OpensList}
 use Rattle.sheet_loader.proofs.loader.Loader.opened.Goals as goal
 
 some_none : {a : List ℕ} → Some a ≡ None → ⊥
@@ -62,3 +64,14 @@ returns-in_default-clause-names c =
 
 pub returns-in_default-clause-other : goal.returns-in_default-clause-other
 returns-in_default-clause-other c = λ none. (refl, ap (λ (p : loader.Progress). standing p c.self.inside.draft) (c.turn_to-in_default.ensures ∙ c.replace.ensures.value) ∙ c.self.view_is)
+
+pub returns-in-Ok-clause-list : goal.returns-in-Ok-clause-list
+returns-in-Ok-clause-list c =
+    let d = c.self.inside.draft in
+    subst (λ (p : loader.Progress). OpensList c.args.self.now (standing p c.include.new.self)) (sym c.replace.ensures.after)
+    (opens_list c.args.self.now d c.include.new.self c.in-Wants.name c.in-Wants.field-1 (ap (λ (p : loader.Progress). standing p d) (sym c.in-Wants.is ∙ c.replace.ensures.value) ∙ c.self.view_is) c.in-Ok.ensures.list)
+
+pub returns-in_default-clause-list : goal.returns-in_default-clause-list
+returns-in_default-clause-list c =
+    let d = c.self.inside.draft in
+    opens_no_list c.args.self.now c.replace.result d (ap (λ (p : loader.Progress). standing p d) c.replace.ensures.value ∙ c.self.view_is) c.in_default.not-Wants (standing c.turn_to-in_default.new.self d)
