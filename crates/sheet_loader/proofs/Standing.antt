@@ -39,7 +39,7 @@ use Rattle.sheet_loader.specs.Tags.{path_fault}
 use Rattle.sheet_loader.specs.Values.{Reads}
 
 -- no list within an element is that of a document
-inner_lists : (around : Inside) (kind : Kind) (s : Bool) → is_own (inside_of around kind s) ≡ false
+pub inner_lists : (around : Inside) (kind : Kind) (s : Bool) → is_own (inside_of around kind s) ≡ false
 inner_lists around element.Transform s = refl
 inner_lists around element.Group s = refl
 inner_lists around element.Template s = refl

@@ -27,6 +27,7 @@ pub mod Resuming
 pub mod Rows
 pub mod Sorting
 pub mod Sound
+pub mod Sounding
 pub mod Standing
 pub mod Standings
 pub mod Steps
@@ -34,3 +35,4 @@ pub mod Tags
 pub mod Taking
 pub mod Values
 pub mod Versions
+pub mod Weighing

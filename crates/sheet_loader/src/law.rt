@@ -6,8 +6,10 @@ ghost use Rattle.sheet_loader.specs.Laws.{ComesToOne, LoadsAsBefore, ReadsInOneW
 ghost use Rattle.sheet_loader.specs.Reading.{File};
 ghost use Rattle.sheet_loader.specs.Resuming.{Begins, CutsList, EndsList, OpensElement, OpensFile, OpensLiteral, OpensPart, PassesOver, TakesElement, TakesText};
 ghost use Rattle.sheet_loader.specs.Rows.{Again, Empty, Included, Includes, Kinds, Lost, Missing, NoBranch, NoElement, NoName, NoTransform, OtherVersion, OutOfPlace, Sections, SpaceInPlace, TextOutOfPlace, UnknownBeforeMissing, Waits};
+ghost use Rattle.sheet_loader.specs.Sounding.{LoadedIsSound};
 ghost use Rattle.sheet_loader.specs.Standing.{GivenStands};
 ghost use Rattle.sheet_loader.specs.Values.{Reads};
+ghost use Rattle.sheet_loader.specs.Weighing.{DocumentsWeighLittle, GivenIsFew};
 
 /// Texts of the path language are read in one way, which the definitions of sheets are given.
 pub fn readings()
@@ -27,6 +29,17 @@ pub fn versions()
 /// In a sheet that is given the groups are a tree, each number in it names an entry, and the files are those that were opened.
 pub fn standing()
     ensures { GivenStands }
+{}
+
+/// A sheet that is loaded is sound, where documents may nest no deeper than bodies, if it is small enough to be numbered.
+pub fn soundness()
+    ensures { LoadedIsSound }
+{}
+
+/// A sheet has few entries beside what its files weigh, and these weigh no more than they have bytes.
+pub fn weighing()
+    ensures sheets { GivenIsFew }
+    ensures documents { DocumentsWeighLittle }
 {}
 
 /// A buffer begins with the nodes of its element, written as they are.

@@ -1,5 +1,6 @@
 -- The wanted file is absent, or none is wanted.
-use Rattle.std.proofs.Common.{◌≡◌, List, ℕ, Option, Some, None, ap, false≢true, sym, ◌∙◌}
+use Rattle.std.proofs.Common.{◌≡◌, List, ℕ, Option, Some, None, ap, sym, ◌∙◌}
+use Rattle.std.proofs.lemmas.Bool.{false≢true}
 use Rattle.std.specs.Prelude.{IsSome}
 use Rattle.std.proofs.Math.Path.{subst}
 use Rattle.sheet_loader.proofs.LoaderSteps.{misses_it, misses_none, standing}
