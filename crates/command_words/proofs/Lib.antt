@@ -4,4 +4,5 @@ pub mod GivenUses
 pub mod Numerals
 pub mod Params
 pub mod Reading
+pub mod Twice
 pub mod Wanted

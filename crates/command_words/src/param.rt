@@ -1,10 +1,10 @@
-ghost use Rattle.std.specs.Prelude.{◌≡◌, IfOk, bytes_eq, map};
+ghost use Rattle.std.specs.Prelude.{◌≡◌, IfOk, map};
 ghost use Rattle.std.specs.Str.{chars};
-ghost use Rattle.std.specs.List.{list_any};
 ghost use Rattle.command_words.specs.Words.{Reads, ReadsItems, each_param, has_twice, param_of, params_of};
 
 use crate::fault::WordsFault;
 use std::alloc::Global;
+use std::collections::BTreeSet;
 use stx_base::{List, Memory, Text, is_ncname};
 
 /// A parameter's name and the text that it is given.
@@ -19,7 +19,7 @@ pub(crate) fn read_params(alloc: Global, words: &[&str]) -> Result<List<Param>, 
     ensures { Reads (params_of (map (λ word. word.now) words.now)) result }
 {
     let params = each_param(alloc, words)?;
-    if has_twice(params.as_slice()) {
+    if has_twice(alloc, params.as_slice())? {
         return Err(WordsFault::Usage);
     }
     Ok(List::from_vec(params))
@@ -54,25 +54,15 @@ fn make_param(alloc: Global, name: &str, value: &str) -> Result<Param, Memory>
     Ok(Param { name, value })
 }
 
-// Two have one name.
-fn has_twice(params: &[Param]) -> bool
-    ensures { result ≡ has_twice params.now }
+// Two have one name. The names are kept in a set, so that none is looked for one by one.
+fn has_twice(alloc: Global, params: &[Param]) -> Result<bool, Memory>
+    ensures { IfOk result (λ found. found ≡ has_twice params.now) }
 {
-    match params.split_first() {
-        Some((first, others)) => is_among(first, others) || has_twice(others),
-        None => false,
+    let mut names: BTreeSet<&str> = BTreeSet::new(alloc);
+    for param in params {
+        if !names.insert(param.name.as_str())? {
+            return Ok(true);
+        }
     }
-}
-
-// One of them has the name of the first.
-fn is_among(first: &Param, others: &[Param]) -> bool
-    ensures { result ≡ list_any (λ other. bytes_eq other.name first.now.name) others.now }
-{
-    others.iter().any(|other| has_name(other, &first.name))
-}
-
-fn has_name(param: &Param, name: &Text) -> bool
-    ensures { result ≡ bytes_eq param.now.name name.now }
-{
-    param.name.same(name)
+    Ok(false)
 }
