@@ -89,3 +89,20 @@ fn locals(rt: HostRuntime) -> Result<(), Fail> {
     assert_eq!(rt; shown(locals.value(0)), Some(0));
     Ok(())
 }
+
+#[test]
+fn grown(rt: HostRuntime) -> Result<(), Fail> {
+    let alloc = rt.alloc();
+    let mut frames = Frames::new(alloc, 1);
+    assert_eq!(rt; frames.push(body(alloc, 1)), Ok(()));
+    assert_eq!(rt; frames.count(), 1);
+    assert_eq!(rt;
+        frames.push_local(0, name(alloc, "n")?, whole(alloc, 5)?),
+        Ok(())
+    );
+    assert_eq!(rt; frames.count(), 1);
+    frames.set_pc(0, 8);
+    assert_eq!(rt; frames.count(), 1);
+    assert!(rt; matches!(frames.at(0), Frame::Body { pc: 8, locals, .. } if locals.len() == 1));
+    Ok(())
+}
