@@ -4,6 +4,7 @@ use Rattle.std.proofs.Common.{◌≡◌, ℕ, ◌+◌, ◌≤◌, true, List, []
 use Rattle.stx_base.specs.Course.{Ret, Halt, Ask, and_then, Over, Ends}
 use Rattle.stx_base.proofs.Termination.{safe_then, safe_more, has_end, end_at}
 use Rattle.stx_base.specs.declared.fault.Place.{Place}
+use Rattle.stx_base.specs.declared.node.NodeTest.{NodeTest}
 use Rattle.node_stack.specs.Path.{Node}
 use Rattle.sheet_model.specs.declared.instr.Instr.{Instr, out-Instr}
 use Rattle.stxpath_syntax.specs.declared.expr.Expr.{Expr}
@@ -16,7 +17,7 @@ use Rattle.template_machine.specs.Job.{Given, State, Source, Main, Opened, Here,
 use Rattle.template_machine.specs.Meaning.{asked_first, at_document, body, code, ending_of, ends_some, exec, first_here, head, list, meaning, nodes, siblings, taken}
 use Rattle.template_machine.specs.Outcome.{AreNew, deep_enough, outcome, end_own, own, size}
 use Rattle.template_machine.specs.Passing.{node}
-use Rattle.template_machine.specs.Trail.{document, element_node, first_by, leaf_node, stands}
+use Rattle.template_machine.specs.Trail.{document, element_node, first_by, leaf_node, stands, without_place}
 use Rattle.template_machine.specs.Values.{setting, truth_of}
 use Rattle.template_machine.proofs.Running.{act_ok}
 use Rattle.template_machine.proofs.Total.{node_ok}
@@ -57,7 +58,7 @@ module _ (given : Given) (new : AreNew given) where
       (omega arith, f))
 
   -- a head that was begun, and the siblings behind it
-  head_ok : (w n : ℕ) (x : Node) (kids : Option Forest) (whole next : Forest) (earlier : List Node) (asked : Asked) (st : State) → st.fuel ≤ full given → size (full given) asked.level.source whole ≡ kids_size given asked.level.source kids + size (full given) asked.level.source next + 1 → size (full given) asked.level.source whole + st.fuel ≤ n → n ≤ w → Ok given w (Remaining given asked.level.source n) (head given x kids whole next earlier asked st)
+  head_ok : (w n : ℕ) (x : Node) (kids : Option Forest) (whole next : Forest) (earlier : NodeTest → ℕ) (asked : Asked) (st : State) → st.fuel ≤ full given → size (full given) asked.level.source whole ≡ kids_size given asked.level.source kids + size (full given) asked.level.source next + 1 → size (full given) asked.level.source whole + st.fuel ≤ n → n ≤ w → Ok given w (Remaining given asked.level.source n) (head given x kids whole next earlier asked st)
   head_ok w n x kids whole next earlier asked st f e l m =
       let source = asked.level.source in
       let P = Remaining given source n in
@@ -78,7 +79,7 @@ module _ (given : Given) (new : AreNew given) where
   end_begun Main = refl
   end_begun (Opened d at number) = refl
 
-  nodes_ok : (earlier : List Node) (coming : Forest) (asked : Asked) (st : State) → st.fuel ≤ full given → let n = size (full given) asked.level.source coming + st.fuel in Ok given n (Remaining given asked.level.source n) (nodes given earlier coming asked st)
+  nodes_ok : (earlier : NodeTest → ℕ) (coming : Forest) (asked : Asked) (st : State) → st.fuel ≤ full given → let n = size (full given) asked.level.source coming + st.fuel in Ok given n (Remaining given asked.level.source n) (nodes given earlier coming asked st)
   nodes_ok earlier (End m offset) asked st f =
       let e = ended_fits given asked.level.source m st f in
       let z = end_begun asked.level.source in (omega (arith, e.1, z), e.0)
@@ -87,15 +88,15 @@ module _ (given : Given) (new : AreNew given) where
       let source = asked.level.source in
       let n = size (full given) source (Single m leaf next) + st.fuel in
       let o = own_begun source in
-      begin_ok given n (Remaining given source n) source (is_begun m) st (λ t. head given (leaf_node leaf) None (Single Begun leaf next) next earlier asked t) f
-      (λ t g l. head_ok n n (leaf_node leaf) None (Single Begun leaf next) next earlier asked t g (omega arith) (omega arith) (omega arith))
+      begin_ok given n (Remaining given source n) source (is_begun m) st (λ t. head given (leaf_node leaf) None (Single Begun (without_place leaf) next) next earlier asked t) f
+      (λ t g l. head_ok n n (leaf_node leaf) None (Single Begun (without_place leaf) next) next earlier asked t g (omega arith) (omega arith) (omega arith))
   nodes_ok earlier (Nested stage x kids next) asked st f =
       let source = asked.level.source in
       let n = size (full given) source (Nested stage x kids next) + st.fuel in
       let o = own_begun source in
       ready_ok given n (Remaining given source n) source stage kids _
-      (begin_ok given n (Remaining given source n) source (is_entered stage) st (λ t. head given (element_node stage x kids) (Some kids) (Nested (Entered (first_by stage kids)) x kids next) next earlier asked t) f
-      (λ t g l. head_ok n n (element_node stage x kids) (Some kids) (Nested (Entered (first_by stage kids)) x kids next) next earlier asked t g (omega arith) (omega arith) (omega arith)))
+      (begin_ok given n (Remaining given source n) source (is_entered stage) st (λ t. head given (element_node stage x kids) (Some kids) (Nested (Entered (first_by stage kids)) (record x { offset = 0 }) kids next) next earlier asked t) f
+      (λ t g l. head_ok n n (element_node stage x kids) (Some kids) (Nested (Entered (first_by stage kids)) (record x { offset = 0 }) kids next) next earlier asked t g (omega arith) (omega arith) (omega arith)))
 
   code_ok : (q : Job) → Pre given q → Ok given (weight given q) (Post given q) (code given q)
   code_ok (Nodes left asked st) f = nodes_ok left.earlier left.coming asked st f

@@ -1,5 +1,5 @@
 -- A list of instructions leaves the locals that were there.
-use Rattle.std.proofs.Common.{◌≡◌, inl, inr, ℕ, zero, suc, ◌+◌, nat_lt, Bool, true, false, List, [], ◌∷◌, ◌++◌, Option, Some, None, Result, Ok as Fine, Err, refl, sym, subst, if◌then◌else◌, map}
+use Rattle.std.proofs.Common.{◌≡◌, inl, inr, ℕ, zero, suc, ◌+◌, nat_lt, Bool, true, false, List, [], ◌∷◌, ◌++◌, Option, Some, None, Result, Ok as Fine, Err, refl, sym, subst, if◌then◌else◌}
 use Rattle.stx_base.specs.Course.{Ret, Halt, Ask}
 use Rattle.stx_base.specs.declared.fault.Place.{Place}
 use Rattle.stx_base.specs.declared.fault.RunCode.TheVariants as run_code
@@ -26,7 +26,7 @@ use Rattle.template_machine.specs.Job.{Given, State, Source, Here, Self, Job, No
 use Rattle.template_machine.specs.Laws.{names}
 use Rattle.template_machine.specs.Passing.{again, attributes, back, children, choice, enters, finish, gone, group_at, instance, kinds_in, leaf_parts, node, parts_before, parts_behind, pass_around, pass_leaf, pass_node, passed_on, returns, run_as, runs, template_at}
 use Rattle.template_machine.specs.Putting.{kept_in, put_out, put_to, puts, unless_fault, unless_refused}
-use Rattle.template_machine.specs.Trail.{Trail, current, stands}
+use Rattle.template_machine.specs.Trail.{Trail, current, passing_among, stands}
 use Rattle.template_machine.specs.Values.{atoms_of, got, setting}
 use Rattle.template_machine.proofs.Holding.{Holds, holds_more, holds_then}
 use Rattle.template_machine.proofs.Locals.{Grows}
@@ -174,7 +174,7 @@ module _ (given : Given) where
   pub attributes_ok : (P : Here → Type 0) (earlier coming : List Attr) (asked : Asked) (st : State) (go : State → Does) → ((t : State) → Ok P (go t)) → Ok P (attributes given earlier coming asked st go)
   attributes_ok P earlier [] asked st go h = h st
   attributes_ok P earlier (x ∷ xs) asked st go h =
-      let trail = stands (Attribute x) (map (λ (y : Attr). Attribute y) earlier) asked.within in
+      let trail = stands (Attribute x) (passing_among earlier) asked.within in
       holds_then Post P (node given asked trail (single st)) (λ b. attributes given (earlier ++ x ∷ []) xs asked b.state go)
       (holds_more Post (λ b. Unit {0}) (λ b. Ok P (attributes given (earlier ++ x ∷ []) xs asked b.state go)) (node given asked trail (single st))
       (λ b u. attributes_ok P (earlier ++ x ∷ []) xs asked b.state go h) (any_node asked trail (single st)))

@@ -13,6 +13,7 @@ pub mod Keeping
 pub mod Kept
 pub mod Copying
 pub mod Resuming
+pub mod Positions
 pub mod Stopping
 pub mod Arms
 pub mod Around

@@ -3,6 +3,7 @@ use Rattle.std.proofs.Common.{◌≡◌, ℕ, Bool, true, false, List, [], ◌�
 use Rattle.stx_base.specs.Course.{Ret, Halt, Say, Ask, and_then, Ends}
 use Rattle.stx_base.proofs.Course.{and_then_assoc, unfolded, ends_said, stopped as stopped_so}
 use Rattle.stx_base.specs.declared.fault.Place.{Place}
+use Rattle.stx_base.specs.declared.node.NodeTest.{NodeTest}
 use Rattle.stx_base.specs.declared.part.Part.{Part}
 use Rattle.node_stack.specs.Path.{Node, Document}
 use Rattle.result_writer.specs.Target.{Left, fault, next, nothing}
@@ -20,7 +21,7 @@ use Rattle.template_machine.specs.Meaning.{asked_first, at_document, code, endin
 use Rattle.template_machine.specs.Passed.{Passed, PassesThrough, Run, put, unless_stopped, then_put, once_ready, passed, run_from, unless_refused, with_first, ends, starts, passing_run}
 use Rattle.template_machine.specs.Passing.{choice, finish, gone, group_at, kinds_in, leaf_parts, node, pass_leaf, pass_node, passed_on, runs, template_at}
 use Rattle.template_machine.specs.Putting.{put_out, put_to, puts, unless_fault}
-use Rattle.template_machine.specs.Trail.{Trail, current, document, element_node, first_by, leaf_node, scope_of, stands}
+use Rattle.template_machine.specs.Trail.{Trail, current, document, element_node, first_by, leaf_node, one_more, scope_of, stands, without_place}
 use Rattle.template_machine.specs.Values.{pattern_setting}
 
 module _ (given : Given) where
@@ -81,7 +82,7 @@ module _ (given : Given) where
   begun_has true s go k r h = h s.fuel
   begun_has false s go k r h = h given.limits.fuel
 
-  by_call : (earlier : List Node) (coming : Forest) (asked : Asked) (s : State) (k : Here → Does) (r : Run) → Has (and_then (nodes given earlier coming asked s) k) r → Has (Ask (Nodes (record { earlier = earlier; coming = coming }) asked s) k) r
+  by_call : (earlier : NodeTest → ℕ) (coming : Forest) (asked : Asked) (s : State) (k : Here → Does) (r : Run) → Has (and_then (nodes given earlier coming asked s) k) r → Has (Ask (Nodes (record { earlier = earlier; coming = coming }) asked s) k) r
   by_call earlier coming asked s k r h = (unfolded (code given) (Nodes (record { earlier = earlier; coming = coming }) asked s) k).from (map Put r.parts) r.ending h
 
   by_ready : (stage : Stage) (kids : Forest) (p : Passed) (s : State) (k : Here → Does) (R : Left → Run) (go : Does) → Has (and_then go k) (run_then s.result p.parts p.stop R) → Has (and_then (when_ready Main stage kids go) k) (run_then s.result (once_ready stage kids p).parts (once_ready stage kids p).stop R)
@@ -115,7 +116,7 @@ module _ (given : Given) where
         ap (λ o. elim o [ None ↦ pass_node given asked.at asked.base asked.level.source trail (current trail) a | Some c ↦ runs given asked.at asked.params c (template_at given c) [] asked.level trail a (finish given asked.level.source) ]) e
 
     -- a head that is passed through, and then its siblings and k
-    head_has : (x : Node) (kids : Option Forest) (whole next : Forest) (earlier : List Node) (within : Trail) (s : State) (k : Here → Does) (r : Run) → Has (and_then (pass_node given base_at 0 Main (stands x earlier within) x (taken x kids next earlier s)) (λ b. Ask (Nodes b.left (passed_on given 0 Main within) b.state) k)) r → Has (and_then (head given x kids whole next earlier (passed_on given 0 Main within) s) k) r
+    head_has : (x : Node) (kids : Option Forest) (whole next : Forest) (earlier : NodeTest → ℕ) (within : Trail) (s : State) (k : Here → Does) (r : Run) → Has (and_then (pass_node given base_at 0 Main (stands x earlier within) x (taken x kids next earlier s)) (λ b. Ask (Nodes b.left (passed_on given 0 Main within) b.state) k)) r → Has (and_then (head given x kids whole next earlier (passed_on given 0 Main within) s) k) r
     head_has x kids whole next earlier within s k r h =
         let asked = passed_on given 0 Main within in
         let trail = stands x earlier within in
@@ -123,10 +124,10 @@ module _ (given : Given) where
         subst (λ y. Has y r) (sym (and_then_assoc (node given asked trail a) (siblings asked) k))
         (subst (λ y. Has (and_then y (λ b. Ask (Nodes b.left asked b.state) k)) r) (sym (node_passes asked trail a)) h)
 
-    does-so : (list : Forest) (earlier : List Node) (within : Trail) (s : State) (k : Here → Does) (R : Left → Run) → s.targets ≡ [] → Goes_on k R → let p = passed kinds (scope_of within) list in Has (Ask (Nodes (record { earlier = earlier; coming = list }) (passed_on given 0 Main within) s) k) (run_then s.result p.parts p.stop R)
+    does-so : (list : Forest) (earlier : NodeTest → ℕ) (within : Trail) (s : State) (k : Here → Does) (R : Left → Run) → s.targets ≡ [] → Goes_on k R → let p = passed kinds (scope_of within) list in Has (Ask (Nodes (record { earlier = earlier; coming = list }) (passed_on given 0 Main within) s) k) (run_then s.result p.parts p.stop R)
     does-so (End m offset) earlier within s k R e h =
         let d = ended_result m s in
-        by_call earlier (End m offset) (passed_on given 0 Main within) s k (R s.result) (let b = remains (record { earlier = earlier; coming = End Begun offset }) (ended given Main m s) in subst (λ l. Has (k b) (R l)) d.0 (h b (d.1 ∙ e)))
+        by_call earlier (End m offset) (passed_on given 0 Main within) s k (R s.result) (let b = remains (record { earlier = earlier; coming = End Begun 0 }) (ended given Main m s) in subst (λ l. Has (k b) (R l)) d.0 (h b (d.1 ∙ e)))
     does-so (Cut why) earlier within s k R e h =
         by_call earlier (Cut why) (passed_on given 0 Main within) s k (record { parts = []; ending = unready Main why }) (stopped_so (code given) [] (unready Main why))
     does-so (Single m leaf next) earlier within s k R e h =
@@ -138,12 +139,12 @@ module _ (given : Given) where
         let r = run_then s.result (parts ++ q.parts) q.stop R in
         let on = λ (b : Here). Ask (Nodes b.left asked b.state) k in
         by_call earlier (Single m leaf next) asked s k r
-        (begun_has (is_begun m) s (λ t. head given x None (Single Begun leaf next) next earlier asked t) k r
+        (begun_has (is_begun m) s (λ t. head given x None (Single Begun (without_place leaf) next) next earlier asked t) k r
         (λ f. let t = record s { fuel = f } in let a = taken x None next earlier t in
-        head_has x None (Single Begun leaf next) next earlier within t k r
+        head_has x None (Single Begun (without_place leaf) next) next earlier within t k r
         (subst (λ y. Has (and_then y on) r) (sym (leaf_passes leaf trail a))
         (subst (λ y. Has (and_then (pass_leaf given 0 kinds x a) on) y) (sym (then-append s.result parts q.parts q.stop R))
-        (puts_has parts t (λ u. Ret (with_state a u)) on (λ l. run_then l q.parts q.stop R) e (λ u d. does-so next (earlier ++ x ∷ []) within u k R d h))))))
+        (puts_has parts t (λ u. Ret (with_state a u)) on (λ l. run_then l q.parts q.stop R) e (λ u d. does-so next (one_more x earlier) within u k R d h))))))
     does-so (Nested stage x kids next) earlier within s k R e h =
         let asked = passed_on given 0 Main within in
         let n = element_node stage x kids in
@@ -158,18 +159,18 @@ module _ (given : Given) where
         let on = λ (b : Here). Ask (Nodes b.left asked b.state) k in
         by_call earlier (Nested stage x kids next) asked s k _
         (by_ready stage kids p s k R _
-        (begun_has (is_entered stage) s (λ t. head given n (Some kids) (Nested (Entered (first_by stage kids)) x kids next) next earlier asked t) k r
+        (begun_has (is_entered stage) s (λ t. head given n (Some kids) (Nested (Entered (first_by stage kids)) (record x { offset = 0 }) kids next) next earlier asked t) k r
         (λ f. let t = record s { fuel = f } in let a = taken n (Some kids) next earlier t in
         let behind = λ (u : State) (b : Here). puts given base_at last b.state (λ v. Ret (with_state (gone (with_state a u) b.state) v)) in
         let go = λ (u : State). Ask (Nodes (all_of kids) (passed_on given 0 Main trail) u) (behind u) in
-        head_has n (Some kids) (Nested (Entered (first_by stage kids)) x kids next) next earlier within t k r
+        head_has n (Some kids) (Nested (Entered (first_by stage kids)) (record x { offset = 0 }) kids next) next earlier within t k r
         (subst (λ y. Has (and_then (puts given base_at first t go) on) y) (sym (then-append s.result first (then_put inside q).parts (then_put inside q).stop R))
         (puts_has first t go on (λ l. run_then l (then_put inside q).parts (then_put inside q).stop R) e
         (λ u d. subst (λ y. Has (and_then (go u) on) y) (sym (then-then u.result inside q R))
-        (does-so kids [] trail u (λ b. and_then (behind u b) on) (λ l. run_then l q.parts q.stop R) d
+        (does-so kids (λ t. 0) trail u (λ b. and_then (behind u b) on) (λ l. run_then l q.parts q.stop R) d
         (λ b c. subst (λ y. Has (and_then (behind u b) on) y) (sym (then-append b.state.result last others.parts others.stop R))
         (puts_has last b.state (λ v. Ret (with_state (gone (with_state a u) b.state) v)) on (λ l. run_then l others.parts others.stop R) c
-        (λ v g. does-so next (earlier ++ n ∷ []) within v k R g h))))))))))
+        (λ v g. does-so next (one_more n earlier) within v k R g h))))))))))
 
     pub passes : given.sheet.variables ≡ [] → (list : Forest) → Has (meaning given list) (passing_run given list)
     passes bare list =
@@ -182,7 +183,7 @@ module _ (given : Given) where
         subst (λ vs. Has (makes given (λ v. true) [] vs (at_document given) st start) r) (sym bare)
         (subst (λ y. Has (and_then y over) r) (sym (node_passes (asked_first given) (document ∷ []) a))
         (subst (λ y. Has (and_then (pass_node given base_at 0 Main (document ∷ []) Document a) over) y) (then-end nothing p.parts p.stop)
-        (does-so list [] (document ∷ []) st (λ b. and_then (Ret (with_state (gone a b.state) b.state)) over) (λ t. record { parts = []; ending = ending_of given t }) refl
+        (does-so list (λ t. 0) (document ∷ []) st (λ b. and_then (Ret (with_state (gone a b.state) b.state)) over) (λ t. record { parts = []; ending = ending_of given t }) refl
         (λ b e. stopped_so (code given) [] (ending_of given b.state.result)))))
 
 pub passes_through : PassesThrough

@@ -1,5 +1,5 @@
 -- Each run has an end.
-use Rattle.std.proofs.Common.{◌≡◌, ℕ, ◌+◌, ◌<◌, ◌≤◌, nat_lt, List, [], ◌∷◌, ◌++◌, Option, Some, None, refl, ap, arith, map}
+use Rattle.std.proofs.Common.{◌≡◌, ℕ, ◌+◌, ◌<◌, ◌≤◌, nat_lt, List, [], ◌∷◌, ◌++◌, Option, Some, None, refl, ap, arith}
 use Rattle.stx_base.specs.Course.{Ret, Halt, Ask}
 use Rattle.stx_base.proofs.Termination.{safe_then, safe_more}
 use Rattle.stx_base.specs.declared.fault.Place.{Place}
@@ -16,7 +16,7 @@ use Rattle.template_machine.specs.Fuel.{skip}
 use Rattle.template_machine.specs.Job.{Given, State, Source, Main, Opened, Here, Self, Nodes, Body, Does, Level, Asked, all_of, with_state, single}
 use Rattle.template_machine.specs.Passing.{again, attributes, back, children, choice, finish, gone, enters, instance, kinds_in, leaf_parts, node, parts_before, parts_behind, pass_around, pass_leaf, pass_node, passed_on, returns, run_as, runs, group_at, template_at}
 use Rattle.template_machine.specs.Putting.{puts}
-use Rattle.template_machine.specs.Trail.{Trail, current, stands}
+use Rattle.template_machine.specs.Trail.{Trail, current, passing_among, stands}
 use Rattle.var_store.specs.declared.bound.Bound.{Bound}
 use Rattle.template_machine.proofs.Weighing.{amount, kids_size, weight, Pre, Post, Left, Ok, full, puts_ok, makes_scope_ok, binds_ok, either_ok, skip_ok, scope_fuel}
 
@@ -110,7 +110,7 @@ module _ (given : Given) where
     attributes_ok earlier [] asked st go f l h = h st (omega arith)
     attributes_ok earlier (x ∷ xs) asked st go f l h =
         let none = alone_amount asked.level.source st in
-        let trail = stands (Attribute x) (map (λ (y : Attr). Attribute y) earlier) asked.within in
+        let trail = stands (Attribute x) (passing_among earlier) asked.within in
         safe_then (weight given) (Pre given) (Post given) w P (node given asked trail (single st)) (λ b. attributes given (earlier ++ x ∷ []) xs asked b.state go)
         (safe_more (weight given) (Pre given) (Post given) w w (Left given asked.level.source (amount given asked.level.source (single st))) (λ b. Ok given w P (attributes given (earlier ++ x ∷ []) xs asked b.state go)) (node given asked trail (single st)) (omega arith)
         (λ b r. attributes_ok (earlier ++ x ∷ []) xs asked b.state go r.1 (omega (arith, r.0, none)) (λ t m. h t (omega (arith, r.0, none))))

@@ -4,7 +4,6 @@ use Rattle.stx_base.specs.Course.{Course}
 use Rattle.stx_base.specs.declared.fault.Place.{Place}
 use Rattle.stx_base.specs.declared.limits.Limits.{Limits}
 use Rattle.stx_base.specs.declared.node.NodeTest.{NodeTest}
-use Rattle.node_stack.specs.Path.{Node}
 use Rattle.result_writer.specs.Target.{Left}
 use Rattle.sheet_model.specs.declared.instr.Instr.{Instr}
 use Rattle.sheet_model.specs.declared.sheet.Sheet.{Sheet}
@@ -53,9 +52,9 @@ pub record Level : Type 0 where
   pub instances : ℕ
   pub source : Source
 
--- Nodes of a list: the earlier ones, the first one first, and those still to come.
+-- Nodes of a list: how many earlier ones pass each test, as far as positions tell, and those still to come.
 pub record Siblings : Type 0 where
-  pub earlier : List Node
+  pub earlier : NodeTest → ℕ
   pub coming : Forest
 
 -- What asks for nodes: a process instruction at a place, with the base group for them and the values that it hands to parameters.
@@ -103,7 +102,7 @@ sources_open (Opened document at number) = number
 
 -- a list of nodes from its beginning
 abbrev pub all_of : Forest → Siblings
-all_of list = record { earlier = []; coming = list }
+all_of list = record { earlier = λ t. 0; coming = list }
 
 abbrev pub with_state : Here → State → Here
 with_state a st = record a { state = st }

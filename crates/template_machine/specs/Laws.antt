@@ -1,11 +1,14 @@
 -- What is so of all runs.
 use Rattle.sheet_model.specs.Passing.{kinds}
-use Rattle.std.specs.Prelude.{◌≡◌, ◌⊎◌, ℕ, Bool, true, false, List, [], ◌∷◌, map}
+use Rattle.std.specs.Prelude.{◌≡◌, ◌⊎◌, ℕ, ◌+◌, Bool, true, false, List, [], ◌∷◌, ◌++◌, count_by, length, map}
 use Rattle.stx_base.specs.Course.{Gives, Halt}
 use Rattle.stx_base.specs.declared.name.Name.{Name}
 use Rattle.stx_base.specs.declared.part.Part.{Part}
 use Rattle.stx_base.specs.declared.part.Part.TheVariants as part
-use Rattle.node_stack.specs.Path.{Node, Element, Chars, CData, Comment, Pi, Attribute}
+use Rattle.stx_base.specs.declared.node.NodeTest.{NodeTest}
+use Rattle.node_stack.specs.Counts.{capped}
+use Rattle.node_stack.specs.Path.{Node, Element, Chars, CData, Comment, Pi, Attribute, kind_of, position}
+use Rattle.node_stack.specs.Test.{passes}
 use Rattle.sheet_model.specs.declared.instr.Instr.{Instr}
 use Rattle.sheet_model.specs.declared.pass.Pass.{Pass}
 use Rattle.sheet_model.specs.declared.pass.Pass.TheVariants as pass
@@ -17,7 +20,7 @@ use Rattle.template_machine.specs.Job.{Does, Given, Here, Self, Source, State}
 use Rattle.template_machine.specs.Meaning.{code, list}
 use Rattle.template_machine.specs.Passing.{leaf_parts, parts_before, parts_behind, start_parts}
 use Rattle.template_machine.specs.Putting.{attribute_part}
-use Rattle.template_machine.specs.Trail.{Trail}
+use Rattle.template_machine.specs.Trail.{Trail, one_more, path_of, stands}
 
 -- Passing over nodes says nothing, and changes nothing but the fuel: either the run ends there, or it goes on.
 abbrev pub SkipsSilently : Type 0
@@ -72,3 +75,15 @@ KeepsLocals =
     (given : Given) (is : List Instr) (self : Self) (a b : Here) (os : List Said)
     → Gives (code given) (list given is self a) os b
     → names b.locals ≡ names a.locals
+
+-- what is counted behind nodes of a list, the first one first
+abbrev pub behind : List Node → (earlier : NodeTest → ℕ) → NodeTest → ℕ
+behind [] earlier = earlier
+behind (n ∷ ns) earlier = behind ns (one_more n earlier)
+
+-- A position, for a test that a node on a way passes, is one plus how many of the earlier nodes of its list pass, as far as positions tell.
+abbrev pub PositionsCountEarlier : Type 0
+PositionsCountEarlier =
+    (ns : List Node) (n : Node) (within nearer : Trail) (t : NodeTest) → passes t (kind_of n) ≡ true
+    → position (path_of (nearer ++ stands n (behind ns (λ t. 0)) within)) (length within) t
+    ≡ capped (count_by (λ x. passes t (kind_of x)) ns) + 1

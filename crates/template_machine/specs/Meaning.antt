@@ -1,9 +1,10 @@
 -- What a run of a sheet does with a document.
 use Rattle.sheet_model.specs.Parts.{place}
-use Rattle.std.specs.Prelude.{Bool, true, false, not, ◌||◌, if◌then◌else◌, List, [], ◌∷◌, ◌++◌, Option, Some, None}
+use Rattle.std.specs.Prelude.{ℕ, Bool, true, false, not, ◌||◌, if◌then◌else◌, List, [], ◌∷◌, Option, Some, None}
 use Rattle.std.specs.List.{list_any}
 use Rattle.stx_base.specs.Course.{Ret, Halt, Ask, and_then}
 use Rattle.stx_base.specs.declared.fault.RunCode.TheVariants as run_code
+use Rattle.stx_base.specs.declared.node.NodeTest.{NodeTest}
 use Rattle.stx_base.specs.declared.node.NodeTest.TheVariants as test
 use Rattle.node_stack.specs.Path.{Node}
 use Rattle.result_writer.specs.Target.{Left, is_closed}
@@ -15,13 +16,13 @@ use Rattle.template_machine.specs.Ending.{Ending, Done, fault_at}
 use Rattle.template_machine.specs.Fuel.{begin, ended, is_begun, is_entered, spend, unready, when_ready}
 use Rattle.template_machine.specs.Job.{Asked, Body, Condition, Does, Given, Here, Job, Loop, Main, Nodes, Self, State, fresh, remains, single, with_state}
 use Rattle.template_machine.specs.Passing.{group_at, node}
-use Rattle.template_machine.specs.Trail.{Trail, document, element_node, first_by, leaf_node, stands}
+use Rattle.template_machine.specs.Trail.{Trail, document, element_node, first_by, leaf_node, one_more, stands, without_place}
 use Rattle.template_machine.specs.Values.{fits_there, pattern_setting}
 
 -- where a node stands that is taken from a list: its children, and the siblings behind it
-abbrev pub taken : Node → (kids : Option Forest) → (next : Forest) → (earlier : List Node) → State → Here
+abbrev pub taken : Node → (kids : Option Forest) → (next : Forest) → (earlier : NodeTest → ℕ) → State → Here
 taken n kids next earlier st =
-    record { kids = kids; left = record { earlier = earlier ++ n ∷ []; coming = next }; locals = []; state = st }
+    record { kids = kids; left = record { earlier = one_more n earlier; coming = next }; locals = []; state = st }
 
 -- the siblings that remain of a list
 abbrev pub siblings : Asked → Here → Does
@@ -51,24 +52,25 @@ module _ (given : Given) where
   ends_some conditions trail st = list_any (ends_by trail st) conditions
 
   -- A head that was begun: where it ends a region the list is given back, and else the head is taken, and then the siblings that remain.
-  abbrev pub head : Node → (kids : Option Forest) → (list next : Forest) → (earlier : List Node) → Asked → State → Does
+  abbrev pub head : Node → (kids : Option Forest) → (list next : Forest) → (earlier : NodeTest → ℕ) → Asked → State → Does
   head n kids list next earlier asked st =
       let trail = stands n earlier asked.within in
       if ends_some asked.level.conditions trail st
       then Ret (remains (record { earlier = earlier; coming = list }) st)
       else and_then (node given asked trail (taken n kids next earlier st)) (siblings asked)
 
-  -- The nodes of a list that are still to come, behind earlier ones: what remains of it.
-  abbrev pub nodes : (earlier : List Node) → Forest → Asked → State → Does
+  -- The nodes of a list that are still to come, behind earlier ones: what remains of it. Of a head or an end that was begun it isn't kept
+  -- where it stood in its document: only what wasn't begun has faults there.
+  abbrev pub nodes : (earlier : NodeTest → ℕ) → Forest → Asked → State → Does
   nodes earlier (End m offset) asked st =
-      Ret (remains (record { earlier = earlier; coming = End Begun offset }) (ended given asked.level.source m st))
+      Ret (remains (record { earlier = earlier; coming = End Begun 0 }) (ended given asked.level.source m st))
   nodes earlier (Cut why) asked st = Halt (unready asked.level.source why)
   nodes earlier (Single m leaf next) asked st =
       begin given asked.level.source (is_begun m) st (λ st.
-      head (leaf_node leaf) None (Single Begun leaf next) next earlier asked st)
+      head (leaf_node leaf) None (Single Begun (without_place leaf) next) next earlier asked st)
   nodes earlier (Nested stage e kids next) asked st =
       when_ready asked.level.source stage kids (begin given asked.level.source (is_entered stage) st (λ st.
-      head (element_node stage e kids) (Some kids) (Nested (Entered (first_by stage kids)) e kids next) next earlier asked st))
+      head (element_node stage e kids) (Some kids) (Nested (Entered (first_by stage kids)) (record e { offset = 0 }) kids next) next earlier asked st))
 
   -- what one call does
   abbrev pub code : Job → Does

@@ -23,7 +23,7 @@ use Rattle.match_patterns.specs.Fits.{test_of}
 use Rattle.template_machine.specs.Fuel.{skip}
 use Rattle.template_machine.specs.Job.{Asked, Body, Does, Given, Here, Level, Nodes, Self, Source, State, all_of, fresh, single, with_state}
 use Rattle.template_machine.specs.Putting.{attribute_part, puts}
-use Rattle.template_machine.specs.Trail.{Trail, current, scope_of, stands}
+use Rattle.template_machine.specs.Trail.{Trail, current, passing_among, scope_of, stands}
 use Rattle.template_machine.specs.Values.{pattern_setting}
 use Rattle.var_store.specs.declared.bound.Bound.{Bound}
 
@@ -167,7 +167,7 @@ module _ (given : Given) where
   abbrev pub attributes : (earlier coming : List Attr) → Asked → State → (State → Does) → Does
   attributes earlier [] asked st go = go st
   attributes earlier (x ∷ xs) asked st go =
-      and_then (node asked (stands (Attribute x) (map Attribute earlier) asked.within) (single st))
+      and_then (node asked (stands (Attribute x) (passing_among earlier) asked.within) (single st))
       (λ b. attributes (earlier ++ x ∷ []) xs asked b.state go)
 
   -- The current node again: the next template for it, and nothing is skipped; or else it is passed through.

@@ -4,12 +4,13 @@ use Rattle.stxpath_syntax.specs.declared.expr.Expr.{Expr}
 use Rattle.stx_base.specs.declared.name.Name.{Name}
 use Rattle.event_buffers.specs.Buffers.{busy_at, read_at}
 use Rattle.event_buffers.specs.Forest.{forest}
-use Rattle.std.specs.Prelude.{Some, None, ◌≡◌, ℕ, List, [], ◌∷◌, ◌++◌, None, map, false, ◌+◌, nat_lt, true, Bool}
+use Rattle.std.specs.Prelude.{Some, None, ◌≡◌, ℕ, List, [], ◌∷◌, ◌++◌, None, false, ◌+◌, nat_lt, true, Bool}
 use Rattle.stx_base.specs.Course.{Ask, Ret, Same, and_then}
 use Rattle.stx_base.specs.declared.fault.Place.{Place}
 use Rattle.stx_base.specs.declared.name.Attr.{Attr}
+use Rattle.stx_base.specs.declared.node.NodeTest.{NodeTest}
 use Rattle.stx_base.specs.declared.part.Part.{Part}
-use Rattle.node_stack.specs.Path.{Node, Attribute}
+use Rattle.node_stack.specs.Path.{Attribute}
 use Rattle.sheet_model.specs.declared.instr.Instr.{Instr}
 use Rattle.sheet_model.specs.declared.sheet.Template.{Template}
 use Rattle.var_store.specs.declared.bound.Bound.{Bound}
@@ -22,16 +23,16 @@ use Rattle.template_machine.specs.Job.{Asked, Body, Given, Here, Self, Source, S
 use Rattle.template_machine.specs.Meaning.{asked_first, at_document, code, exec, first_here, meaning, siblings}
 use Rattle.template_machine.specs.Passing.{children, enters, finish, node}
 use Rattle.template_machine.specs.Putting.{puts}
-use Rattle.template_machine.specs.Trail.{Trail, document, stands}
+use Rattle.template_machine.specs.Trail.{Trail, document, passing_among, stands}
 use Rattle.template_machine.specs.Waiting.{Wait, Instructions, Parts, Template_of, Siblings_of, Children_of, Region_of, Attributes_of, Skip_of, Spot, beyond, here_at, rest, Source_of, Test, Turns, Written}
 
 -- where a body goes on before its node's children
-abbrev pub before_kids : (earlier : List Node) → (locals : List Bound) → Future → State → Here
+abbrev pub before_kids : (earlier : NodeTest → ℕ) → (locals : List Bound) → Future → State → Here
 before_kids earlier locals f st = here_at (record { spent = false; earlier = earlier; locals = locals }) f st
 
 -- the way to an attribute behind earlier ones
 abbrev pub attribute_trail : Attr → (earlier : List Attr) → Asked → Trail
-attribute_trail x earlier asked = stands (Attribute x) (map (λ (y : Attr). Attribute y) earlier) asked.within
+attribute_trail x earlier asked = stands (Attribute x) (passing_among earlier) asked.within
 
 pub record Resumes (given : Given) : Type 0 where
   -- a run begins with nothing that waits
@@ -64,7 +65,7 @@ pub record Resumes (given : Given) : Type 0 where
       ≡ binds given t.params handed self (record a { locals = []; state = st }) (λ b. Ask (Body t.body self b) (rest given (Template_of t a.locals ∷ ws) f))
   -- children are processed, and their list is over before the body goes on in the list around it
   pub kids :
-      (twice : Place) (asked : Asked) (earlier : List Node) (locals : List Bound) (ws : List Wait) (f : Future) (st : State)
+      (twice : Place) (asked : Asked) (earlier : NodeTest → ℕ) (locals : List Bound) (ws : List Wait) (f : Future) (st : State)
       → and_then (children twice asked (before_kids earlier locals f st) Ret) (rest given ws (beyond false f))
       ≡ rest given (Siblings_of asked ∷ Children_of earlier locals ∷ ws) (outer f) (remains (all_of (inner f)) st)
   -- siblings are processed, once the children are gone, and the body goes on with what remains of them
@@ -84,13 +85,13 @@ pub record Resumes (given : Given) : Type 0 where
       ≡ and_then (node given asked (attribute_trail x earlier asked) (single a.state)) (rest given (Attributes_of (earlier ++ x ∷ []) coming asked spot ∷ ws) f)
   -- an element in a list that is passed over, and then what is behind it
   pub passed_over :
-      (source : Source) (stage : Stage) (e : Element) (list next : Forest) (earlier nodes : List Node) (locals : List Bound)
+      (source : Source) (stage : Stage) (e : Element) (list next : Forest) (earlier nodes : NodeTest → ℕ) (locals : List Bound)
       (ws : List Wait) (f : Future) (st : State)
       → rest given (Skip_of source earlier ∷ ws) f (record { kids = None; left = record { earlier = nodes; coming = Nested stage e list next }; locals = locals; state = st })
-      ≡ when_ready source stage list (begin given source (is_entered stage) st (λ t. rest given (Skip_of source [] ∷ Skip_of source earlier ∷ ws) (next ∷ f) (remains (all_of list) t)))
+      ≡ when_ready source stage list (begin given source (is_entered stage) st (λ t. rest given (Skip_of source (λ t. 0) ∷ Skip_of source earlier ∷ ws) (next ∷ f) (remains (all_of list) t)))
   -- and its end
   pub passed_end :
-      (source : Source) (m : Mark) (offset : ℕ) (earlier nodes : List Node) (locals : List Bound) (ws : List Wait)
+      (source : Source) (m : Mark) (offset : ℕ) (earlier nodes : NodeTest → ℕ) (locals : List Bound) (ws : List Wait)
       (f : Future) (st : State)
       → rest given (Skip_of source earlier ∷ ws) f (record { kids = None; left = record { earlier = nodes; coming = End m offset }; locals = locals; state = st })
       ≡ rest given ws (outer f) (record { kids = None; left = record { earlier = earlier; coming = inner f }; locals = []; state = ended given source m st })

@@ -4,8 +4,8 @@ use Rattle.stx_base.specs.Course.{Ask, Halt, and_then}
 use Rattle.stx_base.specs.declared.fault.Place.{Place}
 use Rattle.stx_base.specs.declared.name.Attr.{Attr}
 use Rattle.stx_base.specs.declared.name.Name.{Name}
+use Rattle.stx_base.specs.declared.node.NodeTest.{NodeTest}
 use Rattle.stx_base.specs.declared.part.Part.{Part}
-use Rattle.node_stack.specs.Path.{Node}
 use Rattle.sheet_model.specs.declared.instr.Instr.{Instr}
 use Rattle.sheet_model.specs.declared.sheet.Template.{Template}
 use Rattle.stxpath_syntax.specs.declared.expr.Expr.{Expr}
@@ -22,11 +22,11 @@ use Rattle.template_machine.specs.Meaning.{body, ending_of}
 use Rattle.template_machine.specs.Passing.{attributes, finish}
 use Rattle.template_machine.specs.Putting.{puts, unless_refused}
 
--- Where a body goes on once a source or its attributes are over: whether its node's children are gone, the earlier nodes of its list, and
--- its locals. Its children, if they aren't gone, and the siblings that remain are still to come.
+-- Where a body goes on once a source or its attributes are over: whether its node's children are gone, what positions need of the
+-- earlier nodes of its list, and its locals. Its children, if they aren't gone, and the siblings that remain are still to come.
 pub record Spot : Type 0 where
   pub spent : Bool
-  pub earlier : List Node
+  pub earlier : NodeTest → ℕ
   pub locals : List Bound
 
 -- What waits until what is within it is over.
@@ -48,13 +48,13 @@ pub data Wait : Type 0 where
   -- a list of nodes behind one of them
   Siblings_of : Asked → Wait
   -- a body whose node's children, or whose siblings, are processed
-  Children_of : (earlier : List Node) → (locals : List Bound) → Wait
+  Children_of : (earlier : NodeTest → ℕ) → (locals : List Bound) → Wait
   Region_of : (locals : List Bound) → Wait
   -- attributes, and a buffer or another document, that are processed
   Attributes_of : (earlier coming : List Attr) → Asked → Spot → Wait
   Source_of : (buffer : Option ℕ) → Spot → Wait
   -- a list that is passed over, in a node of a list
-  Skip_of : Source → (earlier : List Node) → Wait
+  Skip_of : Source → (earlier : NodeTest → ℕ) → Wait
 
 -- what is still to come of the lists around the innermost one
 abbrev pub beyond : (spent : Bool) → Future → Future
