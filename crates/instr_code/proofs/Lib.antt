@@ -14,7 +14,7 @@ pub mod Counting
 pub mod Standing
 mod Opening
 mod Stepping
-mod Forward
+pub mod Forward
 mod Backward
 mod Seats
-mod Wholes
+pub mod Wholes
