@@ -98,7 +98,7 @@ module _ (given : Given) (new : AreNew given) where
       (begin_ok given n (Remaining given source n) source (is_entered stage) st (λ t. head given (element_node stage x kids) (Some kids) (Nested (Entered (first_by stage kids)) (record x { offset = 0 }) kids next) next earlier asked t) f
       (λ t g l. head_ok n n (element_node stage x kids) (Some kids) (Nested (Entered (first_by stage kids)) (record x { offset = 0 }) kids next) next earlier asked t g (omega arith) (omega arith) (omega arith)))
 
-  code_ok : (q : Job) → Pre given q → Ok given (weight given q) (Post given q) (code given q)
+  pub code_ok : (q : Job) → Pre given q → Ok given (weight given q) (Post given q) (code given q)
   code_ok (Nodes left asked st) f = nodes_ok left.earlier left.coming asked st f
   code_ok (Body is self a) f = list_ok is self a f
   code_ok (Loop test is at self a) f = loop_ok test is at self a f

@@ -22,7 +22,7 @@ module _ {Q R O E : Type 0} (Post : Q → R → Type 0) where
   holds_more P S (Say o x) i h = holds_more P S x i h
   holds_more P S (Ask q g) i h = λ r p. holds_more P S (g r) i (h r p)
 
-  abbrev Meets : (R → Type 0) → Answer R O E → Type 0
+  abbrev pub Meets : (R → Type 0) → Answer R O E → Type 0
   Meets P (Given os r) = P r
   Meets P (Over os e) = Unit {0}
   Meets P (Unknown os) = Unit {0}
@@ -48,7 +48,10 @@ module _ {Q R O E : Type 0} (Post : Q → R → Type 0) where
     run_meets zero q = tt
     run_meets (suc n) q = value_meets (run code n) (Post q) (code q) (run_meets n) (each q)
 
+    -- so it is at each depth
+    pub known_meets : (n : ℕ) (P : R → Type 0) (x : Course Q R O E) → Holds P x → Meets P (value (run code n) x)
+    known_meets n P x h = value_meets (run code n) P x (run_meets n) h
+
     pub result_meets : (P : R → Type 0) (x : Course Q R O E) (os : List O) (r : R) → Holds P x → Gives code x os r → P r
     result_meets P x os r h g =
-        let m = value_meets (run code g.depth) P x (run_meets g.depth) h in
-        subst (Meets P) g.comes m
+        subst (Meets P) g.comes (known_meets g.depth P x h)

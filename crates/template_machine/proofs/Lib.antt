@@ -14,6 +14,11 @@ pub mod Kept
 pub mod Copying
 pub mod Resuming
 pub mod Positions
+pub mod Simulating
+pub mod Stepping
+pub mod Coded
+pub mod Executed
+pub mod RunByCode
 pub mod Stopping
 pub mod Arms
 pub mod Around

@@ -7,7 +7,7 @@ use Rattle.var_store.specs.Variables.{is_called, with_value}
 use Rattle.var_store.specs.declared.bound.Bound.{Bound}
 use Rattle.template_machine.specs.Laws.{names}
 
-none_behind : (ns : List Name) → ns ++ [] ≡ ns
+pub none_behind : (ns : List Name) → ns ++ [] ≡ ns
 none_behind [] = refl
 none_behind (n ∷ ns) = ap (λ l. n ∷ l) (none_behind ns)
 
@@ -25,7 +25,7 @@ same_grows a b e = ([], none_behind (names a) ∙ sym e)
 pub grows_on : (a b c : List Bound) → Grows a b → Grows b c → Grows a c
 grows_on a b c g h = (g.0 ++ h.0, sym (together (names a) g.0 h.0) ∙ ap (λ l. l ++ h.0) g.1 ∙ h.1)
 
-names_behind : (a b : List Bound) → names (a ++ b) ≡ names a ++ names b
+pub names_behind : (a b : List Bound) → names (a ++ b) ≡ names a ++ names b
 names_behind [] b = refl
 names_behind (x ∷ a) b = ap (λ l. x.name ∷ l) (names_behind a b)
 

@@ -40,7 +40,7 @@ module _ (given : Given) where
   put_then [] at p st go k = fault_then (fault given.limits.elements st.result p) at (Say _ (go (put_out p st))) k
   put_then (id ∷ targets) at p st go k = refused_then (refusal_at st.buffers id p) at (go (kept_in id p st)) k
 
-  puts_then : (at : Place) (ps : List Part) (st : State) (go : State → Does) (k : Here → Does) → and_then (puts given at ps st go) k ≡ puts given at ps st (λ t. and_then (go t) k)
+  pub puts_then : (at : Place) (ps : List Part) (st : State) (go : State → Does) (k : Here → Does) → and_then (puts given at ps st go) k ≡ puts given at ps st (λ t. and_then (go t) k)
   puts_then at [] st go k = refl
   puts_then at (p ∷ ps) st go k =
       put_then st.targets at p st (λ t. puts given at ps t go) k

@@ -1,7 +1,7 @@
 -- What is so of all runs.
 use Rattle.sheet_model.specs.Passing.{kinds}
-use Rattle.std.specs.Prelude.{◌≡◌, ◌⊎◌, ℕ, ◌+◌, Bool, true, false, List, [], ◌∷◌, ◌++◌, count_by, length, map}
-use Rattle.stx_base.specs.Course.{Gives, Halt}
+use Rattle.std.specs.Prelude.{◌≡◌, ◌↔◌, ◌⊎◌, ◌≤◌, ℕ, ◌+◌, Bool, true, false, List, [], ◌∷◌, ◌++◌, Some, count_by, length, map, slice_get}
+use Rattle.stx_base.specs.Course.{Ask, Ends, Gives, Halt, Ret, Same}
 use Rattle.stx_base.specs.declared.name.Name.{Name}
 use Rattle.stx_base.specs.declared.part.Part.{Part}
 use Rattle.stx_base.specs.declared.part.Part.TheVariants as part
@@ -9,17 +9,23 @@ use Rattle.stx_base.specs.declared.node.NodeTest.{NodeTest}
 use Rattle.node_stack.specs.Counts.{capped}
 use Rattle.node_stack.specs.Path.{Node, Element, Chars, CData, Comment, Pi, Attribute, kind_of, position}
 use Rattle.node_stack.specs.Test.{passes}
+use Rattle.instr_code.specs.Code.{code_of, sheet_bodies}
+use Rattle.instr_code.specs.Running.{At}
+use Rattle.instr_code.specs.Running as running
 use Rattle.sheet_model.specs.declared.instr.Instr.{Instr}
 use Rattle.sheet_model.specs.declared.pass.Pass.{Pass}
 use Rattle.sheet_model.specs.declared.pass.Pass.TheVariants as pass
 use Rattle.var_store.specs.declared.bound.Bound.{Bound}
 use Rattle.xml_events.specs.Tree.{Forest}
 use Rattle.template_machine.specs.Ending.{Ending, Said}
+use Rattle.template_machine.specs.Acting.{cut_to}
 use Rattle.template_machine.specs.Fuel.{skip}
-use Rattle.template_machine.specs.Job.{Does, Given, Here, Self, Source, State}
-use Rattle.template_machine.specs.Meaning.{code, list}
+use Rattle.template_machine.specs.Job.{Body, Does, Given, Here, Self, Source, State}
+use Rattle.template_machine.specs.Meaning.{at_document, code, list}
+use Rattle.template_machine.specs.Outcome.{AreNew}
 use Rattle.template_machine.specs.Passing.{leaf_parts, parts_before, parts_behind, start_parts}
 use Rattle.template_machine.specs.Putting.{attribute_part}
+use Rattle.template_machine.specs.Stepwise.{Flat_does, begun, flat_code, lifted}
 use Rattle.template_machine.specs.Trail.{Trail, one_more, path_of, stands}
 
 -- Passing over nodes says nothing, and changes nothing but the fuel: either the run ends there, or it goes on.
@@ -87,3 +93,18 @@ PositionsCountEarlier =
     (ns : List Node) (n : Node) (within nearer : Trail) (t : NodeTest) → passes t (kind_of n) ≡ true
     → position (path_of (nearer ++ stands n (behind ns (λ t. 0)) within)) (length within) t
     ≡ capped (count_by (λ x. passes t (kind_of x)) ns) + 1
+
+-- A run comes to the same where some of its bodies may run by their code.
+abbrev pub GoesOnByCode : Type 0
+GoesOnByCode =
+    (given : Given) (x : Does) (os : List Said) (e : Ending)
+    → Ends (code given) x os e ↔ Ends (flat_code given) (lifted x (λ a. Ret (begun (at_document given) a))) os e
+
+-- A body of the sheet that runs by its instructions comes to the same as one that runs by its code: they say the same, and leave the same
+-- state and nodes, whatever follows.
+abbrev pub BodiesRunByCode : Type 0
+BodiesRunByCode =
+    (given : Given) → AreNew given
+    → (b place : ℕ) (body : List Instr) (self : Self) (a : Here) (go : Here → Flat_does)
+    → slice_get (sheet_bodies given.sheet) b ≡ Some body → slice_get (code_of given.sheet).starts b ≡ Some place → a.state.fuel ≤ given.limits.fuel
+    → Same (flat_code given) (Ask (running.Given (Body body self a)) (λ w. go w.here)) (Ask (At place (begun self a)) (λ w. go (cut_to a.locals w.here)))

@@ -17,6 +17,7 @@ pub mod Resuming
 pub mod Sizes
 pub mod Passed
 pub mod Copies
+pub mod Stepwise
 pub mod Laws
 pub mod Examples
 pub mod Rows

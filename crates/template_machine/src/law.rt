@@ -5,7 +5,7 @@ ghost use Rattle.stx_base.specs.Course.{Ends, Over};
 ghost use Rattle.template_machine.specs.Copies.{CopiesAll, CopiesNothing, CopiesTexts};
 ghost use Rattle.template_machine.specs.Ending.{Said, Ending};
 ghost use Rattle.template_machine.specs.Job.{Given};
-ghost use Rattle.template_machine.specs.Laws.{KeepsLocals, PassesAsBefore, PositionsCountEarlier, SkipsSilently};
+ghost use Rattle.template_machine.specs.Laws.{BodiesRunByCode, GoesOnByCode, KeepsLocals, PassesAsBefore, PositionsCountEarlier, SkipsSilently};
 ghost use Rattle.template_machine.specs.Meaning.{code, meaning};
 ghost use Rattle.template_machine.specs.Outcome.{AreNew, outcome};
 ghost use Rattle.template_machine.specs.Passed.{PassesThrough};
@@ -46,6 +46,12 @@ pub fn locals_last()
 /// Positions count the earlier nodes of a list.
 pub fn positions()
     ensures { PositionsCountEarlier }
+{}
+
+/// Bodies run by their code as they do by their instructions.
+pub fn by_code()
+    ensures runs { GoesOnByCode }
+    ensures bodies { BodiesRunByCode }
 {}
 
 /// Each thing that is done is done by going on with what waits.
