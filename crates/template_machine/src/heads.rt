@@ -139,15 +139,9 @@ impl Run {
         match self.source.stack.current() {
             NodeView::Document => Ok(()),
             NodeView::Element { name, attrs, .. } => {
-                if !kinds.elements {
-                    return Ok(());
-                }
+                let bindings = &self.source.bindings;
                 self.putting
-                    .start_there(name, &self.source.bindings, at, out)?;
-                if !kinds.attributes {
-                    return Ok(());
-                }
-                self.putting.attributes_of(attrs, at, out)
+                    .pass_start(kinds, name, attrs, bindings, at, out)
             }
             NodeView::Chars(text) => {
                 if kinds.text {
@@ -175,8 +169,7 @@ impl Run {
             }
             NodeView::Attribute(attr) => {
                 if kinds.attributes {
-                    let copy = self.putting.copied_attr(attr)?;
-                    return self.putting.attribute(copy.name, copy.value, at, out);
+                    return self.putting.attribute_of(attr, at, out);
                 }
                 Ok(())
             }

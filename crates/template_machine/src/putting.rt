@@ -18,7 +18,7 @@ use crate::sink::Sink;
 use crate::stop::{Stop, buffered, written};
 use event_buffers::Buffers;
 use node_stack::{NodeView, passes};
-use sheet_model::Sheet;
+use sheet_model::{Kinds, Sheet};
 use std::alloc::Global;
 use stx_base::{
     Attr, Binding, Copied, Limits, List, Memory, Name, Part, Place, RunCode, Spare, Text,
@@ -220,6 +220,30 @@ impl Putting {
         Ok(())
     }
 
+    /// The start of an element that is passed through, with its attributes where those are too.
+    #[inline(always)]
+    pub fn pass_start<S: Sink>(
+        &mut self,
+        kinds: Kinds,
+        name: &Name,
+        attrs: &List<Attr>,
+        bindings: &Bindings,
+        at: Place,
+        out: &mut S,
+    ) -> Result<(), Stop>
+        requires { CanPut self.old }
+        ensures { StandsAsBefore self.old self.new }
+    {
+        if !kinds.elements {
+            return Ok(());
+        }
+        self.start_there(name, bindings, at, out)?;
+        if !kinds.attributes {
+            return Ok(());
+        }
+        self.attributes_of(attrs, at, out)
+    }
+
     /// Copies of an element's attributes, or of those of them that pass.
     #[inline(always)]
     pub fn attributes_of<S: Sink>(
@@ -240,6 +264,16 @@ impl Putting {
             copies.push(copy)?;
         }
         self.attributes(copies, at, out)
+    }
+
+    /// A copy of an attribute.
+    #[inline(always)]
+    pub fn attribute_of<S: Sink>(&mut self, attr: &Attr, at: Place, out: &mut S) -> Result<(), Stop>
+        requires { CanPut self.old }
+        ensures { StandsAsBefore self.old self.new }
+    {
+        let copy = self.copied_attr(attr)?;
+        self.attribute(copy.name, copy.value, at, out)
     }
 
     #[inline(always)]
