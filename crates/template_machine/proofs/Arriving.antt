@@ -16,7 +16,7 @@ use Rattle.template_machine.specs.Contexts.{Station}
 use Rattle.template_machine.specs.Scopes.{Scopes}
 use Rattle.template_machine.specs.Sources.{within_node}
 use Rattle.template_machine.specs.Standing.{Known, Over, Standing, Unknown, front_of, known_now, known_of, room_of, standing_of, stream_of, with_way}
-use Rattle.template_machine.specs.Ways.{Way, entered, left, open_on, way_of}
+use Rattle.template_machine.specs.Ways.{Way, entered, left, way_of, lists_on}
 use Rattle.template_machine.specs.Moments.{HasTold, ListIsOver, SkipEnds, SkipsOn, TakesHead}
 use Rattle.template_machine.specs.Well.{AreWell, HasList, IsOpen, IsSettled, IsSourceWell, IsSteady, IsWell, ListFits, SkipFront, TellWithin}
 use Rattle.template_machine.specs.declared.program.Program.{Program}
@@ -27,9 +27,9 @@ use Rattle.template_machine.specs.declared.source.Source as sources
 use Rattle.template_machine.proofs.Going.{SameBut, same_standing, same_steady, same_within, well_head_at, well_list_at}
 use Rattle.template_machine.proofs.Headed.{head_there, list_ends, list_node, list_parts}
 use Rattle.template_machine.proofs.Nodes.{is_way}
-use Rattle.template_machine.proofs.Sourcing.{counted_node, room_same, source_entered, source_stays, stream_parts}
+use Rattle.template_machine.proofs.Sourcing.{room_same, source_entered, source_stays, stream_parts}
 use Rattle.template_machine.proofs.Tops.{skip_top}
-use Rattle.template_machine.proofs.Ways.{has_node, one_element, open_more, way_depth, way_entered, way_here}
+use Rattle.template_machine.proofs.Ways.{counted_list, entered_room, has_node, one_element, open_more, way_depth, way_entered, way_here}
 use Rattle.template_machine.specs.Sections.{HoldsSection}
 use Rattle.template_machine.proofs.Shelved.{stands_still}
 
@@ -38,13 +38,17 @@ pub ends_leaf : (x : Node) → can_end (Some x) ≡ true → is_attribute (Some 
 ends_leaf (paths.Attribute a) e = absurd (false≢true e)
 ends_leaf n e = refl
 
+-- and isn't the document node
+pub ends_apart : (x : Node) → can_end (Some x) ≡ true → x ≡ paths.Document → ⊥
+ends_apart x e is = false≢true (sym (ap (λ y. can_end (Some y)) is) ∙ e)
+
 -- what is known where nothing is
 pub known_nothing : (r : Run) → r.source.ahead ≡ ahead.Nothing → known_now r ≡ record { front = Unknown; begun = r.source.begun }
 known_nothing r e = ap (λ a. record { front = front_of a r.source.held; begun = r.source.begun }) e
 
 -- an event of a head
 pub takes_head : (p : Program) (r : Run) (e : Event) (x : Node) → (h : HasTold p e r) → skipped_in (reverse r.frames.frames) ≡ None → can_end (Some x) ≡ true
-    → counted_node x + h.before ≤ r.source.begun → HoldsSection x → TakesHead p x r
+    → counted_list x + h.before ≡ r.source.begun → HoldsSection x → TakesHead p x r
 takes_head p r e x h none end more section =
     let fs = reverse r.frames.frames in
     let s = standing_of r in
@@ -102,8 +106,9 @@ arrives p r n x h same frames is scopes at origin counts doing =
     subst (λ b. MatchBool b (IsSettled (reverse r.frames.frames) (left (entered x v)) r.source.begun Unknown) (IsOpen (entered x v) r.source.begun Unknown)) (ends_leaf x h.head.end)
     h.head.there.fits in
     let limit : (path n.source.stack).limit ≡ (path r.source.stack).limit = ap (λ (w : Way). w.limit) way in
-    let source = source_entered r.source n.source x h.steady.source way scopes (λ e. absurd (not_held (sym at ∙ e))) (omega (arith, o.1, h.steady.source.counted))
-    (subst (λ b. b ≤ v.limit) (sym counts.0) h.steady.source.counted) h.section in
+    let source = source_entered r.source n.source x h.steady.source way scopes (λ e. absurd (not_held (sym at ∙ e)))
+    (entered_room x v r.source.begun v.limit (ends_apart x h.head.end) (is_way r.source.stack) o.1 h.steady.source.counted)
+    (subst (λ b. b ≤ v.limit + 1) (sym counts.0) h.steady.source.counted) h.section in
     let stand = same_standing r n (record { origin = r.source.origin; way = entered x v }) same (stream_parts n.source r.source.origin (entered x v) origin way) in
     let known : known_now n ≡ record { front = Unknown; begun = r.source.begun } =
     ap (λ a. record { front = front_of a n.source.held; begun = n.source.begun }) at ∙ ap (λ b. record { front = Unknown; begun = b }) counts.0 in (
@@ -124,7 +129,7 @@ finds_end p r n h same frames is scopes at origin counts doing =
     let s = standing_of r in
     let v = s.source.way in
     let source = source_stays r.source n.source h.steady.source is scopes (λ e. absurd (not_held (sym at ∙ e)))
-    (subst (λ b. b ≤ v.limit) (sym counts.0) h.steady.source.counted) in
+    (subst (λ b. b ≤ v.limit + 1) (sym counts.0) h.steady.source.counted) in
     let stand = same_standing r n s.source same (stream_parts n.source r.source.origin v origin (ap way_of is)) in
     let known : known_now n ≡ record { front = Over; begun = r.source.begun } =
     ap (λ a. record { front = front_of a n.source.held; begun = n.source.begun }) at ∙ ap (λ b. record { front = Over; begun = b }) counts.0 in
@@ -139,18 +144,18 @@ finds_end p r n h same frames is scopes at origin counts doing =
     not_here e = cc
 
 -- an event that ends the list
-over_by : (fs : List Frame) (w : Way) (n m : ℕ) → takes_events fs ≡ true → skipped_in fs ≡ None → ListFits fs w n Unknown → open_on (left w) ≤ m → ListFits fs w m Over
+over_by : (fs : List Frame) (w : Way) (n m : ℕ) → takes_events fs ≡ true → skipped_in fs ≡ None → ListFits fs w n Unknown → lists_on (left w) ≡ m → ListFits fs w m Over
 over_by [] w n m takes none h o = absurd h
 over_by (Attributes next asked ∷ fs) w n m takes none h o = absurd (false≢true takes)
 over_by (Skip depth ∷ fs) w n m takes none h o = absurd (cc)
 over_by (f ∷ fs) w n m takes none h o = (h.0, h.1, o)
 
-pub told_over : (p : Program) (r : Run) (e : Event) → (h : HasTold p e r) → skipped_in (reverse r.frames.frames) ≡ None → h.before - 1 ≤ r.source.begun → ListIsOver p r
+pub told_over : (p : Program) (r : Run) (e : Event) → (h : HasTold p e r) → skipped_in (reverse r.frames.frames) ≡ None → r.source.begun ≡ h.before - 1 → ListIsOver p r
 told_over p r e h none less =
     let fs = reverse r.frames.frames in
     let w = (standing_of r).source.way in
     let l = list_parts fs w h.before Unknown h.list none h.fits in
-    let ended = list_ends w h.before l.0 (is_way r.source.stack) l.2 in
+    let ended = list_ends w h.before l.0 l.2 in
     record {
       steady = h.steady;
       stations = h.stations;
@@ -158,11 +163,11 @@ told_over p r e h none less =
       ahead = h.ahead;
       list = h.list;
       well = h.well;
-      fits = over_by fs w h.before r.source.begun h.list none h.fits (omega (arith, ended, less));
+      fits = over_by fs w h.before r.source.begun h.list none h.fits (ended ∙ sym less);
     }
 
 -- An event in a list that is skipped.
-skip_room : (fs : List Frame) (w : Way) (n depth : ℕ) → skipped_in fs ≡ Some depth → ListFits fs w n Unknown → open_on w + depth ≤ n
+skip_room : (fs : List Frame) (w : Way) (n depth : ℕ) → skipped_in fs ≡ Some depth → ListFits fs w n Unknown → lists_on w + depth ≡ n
 skip_room fs w n depth is h =
     let t = skip_top fs (subst (λ o. IsSome o) (sym is) refl) in
     let fits : SkipFront t.0 w n Unknown = subst (λ l. ListFits l w n Unknown) t.1.1 h in
@@ -173,7 +178,7 @@ skip_room fs w n depth is h =
     same_depth e = cc
 
 pub told_skips : (p : Program) (r : Run) (e : Event) (depth more : ℕ) → (h : HasTold p e r) → skipped_in (reverse r.frames.frames) ≡ Some depth
-    → more + h.before ≤ r.source.begun → SkipsOn p (depth + more) r
+    → more + h.before ≡ r.source.begun → SkipsOn p (depth + more) r
 told_skips p r e depth more h is counted = record {
   steady = h.steady;
   stations = h.stations;
@@ -191,7 +196,7 @@ skip_list p stations (Skip depth ∷ fs) s some w = w.1
 skip_list p stations (f ∷ fs) s some w = absurd (false≢true some)
 
 pub told_skip_ends : (p : Program) (r : Run) (e : Event) (depth : ℕ) → (h : HasTold p e r) → skipped_in (reverse r.frames.frames) ≡ Some depth
-    → h.before - 1 ≤ r.source.begun → SkipEnds p depth r
+    → r.source.begun ≡ h.before - 1 → SkipEnds p depth r
 told_skip_ends p r e depth h is less =
     let fs = reverse r.frames.frames in
     let w = (standing_of r).source.way in
@@ -206,7 +211,7 @@ told_skip_ends p r e depth h is less =
       skipped = is;
       well = h.well;
       deep = λ more. omega (arith, room, less, more);
-      over = λ none. let fits : open_on w ≤ h.before = omega (arith, room, none) in let ended = list_ends w h.before has (is_way r.source.stack) fits in omega (arith, ended, less);
+      over = λ none. let fits : lists_on w ≡ h.before = omega (arith, room, none) in list_ends w h.before has fits ∙ sym less;
     }
 
 pub skip_goes_on : (p : Program) (r : Run) (depth : ℕ) → (h : SkipEnds p depth r) → 0 < depth → SkipsOn p (depth - 1) r
@@ -278,7 +283,13 @@ takes_room p r x h e =
     let o : IsOpen (entered x v) r.source.begun Unknown =
     subst (λ b. MatchBool b (IsSettled (reverse r.frames.frames) (left (entered x v)) r.source.begun Unknown) (IsOpen (entered x v) r.source.begun Unknown)) (ends_leaf x h.head.end)
     h.head.there.fits in
-    omega (arith, o.1, open_more x v, one_element x e, way_depth (path r.source.stack), h.steady.source.counted)
+    omega (
+      arith,
+      entered_room x v r.source.begun v.limit (ends_apart x h.head.end) (is_way r.source.stack) o.1 h.steady.source.counted,
+      open_more x v,
+      one_element x e,
+      way_depth (path r.source.stack),
+    )
 
 pub leaf_scopes : (l : Leaf) (scopes : Scopes) → within_node (leaf_of l) scopes ≡ scopes
 leaf_scopes (leaf.Chars text) scopes = refl
@@ -286,7 +297,7 @@ leaf_scopes (leaf.CData text) scopes = refl
 leaf_scopes (leaf.Comment text) scopes = refl
 leaf_scopes (leaf.Pi target text) scopes = refl
 
-pub leaf_ends : (l : Leaf) → (can_end (Some (leaf_of l)) ≡ true) × (counted_node (leaf_of l) ≡ 0)
+pub leaf_ends : (l : Leaf) → (can_end (Some (leaf_of l)) ≡ true) × (counted_list (leaf_of l) ≡ 0)
 leaf_ends (leaf.Chars text) = (refl, refl)
 leaf_ends (leaf.CData text) = (refl, refl)
 leaf_ends (leaf.Comment text) = (refl, refl)
@@ -294,6 +305,6 @@ leaf_ends (leaf.Pi target text) = (refl, refl)
 
 -- a leaf in a list that is skipped
 pub told_skips_leaf : (p : Program) (r : Run) (e : Event) (depth : ℕ) → (h : HasTold p e r) → skipped_in (reverse r.frames.frames) ≡ Some depth
-    → h.before ≤ r.source.begun → SkipsOn p depth r
+    → h.before ≡ r.source.begun → SkipsOn p depth r
 told_skips_leaf p r e depth h is counted =
     let same : depth + 0 ≡ depth = omega arith in subst (λ d. SkipsOn p d r) same (told_skips p r e depth 0 h is (omega (arith, counted)))

@@ -1,5 +1,5 @@
 -- The events of a buffer, and the end of its list.
-use Rattle.std.proofs.Common.{◌≡◌, ℕ, zero, suc, ◌<◌, ◌≤◌, ◌^◌, Bool, true, false, List, [], ◌∷◌, ◌++◌, length, map, reverse, Option, Some, None, IsSome, refl, ap, sym, subst, ◌∙◌, arith}
+use Rattle.std.proofs.Common.{◌≡◌, ℕ, zero, suc, ◌<◌, ◌≤◌, ◌^◌, Bool, true, List, [], ◌∷◌, ◌++◌, length, map, reverse, Option, Some, None, IsSome, refl, ap, sym, subst, ◌∙◌, arith, ◌-◌, ◌+◌}
 use Rattle.std.specs.Prelude.{drop, unwrap_or}
 use Rattle.std.specs.List.{slice_get}
 use Rattle.std.specs.Option.{option_map, option_map_or}
@@ -12,16 +12,15 @@ use Rattle.event_buffers.specs.declared.kept.Kept.{Kept}
 use Rattle.event_buffers.specs.declared.told.Told.{Told}
 use Rattle.frame_stack.specs.declared.frame.Frame.{Frame}
 use Rattle.frame_stack.specs.Stack.{FrameStack}
-use Rattle.frame_stack.specs.declared.frame.Frame.TheVariants.{Attributes, Skip, Source}
+use Rattle.frame_stack.specs.declared.frame.Frame.TheVariants.{Source}
 use Rattle.node_stack.specs.Stack.{path}
 use Rattle.stx_base.specs.declared.fault.Place.{Place}
 use Rattle.template_machine.specs.Bodies.{is_source_in, takes_events}
 use Rattle.template_machine.specs.Closing.{ClosesStream, IsOpenStream, closed_by}
 use Rattle.template_machine.specs.Contexts.{Station}
-use Rattle.template_machine.specs.Standing.{Known, Outer, Over, Shelf, Standing, Unknown, known_now, on_shelf, outer_of, read_closed, reading_over, shelf_at, shelf_of, standing_of}
-use Rattle.template_machine.specs.Ways.{Way}
+use Rattle.template_machine.specs.Standing.{Outer, Shelf, Standing, known_now, on_shelf, outer_of, read_closed, reading_over, shelf_at, shelf_of, standing_of}
 use Rattle.template_machine.specs.Moments.{HasTold, IsBuffer, IsDocument, ListIsOver, StandsAsBefore}
-use Rattle.template_machine.specs.Well.{AreWell, IsStream, IsWaiting, IsWell, ListFits, ListGoesOn, OnOuter, begun_behind, read_from}
+use Rattle.template_machine.specs.Well.{AreWell, IsStream, IsWaiting, IsWell, ListGoesOn, OnOuter, begun_behind, read_from}
 use Rattle.template_machine.specs.declared.program.Program.{Program}
 use Rattle.template_machine.specs.declared.putting.Putting.{Putting}
 use Rattle.template_machine.specs.declared.run.Doing.TheVariants as doing
@@ -30,16 +29,15 @@ use Rattle.template_machine.specs.declared.source.Ahead.TheVariants as ahead
 use Rattle.template_machine.specs.declared.source.Origin.{Origin}
 use Rattle.template_machine.specs.declared.source.Origin.TheVariants as origin
 use Rattle.template_machine.specs.declared.source.Source as sources
-use Rattle.template_machine.proofs.Arriving.{known_nothing}
-use Rattle.template_machine.proofs.Eventful.{buffer_told}
+use Rattle.template_machine.proofs.Eventful.{buffer_told, buffer_ends}
 use Rattle.template_machine.proofs.Holds.{holds_on, holds_same, read_shut}
 use Rattle.template_machine.proofs.Looking.{list_goes, list_there}
 use Rattle.template_machine.proofs.Slots.{aside_of}
 use Rattle.template_machine.proofs.Sourced.{reading_shut, source_is_over}
 use Rattle.template_machine.proofs.Streaming.{buffer_read, shelf_read, told_from}
 use Rattle.template_machine.proofs.Tops.{source_top}
-use Rattle.template_machine.proofs.Ways.{left_fewer}
 use Rattle.template_machine.proofs.Writing.{first_read, reads, reads_at, read_first}
+use Rattle.xml_events.specs.declared.event.Event.TheVariants as event
 
 -- The stream of the innermost source is open.
 
@@ -101,33 +99,17 @@ buffer_is id (origin.Buffer own at) b = (at, ap (λ n. origin.Buffer n at) b)
 buffer_is id origin.Main b = absurd b
 buffer_is id (origin.Document at) b = absurd b
 
--- Its list is over.
+-- It is over, which is told as the end of a document is.
 
-over_fits : (fs : List Frame) (w : Way) (n : ℕ) → takes_events fs ≡ true → ListFits fs w n Unknown → ListFits fs w n Over
-over_fits [] w n takes h = absurd h
-over_fits (Attributes next asked ∷ fs) w n takes h = absurd (false≢true takes)
-over_fits (Skip depth ∷ fs) w n takes h = omega (arith, h, left_fewer w)
-over_fits (f ∷ fs) w n takes h = (h.0, h.1, omega (arith, h.2, left_fewer w))
-
-pub list_done : (p : Program) (r : Run) (w : IsWell p r) → r.doing ≡ doing.List → r.source.ahead ≡ ahead.Nothing → takes_events (reverse r.frames.frames) ≡ true → ListIsOver p r
-list_done p r w is nothing events =
-    let fs = reverse r.frames.frames in
-    let s = standing_of r in
-    let l : ListGoesOn p w.stations fs s (known_now r) =
-    list_there p w.stations r.source.ahead fs s (known_now r) (λ e. not_here (sym nothing ∙ e)) (list_goes p r w is) in
-    let fits : ListFits fs s.source.way r.source.begun Unknown = subst (λ (k : Known). ListFits fs s.source.way k.begun k.front) (known_nothing r nothing) l.fits in
-    record {
-      steady = w.steady;
-      stations = w.stations;
-      stand = w.stand;
-      ahead = nothing;
-      list = events;
-      well = l.well;
-      fits = over_fits fs s.source.way r.source.begun events fits;
-    }
-  where
-    not_here : ahead.Nothing ≡ ahead.Here → ⊥
-    not_here e = cc
+pub buffer_over : (p : Program) (r : Run) (id : ℕ) → (w : IsWell p r) → r.doing ≡ doing.List → r.source.ahead ≡ ahead.Nothing
+    → takes_events (reverse r.frames.frames) ≡ true → IsBuffer id r.source.origin → IsToldAt (read_at r.putting.buffers id) r.source.next None
+    → (r.source.begun - 1 < 2 ^ 32)
+    × HasTold p (event.DocumentEnd 0) (record r { source = record r.source { begun = r.source.begun - 1 } })
+buffer_over p r id w is nothing events b tells =
+    let bs = r.putting.buffers.buffers in
+    let from = buffer_is id r.source.origin b in
+    let small : (path r.source.stack).limit + 1 < 2 ^ 32 = w.steady.source.small in
+    (omega (arith, w.steady.source.counted, small), buffer_ends p r id from.0 w is nothing events from.1 (tells_from bs id r.source.next ∙ tells))
 
 -- A buffer is read no more.
 
@@ -194,7 +176,7 @@ leaves_source p r m n frames h f run closed see gone x init items source outer s
 
 pub buffer_next : (p : Program) (r : Run) (id : ℕ) (t : Told) → (w : IsWell p r) → r.doing ≡ doing.List → r.source.ahead ≡ ahead.Nothing
     → takes_events (reverse r.frames.frames) ≡ true → IsBuffer id r.source.origin → IsToldAt (read_at r.putting.buffers id) r.source.next (Some t)
-    → (begun_behind t.event r.source.begun ≤ (path r.source.stack).limit)
+    → (begun_behind t.event r.source.begun ≤ (path r.source.stack).limit + 1)
     × HasTold p t.event (record r { source = record r.source { next = t.next; begun = begun_behind t.event r.source.begun } })
 buffer_next p r id t w is nothing events b tells =
     let bs = r.putting.buffers.buffers in
@@ -206,7 +188,7 @@ pub buffer_fits : (p : Program) (r : Run) (id : ℕ) (t : Told) → (w : IsWell 
     → takes_events (reverse r.frames.frames) ≡ true → IsBuffer id r.source.origin → IsToldAt (read_at r.putting.buffers id) r.source.next (Some t)
     → begun_behind t.event r.source.begun < 2 ^ 32
 buffer_fits p r id t w is nothing events b tells =
-    let small : (path r.source.stack).limit < 2 ^ 32 = w.steady.source.small in omega (arith, (buffer_next p r id t w is nothing events b tells).0, small)
+    let small : (path r.source.stack).limit + 1 < 2 ^ 32 = w.steady.source.small in omega (arith, (buffer_next p r id t w is nothing events b tells).0, small)
 
 -- It is there, and one of its copies is read.
 pub tells_there : (p : Program) (r : Run) (id : ℕ) → (w : IsWell p r) → r.doing ≡ doing.List → r.source.ahead ≡ ahead.Nothing → IsBuffer id r.source.origin

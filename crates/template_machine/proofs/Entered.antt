@@ -177,7 +177,7 @@ wait_for p r n x (asker.Instr asked body) stations s w on e =
 
 pub waits_entered : (p : Program) (r n : Run) (x : Frame) (a : Asker) (spent : Bool) → CanEnter p spent r → AsksOn a (reverse r.frames.frames)
     → n.frames.frames ≡ r.frames.frames ++ x ∷ [] → WaitFor p n a
-waits_entered p r n x a spent (inl h) on e = wait_for p r n x a h.stations _ h.head.well on e
+waits_entered p r n x a spent (inl h) on e = wait_for p r n x a h.0.stations _ h.0.head.well on e
 waits_entered p r n x a spent (inr h) on e = wait_for p r n x a h.0.stations _ h.0.waits.well on e
 
 -- New copies of its group.
@@ -360,9 +360,9 @@ enters_by : (p : Program) (r t u : Run) (template alternative pc level : ℕ) (s
     → BindsParams declared.params t u → IsWell p u
 enters_by p r t u template alternative pc level spent declared (inl h) is passes starts own e binds =
     subst (IsWell p) (sym binds.rest)
-    (goes p r t h.stations template alternative pc level spent declared binds.locals h.stand e _ refl h.apart
-    (enters p h.stations (reverse r.frames.frames) (standing_of r) (standing_of t) template alternative pc level spent binds.locals declared (known_now r) h.head is passes
-    (starts_there p h.stations template pc declared h.stand is starts) (are_named binds.locals declared.params binds.named) own e.source e.back e.off))
+    (goes p r t h.0.stations template alternative pc level spent declared binds.locals h.0.stand e _ refl h.0.apart
+    (enters p h.0.stations (reverse r.frames.frames) (standing_of r) (standing_of t) template alternative pc level spent binds.locals declared (known_now r) h.0.head h.1 is passes
+    (starts_there p h.0.stations template pc declared h.0.stand is starts) (are_named binds.locals declared.params binds.named) own e.source e.back e.off))
 enters_by p r t u template alternative pc level spent declared (inr h) is passes starts own e binds =
     let w = h.0 in
     subst (IsWell p) (sym binds.rest)
@@ -373,13 +373,13 @@ enters_by p r t u template alternative pc level spent declared (inr h) is passes
 -- What the calls of the method find, behind the push of the frame.
 
 can_steady : (p : Program) (spent : Bool) (r : Run) → CanEnter p spent r → IsSteady p r
-can_steady p spent r (inl h) = h.steady
+can_steady p spent r (inl h) = h.0.steady
 can_steady p spent r (inr h) = h.0.steady
 
 pub starts_within : (p : Program) (spent : Bool) (r : Run) (template : ℕ) (declared : Template) → CanEnter p spent r → slice_get p.sheet.templates template ≡ Some declared
     → template < length p.code.starts
 starts_within p spent r template declared (inl h) is =
-    let s = h.stand.templates template declared is in slice_get_within p.code.starts template s.0 s.1.0
+    let s = h.0.stand.templates template declared is in slice_get_within p.code.starts template s.0 s.1.0
 starts_within p spent r template declared (inr h) is =
     let s = h.0.stand.templates template declared is in slice_get_within p.code.starts template s.0 s.1.0
 

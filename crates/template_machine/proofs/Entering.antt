@@ -1,5 +1,5 @@
 -- A body is entered, and left.
-use Rattle.std.proofs.Common.{◌≡◌, ℕ, Bool, true, false, List, [], ◌∷◌, map, Some, IsSome, refl, ap, sym, subst, ◌∙◌, arith, append-nil}
+use Rattle.std.proofs.Common.{◌≡◌, ℕ, Bool, true, false, List, [], ◌∷◌, map, Some, IsSome, refl, ap, sym, subst, ◌∙◌, append-nil}
 use Rattle.std.specs.List.{slice_get}
 use Rattle.std.specs.Prelude.{◌&&◌, not, if◌then◌else◌, MatchBool}
 use Rattle.frame_stack.specs.declared.frame.Frame.{Frame}
@@ -15,7 +15,7 @@ use Rattle.template_machine.specs.Standing.{Front, Known, Standing, Unknown, nod
 use Rattle.template_machine.specs.Ways.{Way, here, left, number_of}
 use Rattle.template_machine.specs.Well.{AreOf, AreWell, BodyGoesOn, CanTake, CanTakeOff, HeadFront, HeadIsThere, IsFrontFor, IsOpen, IsSettled, IsTemplate, PassesBy, buffers_of, is_again, over}
 use Rattle.template_machine.specs.declared.program.Program.{Program}
-use Rattle.template_machine.proofs.Ways.{left_fewer}
+use Rattle.template_machine.proofs.Ways.{leaf_left}
 
 -- a choice that is decided
 pub over_head : (level : ℕ) (fs : List Frame) (s : Standing) → is_again level fs ≡ false → over level fs s ≡ node_over s
@@ -24,33 +24,43 @@ over_head level fs s e = ap (λ b. if b then s else node_over s) e
 pub over_again : (level : ℕ) (fs : List Frame) (s : Standing) → is_again level fs ≡ true → over level fs s ≡ s
 over_again level fs s e = ap (λ b. if b then s else node_over s) e
 
--- where nothing is known behind a node, nothing is known around it
-pub known_open : (b : Bool) (w : Way) (n : ℕ) (front : Front) → IsOpen w n front → MatchBool b (IsOpen w n front) (IsFrontFor (left w) n front)
-known_open true w n front o = o
-known_open false w n front o =
-    let fewer : IsFrontFor (left w) n Unknown = omega (arith, o.1, left_fewer w) in subst (IsFrontFor (left w) n) (sym o.0) fewer
+-- where nothing is known behind a node without a list, nothing is known around it
+pub known_leaf : (w : Way) (n : ℕ) (front : Front) → can_have_children (here w) ≡ false → IsOpen w n front → IsFrontFor (left w) n front
+known_leaf w n front none o =
+    let same : IsFrontFor (left w) n Unknown = leaf_left w none ∙ o.1 in subst (IsFrontFor (left w) n) (sym o.0) same
+
+pub known_open : (b : Bool) (w : Way) (n : ℕ) (front : Front) → (b ≡ false → can_have_children (here w) ≡ false) → IsOpen w n front
+    → MatchBool b (IsOpen w n front) (IsFrontFor (left w) n front)
+known_open true w n front leaf o = o
+known_open false w n front leaf o = known_leaf w n front (leaf refl) o
 
 -- a head's body goes on
-head_by : (x b : Bool) (A : Type 0) (w : Way) (n : ℕ) (front : Front) → MatchBool x A (IsOpen w n front)
+head_by : (x b : Bool) (A : Type 0) (w : Way) (n : ℕ) (front : Front) → (b ≡ false → can_have_children (here w) ≡ false) → MatchBool x A (IsOpen w n front)
     → MatchBool x A (MatchBool b (IsOpen w n front) (IsFrontFor (left w) n front))
-head_by true b A w n front h = h
-head_by false b A w n front h = known_open b w n front h
+head_by true b A w n front leaf h = h
+head_by false b A w n front leaf h = known_open b w n front leaf h
+
+unspent_leaf : (b spent : Bool) → spent ≡ false → (b && not spent) ≡ false → b ≡ false
+unspent_leaf true true none e = absurd (false≢true (sym none))
+unspent_leaf true false none e = absurd (false≢true (sym e))
+unspent_leaf false spent none e = refl
 
 pub fits_head :
-    (number alternative pc level : ℕ) (spent : Bool) (locals : List Local) (fs : List Frame) (w : Way) (n : ℕ) (front : Front) → is_again level fs ≡ false
+    (number alternative pc level : ℕ) (spent : Bool) (locals : List Local) (fs : List Frame) (w : Way) (n : ℕ) (front : Front) → spent ≡ false → is_again level fs ≡ false
     → HeadFront fs w n front → IsSettled (Body number alternative pc locals level spent ∷ fs) w n front
-fits_head number alternative pc level spent locals fs w n front e h =
+fits_head number alternative pc level spent locals fs w n front unspent e h =
     let a : Type 0 = IsSettled fs w n front in
     let b : Type 0 = IsSettled fs (left w) n front in
     let c : Type 0 = MatchBool (can_have_children (here w) && not spent) (IsOpen w n front) (IsFrontFor (left w) n front) in
     subst (λ x. MatchBool x a (MatchBool (is_attribute (here w)) b c)) (sym e)
-    (head_by (is_attribute (here w)) (can_have_children (here w) && not spent) b w n front h)
+    (head_by (is_attribute (here w)) (can_have_children (here w) && not spent) b w n front (unspent_leaf (can_have_children (here w)) spent unspent) h)
 
 module _ (p : Program) (stations : List Station) where
   -- the body of a template at its beginning, with its parameters: a new scope may have been laid over the groups
   pub enters :
       (fs : List Frame) (s t : Standing) (number alternative pc level : ℕ) (spent : Bool) (locals : List Local) (template : Template) (known : Known)
       → HeadIsThere p stations fs s known
+      → spent ≡ false
       → slice_get p.sheet.templates number ≡ Some template
       → PassesBy p template alternative (here s.source.way)
       → Goes stations pc (begun template.params)
@@ -60,7 +70,7 @@ module _ (p : Program) (stations : List Station) where
       → scope_over template.new_scope template.group t ≡ s
       → (template.new_scope ≡ true → CanTakeOff template.group t)
       → BodyGoesOn p stations (Body number alternative pc locals level spent ∷ fs) t known
-  enters fs s t number alternative pc level spent locals template known h is passes there are own same scope takes =
+  enters fs s t number alternative pc level spent locals template known h unspent is passes there are own same scope takes =
       let apart : is_again level fs ≡ false = ap (λ n. is_again n fs) own ∙ h.apart in
       record {
         body = refl;
@@ -86,7 +96,7 @@ module _ (p : Program) (stations : List Station) where
         );
         fits =
             subst (λ x. IsSettled (Body number alternative pc locals level spent ∷ fs) x.way known.begun known.front) (sym same)
-            (fits_head number alternative pc level spent locals fs s.source.way known.begun known.front apart h.fits);
+            (fits_head number alternative pc level spent locals fs s.source.way known.begun known.front unspent apart h.fits);
       }
 
   -- A procedure's body is over.

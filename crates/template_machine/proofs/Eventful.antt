@@ -1,5 +1,5 @@
 -- The next event of a document or of a buffer is told.
-use Rattle.std.proofs.Common.{◌≡◌, ◌≢◌, ℕ, suc, ◌≤◌, Bool, true, false, List, [], ◌∷◌, map, reverse, Option, Some, None, refl, sym, subst, ◌∙◌}
+use Rattle.std.proofs.Common.{◌≡◌, ◌≢◌, ℕ, suc, ◌≤◌, Bool, true, false, List, [], ◌∷◌, map, reverse, Option, Some, None, refl, sym, subst, ◌∙◌, ◌-◌, arith, ◌+◌}
 use Rattle.stx_base.specs.declared.fault.Place.{Place}
 use Rattle.frame_stack.specs.declared.frame.Frame.{Frame}
 use Rattle.frame_stack.specs.declared.frame.Frame.TheVariants.{Body, Call, Attributes, Loop, Region, Source, Skip, Pass}
@@ -8,9 +8,9 @@ use Rattle.xml_events.specs.declared.event.Event.{Event}
 use Rattle.template_machine.specs.Bodies.{takes_events}
 use Rattle.template_machine.specs.Contexts.{Station}
 use Rattle.template_machine.specs.Standing.{Room, Shelf, Standing, Unknown, known_now, region_over, room_of, scope_over, skip_over, standing_of, writing_over}
-use Rattle.template_machine.specs.Ways.{way_of}
+use Rattle.template_machine.specs.Ways.{way_of, IsWay, Way}
 use Rattle.template_machine.specs.Moments.{HasTold, IsDocument, WantsEvent}
-use Rattle.template_machine.specs.Well.{AreWell, AreWithin, IsStream, IsWell, ListGoesOn, TellWithin, begun_behind, buffers_of, is_again, over}
+use Rattle.template_machine.specs.Well.{AreWell, AreWithin, IsStream, IsWell, ListGoesOn, TellWithin, begun_behind, buffers_of, is_again, over, ListFits}
 use Rattle.template_machine.specs.declared.program.Program.{Program}
 use Rattle.template_machine.specs.declared.run.Doing.TheVariants as doing
 use Rattle.template_machine.specs.declared.run.Run.{Run}
@@ -25,6 +25,10 @@ use Rattle.template_machine.proofs.Streaming.{buffer_tells, first_on, over_same,
 use Rattle.event_buffers.specs.Sections.{tells_text}
 use Rattle.template_machine.proofs.Holds.{event_text}
 use Rattle.template_machine.proofs.Shelved.{stands_still}
+use Rattle.std.proofs.lemmas.Bool.{false≢true}
+use Rattle.template_machine.proofs.Nodes.{is_way}
+use Rattle.template_machine.proofs.Ways.{lists_open}
+use Rattle.xml_events.specs.declared.event.Event.TheVariants as event
 
 -- a source that is a document
 stream_document : (buffer : Option ℕ) (o : Origin) (xs : List Shelf) → IsStream buffer o xs → IsDocument o → buffer ≡ None
@@ -69,7 +73,7 @@ list_unknown p r w is at =
     not_here e f = let both : ahead.Nothing ≡ ahead.Here = sym e ∙ f in cc
 
 -- An event of a document, which goes on as documents do.
-pub event_told : (p : Program) (r : Run) (e : Event) → (w : WantsEvent p r) → begun_behind e r.source.begun ≤ (way_of (path r.source.stack)).limit → tells_text e ≡ true
+pub event_told : (p : Program) (r : Run) (e : Event) → (w : WantsEvent p r) → begun_behind e r.source.begun ≤ (way_of (path r.source.stack)).limit + 1 → tells_text e ≡ true
     → HasTold p e (record r { source = record r.source { begun = begun_behind e r.source.begun } })
 event_told p r e w room text =
     let n = record r { source = record r.source { begun = begun_behind e r.source.begun } } in
@@ -92,24 +96,74 @@ event_told p r e w room text =
       fits = l.fits;
     }
 
+-- A list that goes on has begun.
+some_begun : (fs : List Frame) (w : Way) (n : ℕ) → takes_events fs ≡ true → IsWay w.nodes → ListFits fs w n Unknown → 1 ≤ n
+some_begun [] w n takes way h = absurd h
+some_begun (Attributes next asked ∷ fs) w n takes way h = absurd (false≢true takes)
+some_begun (Skip depth ∷ fs) w n takes way h = omega (arith, h, lists_open w way)
+some_begun (f ∷ fs) w n takes way h = omega (arith, h.2, lists_open w way)
+
+-- of a document too that is to tell more
+pub wants_begun : (p : Program) (r : Run) → WantsEvent p r → 1 ≤ r.source.begun
+wants_begun p r w =
+    some_begun (reverse r.frames.frames) (standing_of r).source.way r.source.begun w.list (is_way r.source.stack) (list_unknown p r w.well w.doing w.ahead).fits
+
+-- of elements one fewer has
+behind_less : (e : Event) (n : ℕ) → 1 ≤ n → begun_behind e n - 1 ≡ begun_behind e (n - 1)
+behind_less (event.Start offset name attrs decls first) n some = omega (arith, some)
+behind_less (event.End offset) n some = refl
+behind_less (event.DocumentEnd offset) n some = refl
+behind_less e n some = refl
+
+-- The end of a buffer.
+pub buffer_ends : (p : Program) (r : Run) (id : ℕ) (at : Place) → (w : IsWell p r) → r.doing ≡ doing.List → r.source.ahead ≡ ahead.Nothing
+    → takes_events (reverse r.frames.frames) ≡ true → r.source.origin ≡ origin.Buffer id at → told_from (standing_of r).shelves id r.source.next ≡ []
+    → HasTold p (event.DocumentEnd 0) (record r { source = record r.source { begun = r.source.begun - 1 } })
+buffer_ends p r id at w is nothing events from tells =
+    let n = record r { source = record r.source { begun = r.source.begun - 1 } } in
+    let l = list_unknown p r w is nothing in
+    let t = buffer_tells p w.stations 0 true (reverse r.frames.frames) (standing_of r) id at (room_of r.source) (room_of n.source) (map room_of (reverse r.outer.items))
+    (standing_of r).shelves l.well from w.steady.within in
+    record {
+      steady =
+          same_steady p r n w.steady (record { outer = refl; aside = refl; store = refl; putting = stands_still r.putting })
+          (source_stays r.source n.source w.steady.source refl refl w.steady.source.held (omega (arith, w.steady.source.counted)))
+          (t.1 (subst (AreWithin (path r.source.stack).limit (r.source.begun - 1 - 1)) (sym tells) tt));
+      stations = w.stations;
+      stand = w.stand;
+      doing = is;
+      ahead = nothing;
+      list = events;
+      well = l.well;
+      before = r.source.begun;
+      counted = refl;
+      text = refl;
+      fits = l.fits;
+    }
+
 -- An event of a buffer.
 pub buffer_told : (p : Program) (r : Run) (id next : ℕ) (at : Place) (e : Event) (es : List Event) → (w : IsWell p r) → r.doing ≡ doing.List → r.source.ahead ≡ ahead.Nothing
     → takes_events (reverse r.frames.frames) ≡ true → r.source.origin ≡ origin.Buffer id at → told_from (standing_of r).shelves id r.source.next ≡ e ∷ es
     → told_from (standing_of r).shelves id next ≡ es
-    → (begun_behind e r.source.begun ≤ (path r.source.stack).limit)
+    → (begun_behind e r.source.begun ≤ (path r.source.stack).limit + 1)
     × HasTold p e (record r { source = record r.source { next = next; begun = begun_behind e r.source.begun } })
 buffer_told p r id next at e es w is nothing events from tells rest =
     let n = record r { source = record r.source { next = next; begun = begun_behind e r.source.begun } } in
     let l = list_unknown p r w is nothing in
     let t = buffer_tells p w.stations 0 true (reverse r.frames.frames) (standing_of r) id at (room_of r.source) (room_of n.source) (map room_of (reverse r.outer.items))
     (standing_of r).shelves l.well from w.steady.within in
-    let within : AreWithin (path r.source.stack).limit r.source.begun (e ∷ es) = subst (AreWithin (path r.source.stack).limit r.source.begun) tells t.0 in (
-      within.0,
+    let within : AreWithin (path r.source.stack).limit (r.source.begun - 1) (e ∷ es) = subst (AreWithin (path r.source.stack).limit (r.source.begun - 1)) tells t.0 in
+    let some = some_begun (reverse r.frames.frames) (standing_of r).source.way r.source.begun events (is_way r.source.stack) l.fits in
+    let less = behind_less e r.source.begun some in
+    let room : begun_behind e r.source.begun ≤ (path r.source.stack).limit + 1 = omega (arith, within.0, less) in (
+      room,
       record {
         steady =
             same_steady p r n w.steady (record { outer = refl; aside = refl; store = refl; putting = stands_still r.putting })
-            (source_stays r.source n.source w.steady.source refl refl w.steady.source.held within.0)
-            (t.1 (subst (AreWithin (path r.source.stack).limit (begun_behind e r.source.begun)) (sym rest) within.1));
+            (source_stays r.source n.source w.steady.source refl refl w.steady.source.held room)
+            (t.1
+            (subst (AreWithin (path r.source.stack).limit (begun_behind e r.source.begun - 1)) (sym rest)
+            (subst (λ k. AreWithin (path r.source.stack).limit k es) (sym less) within.1)));
         stations = w.stations;
         stand = w.stand;
         doing = is;

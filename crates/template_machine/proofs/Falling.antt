@@ -10,11 +10,12 @@ use Rattle.instr_code.specs.declared.code.Op.{Op}
 use Rattle.instr_code.specs.declared.code.Op.TheVariants as op
 use Rattle.template_machine.specs.Bodies.{on_body, pc_in}
 use Rattle.template_machine.specs.Contexts.{Choices, Context, Goes, HasForm}
+use Rattle.template_machine.specs.Documents.{documents}
 use Rattle.template_machine.specs.Puts.{OnlyPuts}
 use Rattle.template_machine.specs.Standing.{standing_of}
 use Rattle.template_machine.specs.Steps.{fuel_begun, one_less}
 use Rattle.template_machine.specs.Moments.{IsAtOp, IsBuffer}
-use Rattle.template_machine.specs.Work.{Begins, Falls, ahead_work, burden, frame_work, frames_work, free, load, outer_work, waits_work, work}
+use Rattle.template_machine.specs.Work.{Begins, Falls, Lessens, Means, ahead_work, burden, frame_work, frames_work, free, load, means_of, outer_work, waits_work, work}
 use Rattle.template_machine.specs.declared.program.Program.{Program}
 use Rattle.template_machine.specs.declared.run.Doing.TheVariants as doing
 use Rattle.template_machine.specs.declared.run.Run.{Run}
@@ -25,6 +26,7 @@ use Rattle.template_machine.specs.declared.source.Ahead.{Ahead}
 use Rattle.template_machine.specs.declared.source.Ahead.TheVariants as ahead
 use Rattle.template_machine.specs.declared.source.Origin.{Origin}
 use Rattle.template_machine.specs.declared.source.Origin.TheVariants as origin
+use Rattle.template_machine.proofs.Documents.{same_documents}
 use Rattle.template_machine.proofs.Freely.{choice_falls, close_falls, drop_falls, jump_falls}
 use Rattle.template_machine.proofs.Handing.{pc_moved}
 use Rattle.template_machine.proofs.Moving.{goes_at}
@@ -35,29 +37,36 @@ use Rattle.var_store.specs.Copies.{Stored}
 -- One after another.
 
 pub begins_on : (a b : ℕ) (old mid new : Run) → Begins a old mid → Begins b mid new → Begins (a + b) old new
-begins_on a b old mid new x y = record { fuel = y.fuel ∙ x.fuel; load = by (load old) (load mid) (waits_work mid.doing mid.source.ahead) (burden new) x.load y.load }
+begins_on a b old mid new x y = record { means = y.means ∙ x.means; load = by (load old) (load mid) (waits_work mid.doing mid.source.ahead) (burden new) x.load y.load }
   where
     by : (k m w n : ℕ) → m + w ≤ k + a → n ≤ m + b → n ≤ k + (a + b)
     by k m w n f g = omega (arith, f, g)
 
 -- and no more than so much
 pub begins_within : (a b : ℕ) (old new : Run) → a ≤ b → Begins a old new → Begins b old new
-begins_within a b old new less x = record { fuel = x.fuel; load = by (load old) (burden new) x.load }
+begins_within a b old new less x = record { means = x.means; load = by (load old) (burden new) x.load }
   where
     by : (k n : ℕ) → n ≤ k + a → n ≤ k + b
     by k n f = omega (arith, f, less)
 
 -- so much is gone before
-pub begins_behind : (a b : ℕ) (old mid new : Run) → mid.fuel ≡ old.fuel → load mid + a ≤ load old → Begins b mid new → (c : ℕ) → b ≤ a + c → Begins c old new
-begins_behind a b old mid new fuel less x c few = record { fuel = x.fuel ∙ fuel; load = by (load old) (load mid) (burden new) less x.load }
+pub begins_behind : (a b : ℕ) (old mid new : Run) → means_of mid ≡ means_of old → load mid + a ≤ load old → Begins b mid new → (c : ℕ) → b ≤ a + c → Begins c old new
+begins_behind a b old mid new means less x c few = record { means = x.means ∙ means; load = by (load old) (load mid) (burden new) less x.load }
   where
     by : (k m n : ℕ) → m + a ≤ k → n ≤ m + b → n ≤ k + c
     by k m n f g = omega (arith, f, g, few)
 
-pub falls_behind : (p : Program) (a b : ℕ) (old mid new : Run) → length p.code.ops < 2 ^ 32 → mid.fuel ≡ old.fuel → load mid + a ≤ load old → Begins b mid new → b < a
-    → work p new < work p old
-falls_behind p a b old mid new small fuel less x few =
-    less_falls p old new small (x.fuel ∙ fuel) (by (load old) (waits_work old.doing old.source.ahead) (load mid) (burden new) less x.load)
+-- what waits is less
+pub less_lessens : (p : Program) (old new : Run) → length p.code.ops < 2 ^ 32 → means_of new ≡ means_of old → burden new + 1 ≤ burden old → Lessens p old new
+less_lessens p old new small means less = record {
+  still = same_documents old new means;
+  falls = less_falls p old new small (ap (λ (m : Means). m.fuel) means) less;
+}
+
+pub falls_behind : (p : Program) (a b : ℕ) (old mid new : Run) → length p.code.ops < 2 ^ 32 → means_of mid ≡ means_of old → load mid + a ≤ load old → Begins b mid new → b < a
+    → Lessens p old new
+falls_behind p a b old mid new small means less x few =
+    less_lessens p old new small (x.means ∙ means) (by (load old) (waits_work old.doing old.source.ahead) (load mid) (burden new) less x.load)
   where
     by : (k w m n : ℕ) → m + a ≤ k → n ≤ m + b → n + 1 ≤ k + w
     by k w m n f g = omega (arith, f, g, few)
@@ -70,18 +79,18 @@ body_waits ahead.Here = refl
 body_waits ahead.Held = refl
 body_waits ahead.Ended = refl
 
-pub begins_body : (k : ℕ) (old new : Run) → new.doing ≡ doing.Body → new.fuel ≡ old.fuel → load new ≤ load old + k → Begins k old new
-begins_body k old new is fuel less = record {
-  fuel = fuel;
+pub begins_body : (k : ℕ) (old new : Run) → new.doing ≡ doing.Body → means_of new ≡ means_of old → load new ≤ load old + k → Begins k old new
+begins_body k old new is means less = record {
+  means = means;
   load = by (load old) (load new) (waits_work new.doing new.source.ahead) less (ap (λ d. waits_work d new.source.ahead) is ∙ body_waits new.source.ahead);
 }
   where
     by : (m n w : ℕ) → n ≤ m + k → w ≡ 0 → n + w ≤ m + k
     by m n w f g = omega (arith, f, g)
 
-pub begins_list : (k : ℕ) (old new : Run) → new.fuel ≡ old.fuel → load new ≤ load old + k → Begins (k + 2) old new
-begins_list k old new fuel less = record {
-  fuel = fuel;
+pub begins_list : (k : ℕ) (old new : Run) → means_of new ≡ means_of old → load new ≤ load old + k → Begins (k + 2) old new
+begins_list k old new means less = record {
+  means = means;
   load = by (load old) (load new) (waits_work new.doing new.source.ahead) less (waits_few new.doing new.source.ahead);
 }
   where
@@ -96,13 +105,17 @@ one_less_is (suc n) m e = let same : n ≡ m = cc in ap suc same
 
 -- a unit is spent, and what follows begins less than that pays for
 pub spent_falls : (p : Program) (old mid new : Run) (most : ℕ) → length p.code.ops < 2 ^ 32 → mid ≡ record old { fuel = mid.fuel } → one_less old.fuel ≡ Some mid.fuel
-    → most ≤ 2 ^ 68 → Begins most mid new → work p new < work p old
+    → most ≤ 2 ^ 68 → Begins most mid new → Lessens p old new
 spent_falls p old mid new most small same spent few b =
-    spends_falls p old new small
-    (record {
-      fuel = less old.fuel mid.fuel new.fuel (one_less_is old.fuel mid.fuel spent) b.fuel;
-      load = by (load old) (load mid) (load new) (waits_work new.doing new.source.ahead) b.load (ap load same) few;
-    })
+    record {
+      still = same_documents mid new b.means ∙ ap documents same;
+      falls =
+          spends_falls p old new small
+          (record {
+            fuel = less old.fuel mid.fuel new.fuel (one_less_is old.fuel mid.fuel spent) (ap (λ (m : Means). m.fuel) b.means);
+            load = by (load old) (load mid) (load new) (waits_work new.doing new.source.ahead) b.load (ap load same) few;
+          });
+    }
   where
     less : (k m n : ℕ) → k ≡ suc m → n ≡ m → n < k
     less k m n f g = omega (arith, f, g)
@@ -113,9 +126,9 @@ spent_falls p old mid new most small same spent few b =
 pub spent_ok : (p : Program) (old mid new : Run) (most : ℕ) → length p.code.ops < 2 ^ 32 → mid ≡ record old { fuel = mid.fuel } → one_less old.fuel ≡ Some mid.fuel
     → most ≤ 2 ^ 68 → {E : Type 0} (result : Result Step E) → OnOk result (Begins most mid new) → IfOk result (λ s. Falls p old s new)
 spent_ok p old mid new most small same spent few (Ok step.More) b = spent_falls p old mid new most small same spent few b
-spent_ok p old mid new most small same spent few (Ok step.Wait) b = tt
-spent_ok p old mid new most small same spent few (Ok step.Want) b = tt
-spent_ok p old mid new most small same spent few (Ok step.Over) b = tt
+spent_ok p old mid new most small same spent few (Ok step.Wait) b = same_documents mid new b.means ∙ ap documents same
+spent_ok p old mid new most small same spent few (Ok step.Want) b = same_documents mid new b.means ∙ ap documents same
+spent_ok p old mid new most small same spent few (Ok step.Over) b = same_documents mid new b.means ∙ ap documents same
 spent_ok p old mid new most small same spent few (Err e) b = tt
 
 pub begun_buffer : (whole fuel left id : ℕ) (o : Origin) → IsBuffer id o → fuel_begun whole fuel o ≡ Some left → one_less fuel ≡ Some left
@@ -183,11 +196,15 @@ begins_locals r next place also h frames more is first then_is =
 pub goes_work : (p : Program) (r : Run) (running : Running) (o : Op) (at : IsAtOp p r running o) (frames : FrameStack) (g : Frame → Frame) (to : ℕ)
     → ((f : Frame) → frame_work (g f) ≡ frame_work f) → reverse frames.frames ≡ on_body g (reverse r.frames.frames)
     → pc_in (on_body g (reverse r.frames.frames)) ≡ Some to → free p.code (length p.code.ops) to < free p.code (length p.code.ops) running.pc
-    → work p (record r { frames = frames }) < work p r
+    → Lessens p r (record r { frames = frames })
 goes_work p r running o at frames g to same is pc less =
     let weigh : frames_work (reverse frames.frames) ≡ frames_work (reverse r.frames.frames) = ap frames_work is ∙ body_weighs g same (reverse r.frames.frames) in
-    goes_falls p r (record r { frames = frames }) running.pc to at.doing at.doing refl refl
-    (ap (λ n. n + ahead_work r.source.ahead + outer_work r.outer.items) weigh) at.pc (ap pc_in is ∙ pc) less
+    record {
+      still = refl;
+      falls =
+          goes_falls p r (record r { frames = frames }) running.pc to at.doing at.doing refl refl
+          (ap (λ n. n + ahead_work r.source.ahead + outer_work r.outer.items) weigh) at.pc (ap pc_in is ∙ pc) less;
+    }
 
 -- its place among the stations
 station : (p : Program) (r : Run) (running : Running) (o : Op) (at : IsAtOp p r running o) → (c : Context) × Goes at.well.stations running.pc c
@@ -203,14 +220,14 @@ pc_goes next pc (Call procedure old locals level ∷ fs) at = refl
 pc_goes next pc (f ∷ fs) at = absurd (cc)
 
 pub jump_works : (p : Program) (r : Run) (running : Running) (to : ℕ) (at : IsAtOp p r running (op.Jump to)) (frames : FrameStack)
-    → frames ≡ with_frames (changed (with_pc to) running.body r.frames.frames) r.frames → work p (record r { frames = frames }) < work p r
+    → frames ≡ with_frames (changed (with_pc to) running.body r.frames.frames) r.frames → Lessens p r (record r { frames = frames })
 jump_works p r running to at frames is =
     let s = station p r running (op.Jump to) at in
     goes_work p r running (op.Jump to) at frames (with_pc to) to (pc_weighs to) (behind_pc p r running (op.Jump to) at to frames is).0
     (pc_goes to running.pc (reverse r.frames.frames) at.pc) (jump_falls p.code at.well.stations p.sheet at.well.stand running.pc to s.1.0 s.0 at.is s.1.1)
 
 pub close_works : (p : Program) (r : Run) (running : Running) (n : ℕ) (at : IsAtOp p r running (op.Close n)) (frames : FrameStack)
-    → frames ≡ with_frames (changed (with_pc (running.pc + 1)) running.body r.frames.frames) r.frames → work p (record r { frames = frames }) < work p r
+    → frames ≡ with_frames (changed (with_pc (running.pc + 1)) running.body r.frames.frames) r.frames → Lessens p r (record r { frames = frames })
 close_works p r running n at frames is =
     let s = station p r running (op.Close n) at in
     let to = running.pc + 1 in
@@ -219,7 +236,7 @@ close_works p r running n at frames is =
 
 pub tagged_works : (p : Program) (r : Run) (running : Running) (n : ℕ) (h : List Local → List Local) (at : IsAtOp p r running (op.Close n)) (frames more : FrameStack)
     → frames ≡ with_frames (changed (with_pc (running.pc + 1)) running.body r.frames.frames) r.frames
-    → more ≡ with_frames (changed (with_locals h) running.body frames.frames) frames → work p (record r { frames = more }) < work p r
+    → more ≡ with_frames (changed (with_locals h) running.body frames.frames) frames → Lessens p r (record r { frames = more })
 tagged_works p r running n h at frames more is then_is =
     let s = station p r running (op.Close n) at in
     let to = running.pc + 1 in
@@ -229,7 +246,7 @@ tagged_works p r running n h at frames more is then_is =
 
 pub drop_works : (p : Program) (r : Run) (running : Running) (count : ℕ) (h : List Local → List Local) (at : IsAtOp p r running (op.Drop count)) (frames more : FrameStack)
     → frames ≡ with_frames (changed (with_pc (running.pc + 1)) running.body r.frames.frames) r.frames
-    → more ≡ with_frames (changed (with_locals h) running.body frames.frames) frames → work p (record r { frames = more }) < work p r
+    → more ≡ with_frames (changed (with_locals h) running.body frames.frames) frames → Lessens p r (record r { frames = more })
 drop_works p r running count h at frames more is then_is =
     let s = station p r running (op.Drop count) at in
     let to = running.pc + 1 in
@@ -239,8 +256,8 @@ drop_works p r running count h at frames more is then_is =
 
 -- the test of a branch, which holds or doesn't
 pub branch_works : (p : Program) (r : Run) (running : Running) (n arm to b : ℕ) (at : IsAtOp p r running (op.Test n arm to)) → HasForm p.code n (Choices b)
-    → ((frames : FrameStack) → frames ≡ with_frames (changed (with_pc (running.pc + 1)) running.body r.frames.frames) r.frames → work p (record r { frames = frames }) < work p r)
-    × ((frames : FrameStack) → frames ≡ with_frames (changed (with_pc to) running.body r.frames.frames) r.frames → work p (record r { frames = frames }) < work p r)
+    → ((frames : FrameStack) → frames ≡ with_frames (changed (with_pc (running.pc + 1)) running.body r.frames.frames) r.frames → Lessens p r (record r { frames = frames }))
+    × ((frames : FrameStack) → frames ≡ with_frames (changed (with_pc to) running.body r.frames.frames) r.frames → Lessens p r (record r { frames = frames }))
 branch_works p r running n arm to b at has =
     let o = op.Test n arm to in
     let s = station p r running o at in
@@ -255,9 +272,9 @@ branch_works p r running n arm to b at has =
 
 -- The top frame is gone.
 pub top_off : (p : Program) (r : Run) (frames : FrameStack) (f : Frame) (gs : List Frame) → length p.code.ops < 2 ^ 32 → reverse r.frames.frames ≡ f ∷ gs
-    → frames_work (reverse frames.frames) ≡ frames_work gs → 0 < frame_work f → work p (record r { frames = frames }) < work p r
+    → frames_work (reverse frames.frames) ≡ frames_work gs → 0 < frame_work f → Lessens p r (record r { frames = frames })
 top_off p r frames f gs small is same some =
-    less_falls p r (record r { frames = frames }) small refl
+    less_lessens p r (record r { frames = frames }) small refl
     (by (frames_work (reverse frames.frames)) (frames_work (reverse r.frames.frames)) (frame_work f) (frames_work gs) (ahead_work r.source.ahead) (outer_work r.outer.items)
     (waits_work r.doing r.source.ahead) (ap frames_work is) same some)
   where
@@ -266,8 +283,8 @@ top_off p r frames f gs small is same some =
 
 -- What else a run has doesn't matter.
 
-pub begins_as : (k : ℕ) (old other new : Run) → other.fuel ≡ old.fuel → load other ≡ load old → Begins k other new → Begins k old new
-begins_as k old other new fuel same b = record { fuel = b.fuel ∙ fuel; load = subst (λ n. burden new ≤ n + k) same b.load }
+pub begins_as : (k : ℕ) (old other new : Run) → means_of other ≡ means_of old → load other ≡ load old → Begins k other new → Begins k old new
+begins_as k old other new means same b = record { means = b.means ∙ means; load = subst (λ n. burden new ≤ n + k) same b.load }
 
 pub puts_begin : (old new : Run) → OnlyPuts old new → old.doing ≡ doing.Body → Begins 0 old new
 puts_begin old new o is =
@@ -280,17 +297,20 @@ pub still_begins : (r : Run) → r.doing ≡ doing.Body → Begins 0 r r
 still_begins r is = begins_body 0 r r is refl (omega arith)
 
 pub spent_on : (p : Program) (old mid new : Run) (most : ℕ) → length p.code.ops < 2 ^ 32 → mid ≡ record old { fuel = mid.fuel } → one_less old.fuel ≡ Some mid.fuel
-    → most ≤ 2 ^ 68 → {A E : Type 0} (result : Result A E) → OnOk result (Begins most mid new) → OnOk result (work p new < work p old)
+    → most ≤ 2 ^ 68 → {A E : Type 0} (result : Result A E) → OnOk result (Begins most mid new) → OnOk result (Lessens p old new)
 spent_on p old mid new most small same spent few (Ok a) b = spent_falls p old mid new most small same spent few b
 spent_on p old mid new most small same spent few (Err e) b = tt
 
 -- a unit is spent, parts are put, and the body goes on
 pub puts_falls : (p : Program) (old mid put new : Run) → length p.code.ops < 2 ^ 32 → mid ≡ record old { fuel = mid.fuel } → one_less old.fuel ≡ Some mid.fuel
-    → OnlyPuts mid put → old.doing ≡ doing.Body → Begins 0 put new → work p new < work p old
+    → OnlyPuts mid put → old.doing ≡ doing.Body → Begins 0 put new → Lessens p old new
 puts_falls p old mid put new small same spent o is b =
     spent_falls p old mid new 0 small same spent (omega arith)
     (begins_on 0 0 mid put new (puts_begin mid put o (ap (λ (x : Run). x.doing) same ∙ is)) b)
 
 -- parts are put, and then it falls
-pub falls_put : (p : Program) (old put new : Run) → OnlyPuts old put → work p new < work p put → work p new < work p old
-falls_put p old put new o less = subst (λ n. work p new < n) (ap (work p) o.rest) less
+pub falls_put : (p : Program) (old put new : Run) → OnlyPuts old put → Lessens p put new → Lessens p old new
+falls_put p old put new o less = record {
+  still = less.still ∙ ap documents o.rest;
+  falls = subst (λ n. work p new < n) (ap (work p) o.rest) less.falls;
+}

@@ -10,13 +10,12 @@ use Rattle.node_stack.specs.Path.{Node, Document, can_end, can_have_children, is
 use Rattle.template_machine.specs.Bodies.{level_in, skipped_in, takes_events}
 use Rattle.template_machine.specs.Contexts.{Station}
 use Rattle.template_machine.specs.Standing.{Front, Known, Standing, Unknown, Waits, node_over, with_way}
-use Rattle.template_machine.specs.Ways.{IsWay, Way, entered, here, left, number_of, open_on}
+use Rattle.template_machine.specs.Ways.{IsWay, Way, entered, here, left, lists_on, number_of}
 use Rattle.template_machine.specs.Well.{AreGone, AreWell, CanTake, HasList, HeadIsThere, IsFrontFor, IsOpen, IsSettled, ListFits, ListGoesOn, NodeIsThere, TakeNodes, is_again}
 use Rattle.template_machine.specs.declared.program.Program.{Program}
-use Rattle.template_machine.proofs.Entering.{known_open}
+use Rattle.template_machine.proofs.Entering.{known_leaf}
 use Rattle.template_machine.proofs.Leaving.{node_leaves}
-use Rattle.template_machine.proofs.Sourcing.{counted_node, open_here}
-use Rattle.template_machine.proofs.Ways.{open_more}
+use Rattle.template_machine.proofs.Ways.{counted_list, list_left, lists_more}
 
 -- A list of nodes that are taken.
 
@@ -107,11 +106,11 @@ module _ (p : Program) (stations : List Station) where
 
   -- A head is the current node.
   pub head_there : (fs : List Frame) (s : Standing) (x : Node) (n m : ℕ) → AreWell p stations 0 true fs s → takes_events fs ≡ true → skipped_in fs ≡ None
-      → ListFits fs s.source.way n Unknown → can_end (Some x) ≡ true → is_attribute (Some x) ≡ false → counted_node x + n ≤ m
+      → ListFits fs s.source.way n Unknown → can_end (Some x) ≡ true → is_attribute (Some x) ≡ false → counted_list x + n ≡ m
       → NodeIsThere p stations fs (with_way (entered x s.source.way) s) (record { front = Unknown; begun = m })
   head_there fs s x n m w takes noskip fits end leaf more =
       let l = list_parts fs s.source.way n Unknown takes noskip fits in
-      let room : open_on (entered x s.source.way) ≤ m = omega (arith, open_more x s.source.way, l.2, more) in
+      let room : lists_on (entered x s.source.way) ≡ m = omega (arith, lists_more x s.source.way, l.2, more) in
       record {
         there = record {
           well = w;
@@ -145,29 +144,18 @@ module _ (p : Program) (stations : List Station) where
       }
 
   -- A head is over, which isn't the document node, and of which nothing was processed.
-  leaves_by : (b : Bool) (A : Type 0) (w : Way) (n : ℕ) (front : Front) → MatchBool b A (IsOpen w n front) → MatchBool b A (IsFrontFor (left w) n front)
-  leaves_by true A w n front h = h
-  leaves_by false A w n front h = known_open false w n front h
+  leaves_by : (b : Bool) (A : Type 0) (w : Way) (n : ℕ) (front : Front) → can_have_children (here w) ≡ false → MatchBool b A (IsOpen w n front)
+      → MatchBool b A (IsFrontFor (left w) n front)
+  leaves_by true A w n front none h = h
+  leaves_by false A w n front none h = known_leaf w n front none h
 
   pub head_leaves : (fs : List Frame) (s : Standing) (known : Known) → HeadIsThere p stations fs s known → IsWay s.source.way.nodes
-      → (here s.source.way ≡ Some Document → ⊥) → ListGoesOn p stations fs (node_over s) known
-  head_leaves fs s known h way apart =
+      → (here s.source.way ≡ Some Document → ⊥) → can_have_children (here s.source.way) ≡ false → ListGoesOn p stations fs (node_over s) known
+  head_leaves fs s known h way apart none =
       node_leaves p stations fs s known way apart h.take
-      (leaves_by (is_attribute (here s.source.way)) _ s.source.way known.begun known.front h.fits) h.well
+      (leaves_by (is_attribute (here s.source.way)) _ s.source.way known.begun known.front none h.fits) h.well
 
 -- What is told ends a list.
 
-document_bottom : (limit : ℕ) (nodes : List Node) → IsWay nodes → here (record { limit = limit; nodes = nodes }) ≡ Some Document → open_on (left (record { limit = limit; nodes = nodes })) ≡ 0
-document_bottom limit [] way e = absurd (cc)
-document_bottom limit (x ∷ []) way e = refl
-document_bottom limit (x ∷ y ∷ ys) way e = let same : x ≡ Document = cc in absurd (way.0 same)
-
-ends_by : (x : Node) (w : Way) (n : ℕ) → here w ≡ Some x → can_have_children (Some x) ≡ true → IsWay w.nodes → open_on w ≤ n → open_on (left w) ≤ n - 1
-ends_by node.Document w n is has way room = let none = document_bottom w.limit w.nodes way is in omega (arith, none)
-ends_by (node.Element name attrs decls first) w n is has way room =
-    let more = open_here w (node.Element name attrs decls first) is in omega (arith, more, room)
-ends_by x w n is has way room = absurd (false≢true has)
-
-pub list_ends : (w : Way) (n : ℕ) → HasList w → IsWay w.nodes → open_on w ≤ n → open_on (left w) ≤ n - 1
-list_ends w n has way room =
-    let x = list_node w has in ends_by x.0 w n x.1 (sym (ap can_have_children x.1) ∙ has) way room
+pub list_ends : (w : Way) (n : ℕ) → HasList w → lists_on w ≡ n → lists_on (left w) ≡ n - 1
+list_ends w n has fits = omega (arith, list_left w has, fits)

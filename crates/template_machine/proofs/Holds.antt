@@ -1,7 +1,7 @@
 -- What buffers hold stays what they may hold: elements that nest no deeper than a limit, and the texts of CDATA sections.
 use Rattle.std.proofs.Common.{◌≡◌, ℕ, zero, suc, ◌≤◌, Bool, true, false, ◌&&◌, cond, List, [], ◌∷◌, ◌++◌, map, All, Option, Some, None, refl, ap, sym, subst, ◌∙◌}
 use Rattle.std.specs.Prelude.{◌==◌, drop, if◌then◌else◌, unwrap_or}
-use Rattle.std.specs.List.{find, list_all, slice_get, slice_set}
+use Rattle.std.specs.List.{find, slice_get, slice_set}
 use Rattle.std.specs.Option.{option_and_then, option_map, option_map_or, option_to_list}
 use Rattle.std.proofs.lemmas.Bool.{and_from, false≢true}
 use Rattle.std.proofs.lemmas.List.Elements.{All-cons, All-head, All-tail}

@@ -13,7 +13,7 @@ use Rattle.instr_code.specs.declared.code.Op.{Op}
 use Rattle.instr_code.specs.declared.code.Op.TheVariants as op
 use Rattle.instr_code.proofs.Bounds.{all_bodies}
 use Rattle.instr_code.proofs.Turns.{count_of}
-use Rattle.sheet_model.specs.Body.{all_of, bodies, body_nesting, children, instructions}
+use Rattle.sheet_model.specs.Body.{all_of, body_nesting, children, instructions}
 use Rattle.sheet_model.specs.declared.instr.Instr.{Instr}
 use Rattle.sheet_model.specs.declared.sheet.Procedure.{Procedure}
 use Rattle.sheet_model.specs.declared.sheet.Sheet.{Sheet}

@@ -23,6 +23,7 @@ pub mod Stopping
 pub mod Arms
 pub mod Around
 pub mod Beginning
+pub mod Documents
 pub mod Falling
 pub mod Firsts
 pub mod Answering
@@ -114,3 +115,5 @@ pub mod Eased
 pub mod Sights
 pub mod Turning
 pub mod Lightened
+pub mod Grounded
+pub mod Machines

@@ -10,9 +10,9 @@ use Rattle.instr_code.specs.declared.code.Op.TheVariants as op
 use Rattle.template_machine.specs.Bodies.{skipped_in}
 use Rattle.template_machine.specs.Standing.{standing_of}
 use Rattle.template_machine.specs.Steps.{fuel_begun, fuel_ended, one_less}
-use Rattle.template_machine.specs.Ways.{open_on}
+use Rattle.template_machine.specs.Ways.{lists_on}
 use Rattle.template_machine.specs.Moments.{IsAtOp, IsBuffer, SkipEnds, SkipsOn}
-use Rattle.template_machine.specs.Work.{Begins, Falls, Sheds, ahead_work, burden, frame_work, frames_work, load, outer_work, waits_work, work}
+use Rattle.template_machine.specs.Work.{Begins, Falls, Lessens, Sheds, ahead_work, burden, frame_work, frames_work, load, means_of, outer_work, waits_work, work}
 use Rattle.template_machine.specs.declared.program.Program.{Program}
 use Rattle.template_machine.specs.declared.run.Doing.TheVariants as doing
 use Rattle.template_machine.specs.declared.run.Run.{Run}
@@ -24,7 +24,8 @@ use Rattle.template_machine.specs.declared.source.Ahead.TheVariants as ahead
 use Rattle.template_machine.specs.declared.source.Origin.{Origin}
 use Rattle.template_machine.specs.declared.source.Origin.TheVariants as origin
 use Rattle.template_machine.specs.declared.source.Source as sources
-use Rattle.template_machine.proofs.Falling.{begins_list, begins_within, begun_buffer, falls_behind, frame_pushed, top_off}
+use Rattle.template_machine.proofs.Documents.{same_documents}
+use Rattle.template_machine.proofs.Falling.{begins_list, begins_within, begun_buffer, falls_behind, frame_pushed, less_lessens, top_off}
 use Rattle.template_machine.proofs.Operating.{body_on_top}
 use Rattle.template_machine.proofs.Tops.{skip_top}
 use Rattle.template_machine.proofs.Works.{less_falls, spends_falls, waits_few}
@@ -71,9 +72,9 @@ pub begins_still : (r : Run) → Begins 2 r r
 begins_still r = begins_list 0 r r refl (no_more (load r) (load r) refl)
 
 -- a list goes on
-pub goes_on_list : (r m n : Run) → n ≡ record m { doing = doing.List } → m.fuel ≡ r.fuel → load m ≡ load r → Begins 2 r n
-goes_on_list r m n is fuel same =
-    subst (Begins 2 r) (sym is) (begins_list 0 r (record m { doing = doing.List }) fuel (no_more (load m) (load r) same))
+pub goes_on_list : (r m n : Run) → n ≡ record m { doing = doing.List } → means_of m ≡ means_of r → load m ≡ load r → Begins 2 r n
+goes_on_list r m n is means same =
+    subst (Begins 2 r) (sym is) (begins_list 0 r (record m { doing = doing.List }) means (no_more (load m) (load r) same))
 
 -- one over the others
 pub pushed_list : (j : ℕ) (r m n : Run) (f : Frame) → m ≡ record r { frames = with_frames (r.frames.frames ++ f ∷ []) r.frames } → n ≡ record m { doing = doing.List }
@@ -91,26 +92,26 @@ pushed_list j r m n f same is few =
     by : (n t g a o : ℕ) → n ≡ t + g + a + o → n ≤ g + a + o + t
     by n t g a o e = omega (arith, e)
 
-pub sheds_behind : (a b : ℕ) (old mid new : Run) → mid.fuel ≡ old.fuel → load mid + a ≤ load old → Begins b mid new → (c : ℕ) → b + c ≤ a → Sheds c old new
-sheds_behind a b old mid new fuel less x c few = record { fuel = x.fuel ∙ fuel; load = by (load old) (load mid) (burden new) less x.load }
+pub sheds_behind : (a b : ℕ) (old mid new : Run) → means_of mid ≡ means_of old → load mid + a ≤ load old → Begins b mid new → (c : ℕ) → b + c ≤ a → Sheds c old new
+sheds_behind a b old mid new means less x c few = record { means = x.means ∙ means; load = by (load old) (load mid) (burden new) less x.load }
   where
     by : (k m n : ℕ) → m + a ≤ k → n ≤ m + b → n + c ≤ k
     by k m n f g = omega (arith, f, g, few)
 
-pub begins_shed : (a k : ℕ) (old mid new : Run) → mid.fuel ≡ old.fuel → load mid ≤ load old + (k + a) → Sheds a mid new → Begins k old new
-begins_shed a k old mid new fuel more x = record { fuel = x.fuel ∙ fuel; load = by (load old) (load mid) (burden new) more x.load }
+pub begins_shed : (a k : ℕ) (old mid new : Run) → means_of mid ≡ means_of old → load mid ≤ load old + (k + a) → Sheds a mid new → Begins k old new
+begins_shed a k old mid new means more x = record { means = x.means ∙ means; load = by (load old) (load mid) (burden new) more x.load }
   where
     by : (l m n : ℕ) → m ≤ l + (k + a) → n + a ≤ m → n ≤ l + k
     by l m n f g = omega (arith, f, g)
 
 -- what is known of a list pays for what is begun
-pub begins_ok : (p : Program) (a b : ℕ) (old mid new : Run) → length p.code.ops < 2 ^ 32 → mid.fuel ≡ old.fuel → load mid + a ≤ load old → b < a
+pub begins_ok : (p : Program) (a b : ℕ) (old mid new : Run) → length p.code.ops < 2 ^ 32 → means_of mid ≡ means_of old → load mid + a ≤ load old → b < a
     → {E : Type 0} (result : Result Step E) → OnOk result (Begins b mid new) → IfOk result (λ step. Falls p old step new)
-begins_ok p a b old mid new small fuel less few (Ok step.More) x = falls_behind p a b old mid new small fuel less x few
-begins_ok p a b old mid new small fuel less few (Ok step.Wait) x = tt
-begins_ok p a b old mid new small fuel less few (Ok step.Want) x = tt
-begins_ok p a b old mid new small fuel less few (Ok step.Over) x = tt
-begins_ok p a b old mid new small fuel less few (Err e) x = tt
+begins_ok p a b old mid new small means less few (Ok step.More) x = falls_behind p a b old mid new small means less x few
+begins_ok p a b old mid new small means less few (Ok step.Wait) x = same_documents old new (x.means ∙ means)
+begins_ok p a b old mid new small means less few (Ok step.Want) x = same_documents old new (x.means ∙ means)
+begins_ok p a b old mid new small means less few (Ok step.Over) x = same_documents old new (x.means ∙ means)
+begins_ok p a b old mid new small means less few (Err e) x = tt
 
 -- what was known of the list is known no more
 pub known_less : (r n : Run) (b a : Ahead) (k : ℕ) → r.source.ahead ≡ b → ahead_work a + k ≡ ahead_work b → reverse n.frames.frames ≡ reverse r.frames.frames
@@ -122,10 +123,10 @@ known_less r n b a k was less frames at outer =
     by n r x b a d e f = omega (arith, d, e, f)
 
 -- a head that was held is the current node
-pub resumed_falls : (p : Program) (r n : Run) → length p.code.ops < 2 ^ 32 → n.fuel ≡ r.fuel → r.source.ahead ≡ ahead.Held → reverse n.frames.frames ≡ reverse r.frames.frames
-    → n.source.ahead ≡ ahead.Here → n.outer.items ≡ r.outer.items → n.doing ≡ doing.List → work p n < work p r
-resumed_falls p r n small fuel was frames at outer list =
-    less_falls p r n small fuel
+pub resumed_falls : (p : Program) (r n : Run) → length p.code.ops < 2 ^ 32 → means_of n ≡ means_of r → r.source.ahead ≡ ahead.Held → reverse n.frames.frames ≡ reverse r.frames.frames
+    → n.source.ahead ≡ ahead.Here → n.outer.items ≡ r.outer.items → n.doing ≡ doing.List → Lessens p r n
+resumed_falls p r n small means was frames at outer list =
+    less_lessens p r n small means
     (by (load n) (load r) (waits_work n.doing n.source.ahead) (waits_work r.doing r.source.ahead) (known_less r n ahead.Held ahead.Here 1 was refl frames at outer)
     (ap (λ d. waits_work d n.source.ahead) list ∙ ap (λ a. waits_work doing.List a) at))
   where
@@ -150,7 +151,7 @@ attributes_weigh next small = omega (arith, small)
 -- The body of a procedure is over.
 pub call_works : (p : Program) (r : Run) (running : Running) (number pc : ℕ) (locals : List Local) (level : ℕ) (frames : FrameStack) → IsAtOp p r running op.Return
     → slice_get r.frames.frames running.body ≡ Some (Call number pc locals level)
-    → ((top : Frame) (others : List Frame) → reverse r.frames.frames ≡ top ∷ others → reverse frames.frames ≡ others) → work p (record r { frames = frames }) < work p r
+    → ((top : Frame) (others : List Frame) → reverse r.frames.frames ≡ top ∷ others → reverse frames.frames ≡ others) → Lessens p r (record r { frames = frames })
 call_works p r running number pc locals level frames at is off =
     let x = Call number pc locals level in
     let t = body_on_top p r running x at is in
@@ -230,10 +231,10 @@ skip_begun p r m n whole id depth h same begun buffer deep =
     let t = skip_top (reverse r.frames.frames) h.skipped in
     let d = deep t.0 (ap (λ (x : Run). skipped_in (reverse x.frames.frames)) same ∙ ap skipped_in t.1.1) in
     node_begun p r m n whole id h.steady.places same begun buffer d.0
-    (by (load n) (load m) (waits_work n.doing n.source.ahead) (waits_work m.doing m.source.ahead) t.0 (open_on (standing_of r).source.way) r.source.begun
+    (by (load n) (load m) (waits_work n.doing n.source.ahead) (waits_work m.doing m.source.ahead) t.0 (lists_on (standing_of r).source.way) r.source.begun
     (standing_of r).source.way.limit d.1 (waits_few m.doing m.source.ahead) h.begun h.steady.source.counted h.steady.source.small)
   where
-    by : (n m w v d o b limit : ℕ) → n + w + d ≡ m + v + depth → v ≤ 2 → o + depth ≤ b → b ≤ limit → limit < 2 ^ 32 → n ≤ m + 2 ^ 33
+    by : (n m w v d o b limit : ℕ) → n + w + d ≡ m + v + depth → v ≤ 2 → o + depth ≡ b → b ≤ limit + 1 → limit + 1 < 2 ^ 32 → n ≤ m + 2 ^ 33
     by n m w v d o b limit e f g h i = omega (arith, e, f, g, h, i)
 
 -- an element ends in it

@@ -1,5 +1,5 @@
 -- What a list that goes on comes to.
-use Rattle.std.proofs.Common.{◌≡◌, ◌≢◌, ℕ, zero, suc, ◌+◌, ◌<◌, ◌≤◌, Bool, true, false, List, [], ◌∷◌, length, map, reverse, Option, Some, None, IsSome, refl, ap, sym, subst, ◌∙◌, arith}
+use Rattle.std.proofs.Common.{◌≡◌, ◌≢◌, ℕ, zero, suc, ◌+◌, ◌<◌, ◌≤◌, Bool, true, List, [], ◌∷◌, length, map, reverse, Option, Some, None, IsSome, refl, ap, sym, subst, ◌∙◌, arith}
 use Rattle.std.specs.Prelude.{MatchBool, is_none}
 use Rattle.std.specs.List.{slice_get}
 use Rattle.std.specs.Option.{option_map}
@@ -16,7 +16,7 @@ use Rattle.template_machine.specs.Bodies.{level_in, next_in, skipped_in, takes_e
 use Rattle.template_machine.specs.Contexts.{Station}
 use Rattle.template_machine.specs.Sources.{around_node, held_node, within_node}
 use Rattle.template_machine.specs.Standing.{Known, Over, Standing, Unknown, Waits, front_of, known_now, known_of, node_over, room_of, rooms_of, standing_of, with_way}
-use Rattle.template_machine.specs.Ways.{Way, entered, first_in, here, left, open_on, way_of}
+use Rattle.template_machine.specs.Ways.{Way, entered, first_in, here, left, lists_on, open_on, way_of}
 use Rattle.template_machine.specs.Moments.{HasHead, HeadIsLooked, ListIsOver, RegionIsOver}
 use Rattle.template_machine.specs.Well.{AreWell, AsksBefore, CanReturn, GoesOn, HasList, HeadIsThere, IsFrontFor, IsOpen, IsSettled, IsWaiting, IsWell, ListFits, ListGoesOn, NodeIsThere, StandOnRegion, TakeNodes, TellWithin}
 use Rattle.template_machine.specs.declared.program.Program.{Program}
@@ -25,7 +25,7 @@ use Rattle.template_machine.specs.declared.run.Run.{Run}
 use Rattle.template_machine.specs.declared.source.Ahead.{Ahead}
 use Rattle.template_machine.specs.declared.source.Ahead.TheVariants as ahead
 use Rattle.template_machine.specs.declared.source.Source as sources
-use Rattle.template_machine.proofs.Arriving.{ends_leaf}
+use Rattle.template_machine.proofs.Arriving.{ends_leaf, ends_apart}
 use Rattle.template_machine.proofs.Asking.{AreBased, has_asker, list_asked}
 use Rattle.template_machine.proofs.Going.{SameBut, same_standing, same_steady, same_within, waits_by, well_head_at}
 use Rattle.template_machine.proofs.Headed.{held_there, list_parts, noskip_of}
@@ -33,9 +33,10 @@ use Rattle.template_machine.proofs.Sourcing.{known_parts, open_here, room_same, 
 use Rattle.template_machine.proofs.Streams.{attributes_end}
 use Rattle.template_machine.proofs.Taken.{source_standing, source_steady}
 use Rattle.template_machine.proofs.Tops.{attributes_top}
-use Rattle.template_machine.proofs.Ways.{one_element, open_more, way_attribute, way_here, way_left, way_resumed}
+use Rattle.template_machine.proofs.Ways.{entered_room, one_element, open_more, way_attribute, way_here, way_left, way_resumed}
 use Rattle.template_machine.specs.Sections.{HoldsSection, IsHeldWell}
 use Rattle.template_machine.proofs.Shelved.{stands_still}
+use Rattle.template_machine.proofs.Nodes.{is_way}
 
 -- a run whose list goes on
 pub list_goes : (p : Program) (r : Run) (w : IsWell p r) → r.doing ≡ doing.List
@@ -105,7 +106,7 @@ attribute_taken p r n w next g there same is source frames =
     let next_same : n.source.next ≡ r.source.next = ap (λ (y : sources.Source). y.next) source in
     let origin : n.source.origin ≡ r.source.origin = ap (λ (y : sources.Source). y.origin) source in
     let well = source_entered r.source n.source x w.steady.source way (ap (λ (y : sources.Source). y.bindings) source) (still_held r.source n.source w.steady.source ahead held)
-    (omega (arith, open_more x v, w.steady.source.room)) (subst (λ b. b ≤ v.limit) (sym begun) w.steady.source.counted) tt in
+    (omega (arith, open_more x v, w.steady.source.room)) (subst (λ b. b ≤ v.limit + 1) (sym begun) w.steady.source.counted) tt in
     let stand = same_standing r n (record { origin = r.source.origin; way = entered x v }) same (stream_parts n.source r.source.origin (entered x v) origin way) in
     let known = known_parts n.source r.source.ahead r.source.held r.source.begun ahead held begun in
     let within : TellWithin (Attributes next g.asked ∷ g.frames) (rooms_of r) s.shelves = subst (λ l. TellWithin l (rooms_of r) s.shelves) g.is w.steady.within in
@@ -162,7 +163,7 @@ pub record HoldsHead (p : Program) (r : Run) (stations : List Station) : Type 0 
   pub section : HoldsSection (path_node node).node
   pub list : HasList (standing_of r).source.way
   pub can : CanReturn (path_node node).node (standing_of r).source.way
-  pub room : open_on (entered (path_node node).node (standing_of r).source.way) ≤ r.source.begun
+  pub room : lists_on (entered (path_node node).node (standing_of r).source.way) ≡ r.source.begun
   pub head :
       NodeIsThere p stations (reverse r.frames.frames) (with_way (entered (path_node node).node (standing_of r).source.way) (standing_of r))
       (record { front = Unknown; begun = r.source.begun })
@@ -207,8 +208,9 @@ head_resumed p r n w h same frames is scopes at origin counts doing =
     let x = (path_node h.node).node in
     let way : way_of (path n.source.stack) ≡ entered x v = ap way_of is ∙ way_resumed (path_node h.node) (path r.source.stack) in
     let limit : (path n.source.stack).limit ≡ (path r.source.stack).limit = ap (λ (u : Way). u.limit) way in
-    let source = source_entered r.source n.source x w.steady.source way scopes (λ e. absurd (not_held (sym at ∙ e))) (omega (arith, h.room, w.steady.source.counted))
-    (subst (λ b. b ≤ v.limit) (sym counts.0) w.steady.source.counted) h.section in
+    let source = source_entered r.source n.source x w.steady.source way scopes (λ e. absurd (not_held (sym at ∙ e)))
+    (entered_room x v r.source.begun v.limit (ends_apart x h.can.end) (is_way r.source.stack) h.room w.steady.source.counted)
+    (subst (λ b. b ≤ v.limit + 1) (sym counts.0) w.steady.source.counted) h.section in
     let stand = same_standing r n (record { origin = r.source.origin; way = entered x v }) same (stream_parts n.source r.source.origin (entered x v) origin way) in
     let known : known_now n ≡ record { front = Unknown; begun = r.source.begun } =
     ap (λ a. record { front = front_of a n.source.held; begun = n.source.begun }) at ∙ ap (λ b. record { front = Unknown; begun = b }) counts.0 in
@@ -322,7 +324,7 @@ head_held p r n x h on last same frames gone scopes at held origin counts =
     (ap is_attribute top ∙ ends_leaf x.node end) h.head.there.fits in
     let back = put_back v x.node top in
     let fits : IsFrontFor (left v) r.source.begun (Waits x.node) =
-    (can_return x.node v (is_element x.node) refl list end top h.steady.source.room, subst (λ u. open_on u ≤ r.source.begun) (sym back) o.1) in
+    (can_return x.node v (is_element x.node) refl list end top h.steady.source.room, subst (λ u. lists_on u ≡ r.source.begun) (sym back) o.1) in
     let front : (known_now n).front ≡ Waits x.node = ap (λ a. front_of a n.source.held) at ∙ held_front_is n.source.held held in
     record {
       steady = same_steady p r n h.steady same source (same_within p r n h.steady frames (room_same r.source n.source limit counts.0 counts.1));

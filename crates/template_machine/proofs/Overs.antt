@@ -15,7 +15,7 @@ use Rattle.template_machine.specs.Contexts.{Station}
 use Rattle.template_machine.specs.Lists.{rest_of}
 use Rattle.template_machine.specs.Sources.{around_node, held_node, within_node}
 use Rattle.template_machine.specs.Standing.{Front, Known, Over, Standing, Unknown, front_of, known_now, node_over, outer_of, region_over, room_of, rooms_of, skip_over, skipped_by, standing_of, waits_from_here}
-use Rattle.template_machine.specs.Ways.{Way, entered, first_in, here, left, open_on, way_of}
+use Rattle.template_machine.specs.Ways.{Way, entered, first_in, here, left, lists_on, open_on, way_of}
 use Rattle.template_machine.specs.Moments.{Follows, GoesOrWaits, IsDocument, ListIsOver, NodeIsOver, PutsAside, RegionIsOver, StandsAsBefore}
 use Rattle.template_machine.specs.Well.{AreGone, AreWell, BodyWaits, CanReturn, CanTake, HasList, IsFrontFor, IsSettled, IsOuterWell, IsSourceWell, IsSteady, IsWaiting, IsWell, ListFits, ListGoesOn, OnFirst, StandOnRegion, TellWithin}
 use Rattle.template_machine.specs.declared.program.Program.{Program}
@@ -29,6 +29,7 @@ use Rattle.template_machine.specs.declared.source.Ahead.TheVariants as ahead
 use Rattle.template_machine.specs.declared.source.Source as sources
 use Rattle.template_machine.proofs.Arriving.{ends_leaf, known_nothing}
 use Rattle.template_machine.proofs.Going.{SameBut, same_standing, same_steady, same_within, standing_parts, steady_on, waits_by, well_list_at}
+use Rattle.template_machine.proofs.Grounded.{none_open}
 use Rattle.template_machine.proofs.Leaving.{around, node_leaves}
 use Rattle.template_machine.proofs.Nodes.{is_way}
 use Rattle.template_machine.proofs.Regions.{region_ends, settles}
@@ -112,7 +113,7 @@ region_found_over p r n h on same frames is scopes at origin counts =
     let v = s.source.way in
     let l = region_fits fs v r.source.begun Over on h.fits in
     let source = source_stays r.source n.source h.steady.source is scopes (λ e. absurd (not_held (sym at ∙ e)))
-    (subst (λ b. b ≤ v.limit) (sym counts.0) h.steady.source.counted) in
+    (subst (λ b. b ≤ v.limit + 1) (sym counts.0) h.steady.source.counted) in
     let stand : standing_of n ≡ s = same_standing r n s.source same (stream_parts n.source r.source.origin v origin (ap way_of is)) in
     record {
       steady =
@@ -194,7 +195,7 @@ region_resumes p r n h x f same outer aside store putting frames is scopes ahead
     let waits : All WaitsWell (Some f.node ∷ f.others) = subst (All WaitsWell) f.aside h.steady.aside in
     let section : HoldsSection x.node = subst HoldsSection (sym same) (All-head WaitsWell (Some f.node) f.others waits) in
     let source = source_entered r.source n.source x.node h.steady.source way scopes (still_held r.source n.source h.steady.source ahead held) room
-    (subst (λ b. b ≤ v.limit) (sym counts.0) h.steady.source.counted) section in
+    (subst (λ b. b ≤ v.limit + 1) (sym counts.0) h.steady.source.counted) section in
     let stand : standing_of n ≡ region_over f.node f.others s =
     standing_parts (standing_of n) (region_over f.node f.others s)
     (stream_parts n.source r.source.origin (entered f.node v) origin (way ∙ ap (λ y. entered y v) same))
@@ -228,7 +229,7 @@ pub record SkipFinds (p : Program) (r : Run) (stations : List Station) : Type 0 
   pub aside : first_in (standing_of r).aside ≡ Some None → (can_end (here (standing_of r).source.way) ≡ true) × StandOnRegion frames
   pub taken : first_in (standing_of r).aside ≢ Some None → CanTake frames (standing_of r).source.way
   pub well : AreWell p stations 0 true frames (skip_over (standing_of r))
-  pub fits : open_on (left (standing_of r).source.way) ≤ r.source.begun
+  pub fits : lists_on (left (standing_of r).source.way) ≡ r.source.begun
 
 pub skip_finds : (p : Program) (r : Run) → (h : ListIsOver p r) → IsSome (skipped_in (reverse r.frames.frames)) → SkipFinds p r h.stations
 skip_finds p r h some =
@@ -288,10 +289,11 @@ skip_leaves p r n h f is frames never =
               (node_leaves p h.stations f.frames s (record { front = Unknown; begun = r.source.begun }) (is_way r.source.stack) inner (f.taken never)
               (subst (λ b. MatchBool b (IsSettled f.frames (left s.source.way) r.source.begun Unknown) (IsFrontFor (left s.source.way) r.source.begun Unknown))
               (sym (no_attribute (here s.source.way) f.list)) f.fits) well));
+          ended = none_open p h.stations m f.frames Unknown well f.fits;
         }
 
 -- the node waits until its region is over
-region_list : (fs : List Frame) (w : Way) (n : ℕ) → StandOnRegion fs → HasList w → open_on w ≤ n → ListFits fs w n Unknown
+region_list : (fs : List Frame) (w : Way) (n : ℕ) → StandOnRegion fs → HasList w → lists_on w ≡ n → ListFits fs w n Unknown
 region_list [] w n on has room = absurd on
 region_list (Region asked level ∷ fs) w n on has room = (has, (λ some. absurd (false≢true some)), room)
 region_list (f ∷ fs) w n on has room = absurd on

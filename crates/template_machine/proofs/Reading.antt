@@ -16,7 +16,7 @@ use Rattle.template_machine.specs.Bodies.{pc_in}
 use Rattle.template_machine.specs.Contexts.{Station}
 use Rattle.template_machine.specs.Puts.{NewestIsFree}
 use Rattle.template_machine.specs.Standing.{Free, Known, Read, Shelf, Standing, Unknown, Usage, Written, on_shelf, read_closed, shelf_at, shelf_of, usage_by, usage_of, written_closed}
-use Rattle.template_machine.specs.Ways.{Way, here, open_on}
+use Rattle.template_machine.specs.Ways.{Way, here, lists_on}
 use Rattle.template_machine.specs.Well.{AreWell, AreWritten, BodyWaits, ListGoesOn, read_from}
 use Rattle.template_machine.specs.declared.program.Program.{Program}
 use Rattle.template_machine.specs.declared.source.Origin.TheVariants as origin
@@ -176,9 +176,9 @@ opened_reads (b ∷ bs) (suc id) free =
 -- The list of its nodes goes on.
 module _ (p : Program) (stations : List Station) where
   pub buffer_opens : (fs : List Frame) (s : Standing) (ys : List Shelf) (asked id : ℕ) (known : Known) (at : Place) (w : Way) → BodyWaits p stations fs s known
-      → pc_in fs ≡ Some (suc asked) → here w ≡ Some Document → open_on w ≡ 0 → Reads id s.shelves ys
+      → pc_in fs ≡ Some (suc asked) → here w ≡ Some Document → lists_on w ≡ 1 → Reads id s.shelves ys
       → ListGoesOn p stations (frame.Source (Some id) 0 asked ∷ fs)
-      (within_source (record { origin = origin.Buffer id at; way = w }) known (record s { shelves = ys })) (record { front = Unknown; begun = 0 })
+      (within_source (record { origin = origin.Buffer id at; way = w }) known (record s { shelves = ys })) (record { front = Unknown; begun = 1 })
   buffer_opens fs s ys asked id known at w b there is none r =
       let back : record s { shelves = on_shelf read_closed id ys } ≡ s = ap (λ l. record s { shelves = l }) r.back in
       record {

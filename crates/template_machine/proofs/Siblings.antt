@@ -1,9 +1,9 @@
 -- A body asks for siblings: its node waits, and the list of the node goes on.
-use Rattle.std.proofs.Common.{◌≡◌, ℕ, suc, ◌≤◌, Bool, true, false, List, [], ◌∷◌, Option, Some, refl, ap, sym, subst, ◌∙◌, arith}
+use Rattle.std.proofs.Common.{◌≡◌, ℕ, suc, ◌≤◌, Bool, true, false, List, [], ◌∷◌, Option, Some, refl, ap, sym, subst, ◌∙◌, arith, IsSome}
 use Rattle.std.specs.Prelude.{◌&&◌, not, MatchBool}
 use Rattle.std.proofs.lemmas.Bool.{false≢true}
 use Rattle.frame_stack.specs.declared.frame.Frame.{Frame}
-use Rattle.frame_stack.specs.declared.frame.Frame.TheVariants.{Body, Call, Attributes, Loop, Region}
+use Rattle.frame_stack.specs.declared.frame.Frame.TheVariants.{Body, Call, Loop, Region}
 use Rattle.node_stack.specs.Path as node
 use Rattle.node_stack.specs.Path.{Node, can_end, can_have_children, is_attribute}
 use Rattle.template_machine.specs.Bodies.{level_in, pc_in, spent_in}
@@ -14,27 +14,21 @@ use Rattle.template_machine.specs.Ways.{IsWay, Way, first_in, here, left, open_o
 use Rattle.template_machine.specs.Well.{AreWell, BodyWaits, CanReturn, HasList, IsFrontFor, IsOpen, IsSettled, ListGoesOn, OnFirst, is_again}
 use Rattle.template_machine.specs.declared.program.Program.{Program}
 use Rattle.template_machine.proofs.Children.{asks_before}
-use Rattle.template_machine.proofs.Entering.{known_open}
 use Rattle.template_machine.proofs.Leaving.{around}
+use Rattle.template_machine.proofs.Regions.{has_level}
 use Rattle.template_machine.proofs.Ways.{one_element, open_more}
 
-front_by : (b x c : Bool) (A B : Type 0) (w : Way) (n : ℕ) (front : Front) → (A → IsFrontFor (left w) n front) → x ≡ false
+front_by : (b x c : Bool) (A B : Type 0) (w : Way) (n : ℕ) (front : Front) → (b ≡ true → A → IsFrontFor (left w) n front) → x ≡ false → c ≡ false
     → MatchBool b A (MatchBool x B (MatchBool c (IsOpen w n front) (IsFrontFor (left w) n front))) → IsFrontFor (left w) n front
-front_by true x c A B w n front again leaf h = again h
-front_by false true c A B w n front again leaf h = absurd (false≢true (sym leaf))
-front_by false false false A B w n front again leaf h = h
-front_by false false true A B w n front again leaf h = known_open false w n front h
+front_by true x c A B w n front again leaf gone h = again refl h
+front_by false true c A B w n front again leaf gone h = absurd (false≢true (sym leaf))
+front_by false false false A B w n front again leaf gone h = h
+front_by false false true A B w n front again leaf gone h = absurd (false≢true (sym gone))
 
--- what is known is known of the list of the body's node
-pub front_around : (fs : List Frame) (w : Way) (n : ℕ) (front : Front) → is_attribute (here w) ≡ false → IsSettled fs w n front → IsFrontFor (left w) n front
-front_around [] w n front leaf h = absurd h
-front_around (Loop turn ∷ fs) w n front leaf h = front_around fs w n front leaf h
-front_around (Call procedure pc locals level ∷ fs) w n front leaf h = front_around fs w n front leaf h
-front_around (Attributes next asked ∷ fs) w n front leaf h = front_around fs w n front leaf h
-front_around (Body template alternative pc locals level spent ∷ fs) w n front leaf h =
-    front_by (is_again level fs) (is_attribute (here w)) (can_have_children (here w) && not spent) (IsSettled fs w n front) (IsSettled fs (left w) n front) w n front
-    (λ s. front_around fs w n front leaf s) leaf h
-front_around (f ∷ fs) w n front leaf h = absurd h
+gone_by : (b spent : Bool) → (b ≡ true → Some spent ≡ Some true) → (b && not spent) ≡ false
+gone_by true true gone = refl
+gone_by true false gone = let same : Some false ≡ Some true = gone refl in absurd (cc)
+gone_by false spent gone = refl
 
 -- a node that can end is no attribute
 ends_no_document : (n : Node) → can_end (Some n) ≡ true → (o : Option Node) → o ≡ Some n → o ≡ Some node.Document → ⊥
@@ -81,6 +75,19 @@ module _ (p : Program) (stations : List Station) where
         list,
       )
 
+  -- What is known is known of the list of the body's node, whose children are gone.
+  front_around : (loops : ℕ) (waits : Bool) (fs : List Frame) (s : Standing) (w : Way) (n : ℕ) (front : Front) → AreWell p stations loops waits fs s → IsSome (level_in fs)
+      → is_attribute (here w) ≡ false → (can_have_children (here w) ≡ true → spent_in fs ≡ Some true) → IsSettled fs w n front → IsFrontFor (left w) n front
+  front_around loops waits [] s w n front well some leaf gone h = absurd h
+  front_around loops waits (Loop turn ∷ fs) s w n front well some leaf gone h = front_around (suc loops) waits fs s w n front well some leaf gone h
+  front_around loops waits (Call procedure pc locals level ∷ fs) s w n front well some leaf gone h =
+      front_around 0 false fs _ w n front well.1.1.3 (subst (λ o. IsSome o) (sym well.1.1.2) refl) leaf gone h
+  front_around loops waits (Body template alternative pc locals level spent ∷ fs) s w n front well some leaf gone h =
+      front_by (is_again level fs) (is_attribute (here w)) (can_have_children (here w) && not spent) (IsSettled fs w n front) (IsSettled fs (left w) n front) w n front
+      (λ e a. front_around 0 true fs _ w n front well.1.1.4 (has_level level fs e) leaf (λ has. well.1.1.3 e ∙ gone has) a) leaf
+      (gone_by (can_have_children (here w)) spent gone) h
+  front_around loops waits (f ∷ fs) s w n front well some leaf gone h = absurd (false≢true some)
+
   -- A node without children waits at once.
   pub siblings_open : (fs : List Frame) (s : Standing) (asked level : ℕ) (n : Node) (known : Known) → BodyWaits p stations fs s known
       → pc_in fs ≡ Some (suc asked) → level_in fs ≡ Some level → here s.source.way ≡ Some n → can_end (Some n) ≡ true → IsWay s.source.way.nodes
@@ -90,5 +97,10 @@ module _ (p : Program) (stations : List Station) where
       let r = region_well fs s asked level n s.aside b.well at own is end way room gone in
       record {
         well = r.0;
-        fits = (r.1, (λ some. absurd (false≢true some)), front_around fs s.source.way known.begun known.front (ap is_attribute is ∙ ends_no_attribute n end) b.fits);
+        fits = (
+          r.1,
+          (λ some. absurd (false≢true some)),
+          front_around 0 true fs s s.source.way known.begun known.front b.well b.body (ap is_attribute is ∙ ends_no_attribute n end)
+              (λ has. gone (sym (ap can_have_children is) ∙ has)) b.fits,
+        );
       }

@@ -1,5 +1,5 @@
 -- What becomes of sources.
-use Rattle.std.proofs.Common.{◌≡◌, ℕ, ◌+◌, ◌<◌, ◌≤◌, ◌^◌, Bool, true, false, List, [], ◌∷◌, length, filter, Option, Some, None, IsSome, refl, ap, sym, subst, ◌∙◌, arith}
+use Rattle.std.proofs.Common.{◌≡◌, ℕ, ◌+◌, ◌<◌, ◌≤◌, ◌^◌, Bool, true, false, List, [], ◌∷◌, length, filter, Option, Some, None, IsSome, refl, ap, sym, subst, ◌∙◌, arith, ◌-◌}
 use Rattle.std.specs.Prelude.{All, if◌then◌else◌}
 use Rattle.std.proofs.lemmas.List.Elements.{All-cons, All-head, All-tail}
 use Rattle.std.specs.Option.{option_map, option_map_or}
@@ -79,13 +79,13 @@ within_long (Element name attrs decls first) scopes n e = omega (arith, e)
 within_long x scopes n e = omega (arith, e)
 
 -- A source by its way.
-pub source_by : (n : Source) (w : Way) → way_of (path n.stack) ≡ w → (n.ahead ≡ ahead.Held → IsHeldWell n.held) → open_on w ≤ w.limit → w.limit < 2 ^ 32
-    → n.begun ≤ w.limit → length n.bindings ≡ open_on w + 1 → All HoldsSection w.nodes → IsSourceWell n
+pub source_by : (n : Source) (w : Way) → way_of (path n.stack) ≡ w → (n.ahead ≡ ahead.Held → IsHeldWell n.held) → open_on w ≤ w.limit → w.limit + 1 < 2 ^ 32
+    → n.begun ≤ w.limit + 1 → length n.bindings ≡ open_on w + 1 → All HoldsSection w.nodes → IsSourceWell n
 source_by n w is held room small counted scopes sections = record {
   held = held;
   room = subst (λ (v : Way). open_on v ≤ v.limit) (sym is) room;
-  small = subst (λ (v : Way). v.limit < 2 ^ 32) (sym is) small;
-  counted = subst (λ (v : Way). n.begun ≤ v.limit) (sym is) counted;
+  small = subst (λ (v : Way). v.limit + 1 < 2 ^ 32) (sym is) small;
+  counted = subst (λ (v : Way). n.begun ≤ v.limit + 1) (sym is) counted;
   scopes = subst (λ (v : Way). length n.bindings ≡ open_on v + 1) (sym is) scopes;
   sections = subst (λ (v : Way). All HoldsSection v.nodes) (sym is) sections;
 }
@@ -124,14 +124,14 @@ source_left s n x w is gone scopes held begun =
     let v = way_of (path s.stack) in
     let way : way_of (path n.stack) ≡ left v = ap way_of gone ∙ way_left (path s.stack) in
     let more = open_here v x (way_here (path s.stack) ∙ is) in
-    source_by n (left v) way held (omega (arith, more, w.room)) w.small (subst (λ b. b ≤ v.limit) (sym begun) w.counted)
+    source_by n (left v) way held (omega (arith, more, w.room)) w.small (subst (λ b. b ≤ v.limit + 1) (sym begun) w.counted)
     (ap length scopes ∙ ap (λ o. length (around_node o s.bindings)) is ∙ around_long x s.bindings (open_on (left v)) (w.scopes ∙ ap (λ m. m + 1) more))
     (behind_first HoldsSection v.nodes w.sections)
 
 -- A node becomes the current one.
 pub source_entered : (s n : Source) (x : Node) → IsSourceWell s → way_of (path n.stack) ≡ entered x (way_of (path s.stack)) → n.bindings ≡ within_node x s.bindings
     → (n.ahead ≡ ahead.Held → IsHeldWell n.held) → open_on (entered x (way_of (path s.stack))) ≤ (way_of (path s.stack)).limit
-    → n.begun ≤ (way_of (path s.stack)).limit → HoldsSection x → IsSourceWell n
+    → n.begun ≤ (way_of (path s.stack)).limit + 1 → HoldsSection x → IsSourceWell n
 source_entered s n x w way scopes held room begun section =
     let v = way_of (path s.stack) in
     source_by n (entered x v) way held room w.small begun
@@ -140,7 +140,7 @@ source_entered s n x w way scopes held room begun section =
 
 -- Other things about it change.
 pub source_stays : (s n : Source) → IsSourceWell s → path n.stack ≡ path s.stack → n.bindings ≡ s.bindings → (n.ahead ≡ ahead.Held → IsHeldWell n.held)
-    → n.begun ≤ (way_of (path s.stack)).limit → IsSourceWell n
+    → n.begun ≤ (way_of (path s.stack)).limit + 1 → IsSourceWell n
 source_stays s n w same scopes held begun =
     source_by n (way_of (path s.stack)) (ap way_of same) held w.room w.small begun (ap length scopes ∙ w.scopes) w.sections
 
@@ -158,6 +158,6 @@ known_parts n a h b same held begun =
 
 pub room_same : (s n : Source) → (path n.stack).limit ≡ (path s.stack).limit → n.begun ≡ s.begun → n.next ≡ s.next → room_of n ≡ room_of s
 room_same s n limit begun next =
-    ap (λ x. record { limit = x; begun = n.begun; next = n.next }) limit
-    ∙ ap (λ x. record { limit = (path s.stack).limit; begun = x; next = n.next }) begun
-    ∙ ap (λ x. record { limit = (path s.stack).limit; begun = s.begun; next = x }) next
+    ap (λ x. record { limit = x; begun = n.begun - 1; next = n.next }) limit
+    ∙ ap (λ x. record { limit = (path s.stack).limit; begun = x - 1; next = n.next }) begun
+    ∙ ap (λ x. record { limit = (path s.stack).limit; begun = s.begun - 1; next = x }) next

@@ -176,7 +176,7 @@ pub first_head : (p : Program) (r : Run) → IsReady p → IsFresh p r → HasHe
 first_head p r h f =
     let st = program_stations p h in
     let depth = p.limits.depth in
-    let k : Known = record { front = Unknown; begun = 0 } in
+    let k : Known = record { front = Unknown; begun = 1 } in
     let s : Standing = record (standing_of r) { source = record { origin = origin.Main; way = begun_way depth }; around = []; aside = []; targets = [] } in
     let same : standing_of r ≡ s =
     standing_parts (standing_of r) s (fresh_stream r.source depth origin.Main f.source) (ap (λ l. map outer_of (reverse l)) f.outer)
@@ -186,7 +186,7 @@ first_head p r h f =
       head = refl;
       apart = refl;
       take = tt;
-      fits = (refl, omega arith);
+      fits = (refl, refl);
     } in
     record {
       steady = first_steady p r h f;

@@ -1,5 +1,5 @@
 -- Another document, a buffer or attributes are processed, and are over.
-use Rattle.std.proofs.Common.{◌≡◌, ℕ, suc, true, false, List, ◌∷◌, Option, Some, None, IsSome, refl, ap, subst, arith}
+use Rattle.std.proofs.Common.{◌≡◌, ℕ, suc, true, List, ◌∷◌, Option, Some, None, IsSome, refl, ap, subst}
 use Rattle.std.proofs.lemmas.Bool.{false≢true}
 use Rattle.stx_base.specs.declared.fault.Place.{Place}
 use Rattle.frame_stack.specs.declared.frame.Frame.{Frame}
@@ -8,7 +8,7 @@ use Rattle.node_stack.specs.Path.{Document, can_have_children}
 use Rattle.template_machine.specs.Bodies.{level_in, pc_in}
 use Rattle.template_machine.specs.Contexts.{Station}
 use Rattle.template_machine.specs.Standing.{Known, Outer, Standing, Stream, Unknown, source_over}
-use Rattle.template_machine.specs.Ways.{Way, here, open_on}
+use Rattle.template_machine.specs.Ways.{Way, here, lists_on}
 use Rattle.template_machine.specs.Well.{AreWell, BodyWaits, IsSettled, ListGoesOn, OnOuter}
 use Rattle.template_machine.specs.declared.program.Program.{Program}
 use Rattle.template_machine.specs.declared.source.Origin.TheVariants as origin
@@ -21,11 +21,11 @@ within_source new known s = record s { source = new; around = record { source = 
 module _ (p : Program) (stations : List Station) where
   -- Another document begins.
   pub document_opens : (fs : List Frame) (s : Standing) (asked : ℕ) (known : Known) (at : Place) (w : Way) → BodyWaits p stations fs s known
-      → pc_in fs ≡ Some (suc asked) → here w ≡ Some Document → open_on w ≡ 0
-      → ListGoesOn p stations (Source None 0 asked ∷ fs) (within_source (record { origin = origin.Document at; way = w }) known s) (record { front = Unknown; begun = 0 })
+      → pc_in fs ≡ Some (suc asked) → here w ≡ Some Document → lists_on w ≡ 1
+      → ListGoesOn p stations (Source None 0 asked ∷ fs) (within_source (record { origin = origin.Document at; way = w }) known s) (record { front = Unknown; begun = 1 })
   document_opens fs s asked known at w b there is none = record {
     well = (refl, b.body, asks_before fs asked there, tt, is, (b.fits, b.well));
-    fits = (ap can_have_children is, (λ some. absurd (false≢true some)), omega (arith, none));
+    fits = (ap can_have_children is, (λ some. absurd (false≢true some)), none);
   }
 
   -- The innermost source is over.

@@ -1,14 +1,16 @@
 -- Nodes that are taken, and what becomes of them.
-use Rattle.std.proofs.Common.{◌≡◌, ◌≢◌, ℕ, ◌<◌, Bool, true, false, List, ◌∷◌, length, map, reverse, Option, Some, None, refl, ap, sym, subst, ◌∙◌}
+use Rattle.std.proofs.Common.{◌≡◌, ◌≢◌, ℕ, ◌<◌, Bool, true, false, List, [], ◌∷◌, length, map, reverse, Option, Some, None, refl, ap, sym, subst, ◌∙◌}
 use Rattle.std.specs.Prelude.{◌&&◌, not, MatchBool}
 use Rattle.std.proofs.lemmas.Bool.{false≢true}
 use Rattle.frame_stack.specs.declared.frame.Frame.{Frame}
 use Rattle.frame_stack.specs.declared.frame.Frame.TheVariants.{Skip, Pass}
 use Rattle.node_stack.specs.Path as paths
 use Rattle.node_stack.specs.Path.{Node, Document, can_have_children, is_attribute}
+use Rattle.node_stack.specs.Stack.{path}
 use Rattle.template_machine.specs.Contexts.{HasStations, Station}
-use Rattle.template_machine.specs.Standing.{Known, Over, Standing, Unknown, known_now, known_of, node_over, room_of, rooms_of, standing_of, stream_of}
-use Rattle.template_machine.specs.Ways.{Way, here, left, number_of}
+use Rattle.template_machine.specs.Documents.{documents}
+use Rattle.template_machine.specs.Standing.{Front, Known, Over, Standing, Unknown, known_now, known_of, node_over, room_of, rooms_of, standing_of, stream_of}
+use Rattle.template_machine.specs.Ways.{Way, here, left, number_of, way_of}
 use Rattle.template_machine.specs.Moments.{BodyIsOver, HasHead, ListIsOver, NodeIsOver, StandsAsBefore}
 use Rattle.template_machine.specs.Well.{AreWell, HasList, HeadIsThere, IsFrontFor, IsSettled, IsSourceWell, IsSteady, IsWaiting, IsWell, ListFits, ListGoesOn, TellWithin, is_again}
 use Rattle.template_machine.specs.declared.program.Program.{Program}
@@ -21,6 +23,7 @@ use Rattle.template_machine.specs.declared.source.Source as sources
 use Rattle.template_machine.proofs.Arriving.{known_nothing}
 use Rattle.template_machine.proofs.Entering.{over_again, over_head}
 use Rattle.template_machine.proofs.Going.{SameBut, same_standing, same_steady, waits_by, well_list_at}
+use Rattle.template_machine.proofs.Grounded.{none_open}
 use Rattle.template_machine.proofs.Headed.{head_leaves}
 use Rattle.template_machine.proofs.Leaving.{node_leaves}
 use Rattle.template_machine.proofs.Nodes.{is_way}
@@ -45,8 +48,9 @@ apart_still r n source apart e = apart (sym (ap (λ (x : sources.Source). x.ahea
 -- a node is over
 over_by : (p : Program) (n : Run) (stations : List Station) (fs : List Frame) (s : Standing) (known : Known) → IsSteady p n → HasStations p.code stations p.sheet
     → n.source.ahead ≢ ahead.Here → reverse n.frames.frames ≡ fs → standing_of n ≡ s → known_now n ≡ known
-    → ((here s.source.way ≡ Some Document → ⊥) → ListGoesOn p stations fs (node_over s) known) → NodeIsOver p n
-over_by p n stations fs s known steady stand apart frames stands knows f = record {
+    → ((here s.source.way ≡ Some Document → ⊥) → ListGoesOn p stations fs (node_over s) known) → (here (standing_of n).source.way ≡ Some Document → documents n ≡ [])
+    → NodeIsOver p n
+over_by p n stations fs s known steady stand apart frames stands knows f ended = record {
   steady = steady;
   stations = stations;
   stand = stand;
@@ -56,15 +60,29 @@ over_by p n stations fs s known steady stand apart frames stands knows f = recor
       (subst (λ x. ListGoesOn p stations fs (node_over x) (known_now n)) (sym stands)
       (subst (ListGoesOn p stations fs (node_over s)) (sym knows)
       (f (λ e. inner (ap (λ (x : Standing). here x.source.way) stands ∙ e)))));
+  ended = ended;
 }
 
+-- no document is open behind its own node
+none_by : (p : Program) (r n : Run) (stations : List Station) (fs : List Frame) (front : Front) → n.source ≡ r.source → standing_of n ≡ standing_of r
+    → AreWell p stations 0 true fs (node_over (standing_of r)) → IsFrontFor (left (standing_of r).source.way) r.source.begun front
+    → here (standing_of n).source.way ≡ Some Document → documents n ≡ []
+none_by p r n stations fs front source stands well fits is =
+    none_open p stations n fs front (subst (λ s. AreWell p stations 0 true fs (node_over s)) (sym stands) well)
+    (subst (λ (x : sources.Source). IsFrontFor (left (way_of (path x.stack))) x.begun front) (sym source) fits) is
+
+no_document : (w : Way) → can_have_children (here w) ≡ false → here w ≡ Some Document → ⊥
+no_document w none is = false≢true (sym none ∙ ap can_have_children is)
+
 -- A head of which nothing is processed.
-pub head_over : (p : Program) (r n : Run) → HasHead p r → SameBut r n → n.source ≡ r.source → reverse n.frames.frames ≡ reverse r.frames.frames → NodeIsOver p n
-head_over p r n h same source frames =
+pub head_over : (p : Program) (r n : Run) → HasHead p r → SameBut r n → n.source ≡ r.source → reverse n.frames.frames ≡ reverse r.frames.frames
+    → can_have_children (here (standing_of r).source.way) ≡ false → NodeIsOver p n
+head_over p r n h same source frames none =
     over_by p n h.stations (reverse r.frames.frames) (standing_of r) (known_now r)
     (source_steady p r n (reverse r.frames.frames) h.steady same source frames h.steady.within) h.stand (apart_still r n source h.apart) frames
     (source_standing r n same source) (ap known_of source)
-    (λ inner. head_leaves p h.stations (reverse r.frames.frames) (standing_of r) (known_now r) h.head (is_way r.source.stack) inner)
+    (λ inner. head_leaves p h.stations (reverse r.frames.frames) (standing_of r) (known_now r) h.head (is_way r.source.stack) inner none)
+    (λ is. absurd (no_document (standing_of r).source.way none (ap (λ (x : Standing). here x.source.way) (sym (source_standing r n same source)) ∙ is)))
 
 -- A head whose children are processed.
 pub head_passes : (p : Program) (r n : Run) (base level : ℕ) (spent : Bool) → HasHead p r → SameBut r n → n.source ≡ r.source
@@ -105,6 +123,7 @@ pass_leaves p r n base level spent gs h is same source frames apart =
     (λ inner. node_leaves p h.stations gs s (record { front = Unknown; begun = r.source.begun }) (is_way r.source.stack) inner e.0
     (subst (λ b. MatchBool b (IsSettled gs (left s.source.way) r.source.begun Unknown) (IsFrontFor (left s.source.way) r.source.begun Unknown))
     (sym (leaf_of (here s.source.way) f.0)) f.1) e.1)
+    (none_by p r n h.stations gs Unknown source (source_standing r n same source) e.1 f.1)
 
 -- or its body waits again
 pub pass_waits : (p : Program) (r n : Run) (base level : ℕ) (spent : Bool) (gs : List Frame) → ListIsOver p r → reverse r.frames.frames ≡ Pass base level spent ∷ gs
@@ -146,10 +165,13 @@ pub body_left : (p : Program) (r : Run) (level : ℕ) (spent : Bool) → BodyIsO
 body_left p r level spent h apart gone =
     let fs = reverse r.frames.frames in
     let s = standing_of r in
+    let front = by_attribute (is_attribute (here s.source.way)) _ _ _ (pick_false (is_again level fs) _ _ apart h.fits) in
+    let well = subst (AreWell p h.stations 0 true fs) (over_head level fs s apart) h.well in
     over_by p r h.stations fs s (known_now r) h.steady h.stand h.apart refl refl refl
-    (λ inner. node_leaves p h.stations fs s (known_now r) (is_way r.source.stack) inner (h.take apart)
-    (by_attribute (is_attribute (here s.source.way)) _ _ _ (pick_false (is_again level fs) _ _ apart h.fits))
-    (subst (AreWell p h.stations 0 true fs) (over_head level fs s apart) h.well))
+    (λ inner. node_leaves p h.stations fs s (known_now r) (is_way r.source.stack) inner (h.take apart) front well)
+    (λ is. none_by p r r h.stations fs (known_now r).front refl refl well
+    (pick_false (is_attribute (here s.source.way)) (IsSettled fs (left s.source.way) r.source.begun (known_now r).front)
+    (IsFrontFor (left s.source.way) r.source.begun (known_now r).front) (ap is_attribute is) front) is)
   where
     by_attribute : (x : Bool) (A B C : Type 0) → MatchBool x A (MatchBool (can_have_children (here (standing_of r).source.way) && not spent) B C) → MatchBool x A C
     by_attribute true A B C f = f

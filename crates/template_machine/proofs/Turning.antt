@@ -8,6 +8,7 @@ use Rattle.template_machine.specs.declared.stop.Stop.{Stop}
 use Rattle.template_machine.specs.declared.stop.Stop.TheVariants as stop
 use Rattle.template_machine.specs.declared.turn.Turn.TheVariants as turn
 use Rattle.template_machine.proofs.Fueled.{wanting}
+use Rattle.template_machine.specs.Between.{GoesOn}
 
 -- a run that stops wants nothing
 pub stop_more : (s : Stop) → turn_of s ≢ turn.More
@@ -33,6 +34,23 @@ more_wants name = λ e. cc
 
 pub wants_more : (name : List ℕ) → turn.WantDocument name ≢ turn.More
 wants_more name = λ e. cc
+
+-- nor has one ended that goes on, or stops
+pub more_ended : turn.More ≢ turn.Ended
+more_ended = λ e. cc
+
+pub wants_ended : (name : List ℕ) → turn.WantDocument name ≢ turn.Ended
+wants_ended name = λ e. cc
+
+pub stop_ended : (s : Stop) → turn_of s ≢ turn.Ended
+stop_ended (stop.Fault f) = λ e. cc
+stop_ended (stop.Spent at) = λ e. cc
+stop_ended stop.Memory = λ e. cc
+
+pub stop_goes : (s : Stop) → GoesOn (turn_of s) → ⊥
+stop_goes (stop.Fault f) = λ h. h
+stop_goes (stop.Spent at) = λ h. h
+stop_goes stop.Memory = λ h. h
 
 -- the name of the document that is wanted is told
 pub wanted_waits : (p : Program) (r t : Run) (name : List ℕ) → t ≡ record r { wanted = name } → IsWaiting p r → IsWaiting p t

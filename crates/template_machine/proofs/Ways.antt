@@ -8,11 +8,12 @@ use Rattle.std.proofs.lemmas.List.Sums.{length-filter}
 use Rattle.std.proofs.Math.Seq.{take-append_seam}
 use Rattle.stx_base.specs.declared.name.Attr.{Attr}
 use Rattle.node_stack.specs.Path as paths
-use Rattle.node_stack.specs.Path.{Node, Path, PathNode, Attribute, attribute_at, attributes, at_attribute, current, depth, is_attribute, is_element, is_told, last_of, level, node_at, resumed, told_at, with_child, kind_of}
+use Rattle.node_stack.specs.Path.{Node, Document, Element, Path, PathNode, Attribute, attribute_at, attributes, at_attribute, current, depth, is_attribute, is_element, is_told, last_of, level, node_at, resumed, told_at, with_child, kind_of, can_have_children}
 use Rattle.node_stack.specs.Test.{passes}
 use Rattle.stx_base.specs.declared.node.NodeTest.{NodeTest}
 use Rattle.template_machine.specs.Lists.{rest_of}
-use Rattle.template_machine.specs.Ways.{Way, entered, first_in, here, left, number_of, open_on, stood, way_of}
+use Rattle.template_machine.specs.Ways.{Way, entered, first_in, has_list, here, left, lists_on, number_of, open_on, stood, way_of, IsWay}
+use Rattle.std.proofs.lemmas.Bool.{false≢true}
 
 -- the last of a list
 abbrev ended : {A : Type 0} → List A → A → List A
@@ -158,6 +159,62 @@ left_fewer w = by_nodes w.limit w.nodes
     by_nodes : (limit : ℕ) (nodes : List Node) → open_on (left (record { limit = limit; nodes = nodes })) ≤ open_on (record { limit = limit; nodes = nodes })
     by_nodes limit [] = omega arith
     by_nodes limit (x ∷ xs) = omega (arith, open_more x (record { limit = limit; nodes = xs }))
+
+-- so of lists
+
+abbrev pub counted_list : Node → ℕ
+counted_list x = length (filter has_list (x ∷ []))
+
+pub lists_more : (x : Node) (w : Way) → lists_on (entered x w) ≡ counted_list x + lists_on w
+lists_more x w = ap length (filter-append has_list (x ∷ []) w.nodes) ∙ length-append (filter has_list (x ∷ [])) (filter has_list w.nodes)
+
+list_by : (b : Bool) (n : Node) → has_list n ≡ b → b ≡ true → counted_list n ≡ 1
+list_by b n is e = ap (λ c. length (if c then n ∷ [] else [])) (is ∙ e)
+
+leaf_by : (b : Bool) (n : Node) → has_list n ≡ b → b ≡ false → counted_list n ≡ 0
+leaf_by b n is e = ap (λ c. length (if c then n ∷ [] else [])) (is ∙ e)
+
+pub one_list : (n : Node) → can_have_children (Some n) ≡ true → counted_list n ≡ 1
+one_list n e = list_by true n e refl
+
+pub no_list : (n : Node) → can_have_children (Some n) ≡ false → counted_list n ≡ 0
+no_list n e = leaf_by false n e refl
+
+pub list_left : (w : Way) → can_have_children (here w) ≡ true → lists_on w ≡ lists_on (left w) + 1
+list_left w has = by_nodes w.limit w.nodes has
+  where
+    by_nodes : (limit : ℕ) (nodes : List Node) → can_have_children (first_in nodes) ≡ true
+        → lists_on (record { limit = limit; nodes = nodes }) ≡ lists_on (left (record { limit = limit; nodes = nodes })) + 1
+    by_nodes limit [] e = absurd (false≢true e)
+    by_nodes limit (x ∷ xs) e = omega (arith, lists_more x (record { limit = limit; nodes = xs }), one_list x e)
+
+pub leaf_left : (w : Way) → can_have_children (here w) ≡ false → lists_on (left w) ≡ lists_on w
+leaf_left w none = by_nodes w.limit w.nodes none
+  where
+    by_nodes : (limit : ℕ) (nodes : List Node) → can_have_children (first_in nodes) ≡ false
+        → lists_on (left (record { limit = limit; nodes = nodes })) ≡ lists_on (record { limit = limit; nodes = nodes })
+    by_nodes limit [] e = refl
+    by_nodes limit (x ∷ xs) e = omega (arith, lists_more x (record { limit = limit; nodes = xs }), no_list x e)
+
+-- the document node's and those of elements
+pub lists_alike : (x : Node) → (x ≡ Document → ⊥) → counted_list x ≡ length (filter stands (x ∷ []))
+lists_alike Document apart = absurd (apart refl)
+lists_alike (Element name attrs decls first) apart = refl
+lists_alike x apart = refl
+
+lists_of : (limit : ℕ) (nodes : List Node) → IsWay nodes → lists_on (record { limit = limit; nodes = nodes }) ≡ open_on (record { limit = limit; nodes = nodes }) + 1
+lists_of limit [] way = absurd way
+lists_of limit (x ∷ []) way = subst (λ y. lists_on (record { limit = limit; nodes = y ∷ [] }) ≡ open_on (record { limit = limit; nodes = y ∷ [] }) + 1) (sym way) refl
+lists_of limit (x ∷ y ∷ ys) way =
+    let v : Way = record { limit = limit; nodes = y ∷ ys } in
+    omega (arith, lists_more x v, open_more x v, lists_alike x way.0, lists_of limit (y ∷ ys) way.2)
+
+pub lists_open : (w : Way) → IsWay w.nodes → lists_on w ≡ open_on w + 1
+lists_open w way = lists_of w.limit w.nodes way
+
+-- room for one more
+pub entered_room : (x : Node) (w : Way) (n limit : ℕ) → (x ≡ Document → ⊥) → IsWay w.nodes → lists_on (entered x w) ≡ n → n ≤ limit + 1 → open_on (entered x w) ≤ limit
+entered_room x w n limit apart way many few = omega (arith, many, few, lists_more x w, open_more x w, lists_alike x apart, lists_open w way)
 
 -- an element is one
 element_by : (b : Bool) (n : Node) → is_element n ≡ b → b ≡ true → length (filter stands (n ∷ [])) ≡ 1

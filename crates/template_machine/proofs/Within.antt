@@ -1,5 +1,5 @@
 -- Another document or a buffer is processed within a run.
-use Rattle.std.proofs.Common.{◌≡◌, ℕ, suc, ◌+◌, ◌<◌, ◌^◌, List, [], ◌∷◌, ◌++◌, length, map, reverse, All, Some, None, refl, ap, sym, subst, ◌∙◌, arith}
+use Rattle.std.proofs.Common.{◌≡◌, ℕ, suc, ◌+◌, ◌<◌, ◌^◌, List, [], ◌∷◌, ◌++◌, length, map, reverse, All, Some, None, refl, ap, sym, subst, ◌∙◌, arith, ◌-◌}
 use Rattle.std.proofs.lemmas.List.{length-map, reverse-append}
 use Rattle.std.proofs.lemmas.List.Elements.{All-cons, All-nil, All-push}
 use Rattle.std.specs.Option.{option_map, option_map_or}
@@ -39,7 +39,7 @@ abbrev pub begun_way : (depth : ℕ) → Way
 begun_way depth = way_of (document_alone depth)
 
 -- a source at its document node
-pub fresh_well : (n : Source) (depth : ℕ) (o : Origin) → Stands n (document_alone depth) ([] ∷ []) ahead.Nothing None o → n.begun ≡ 0 → depth + 1 < 2 ^ 32 → IsSourceWell n
+pub fresh_well : (n : Source) (depth : ℕ) (o : Origin) → Stands n (document_alone depth) ([] ∷ []) ahead.Nothing None o → n.begun ≡ 1 → depth + 1 < 2 ^ 32 → IsSourceWell n
 fresh_well n depth o stands begun small =
     source_by n (begun_way depth) (ap way_of stands.path_is) (λ e. absurd (not_held n.ahead stands.ahead_is e)) (omega arith) (omega (arith, small)) (omega (arith, begun))
     (ap length stands.scopes_are)
@@ -48,8 +48,8 @@ fresh_well n depth o stands begun small =
     not_held : (a : Ahead) → a ≡ ahead.Nothing → a ≡ ahead.Held → ⊥
     not_held a e f = cc
 
-pub fresh_known : (n : Source) (depth : ℕ) (o : Origin) → Stands n (document_alone depth) ([] ∷ []) ahead.Nothing None o → n.begun ≡ 0
-    → known_of n ≡ record { front = Unknown; begun = 0 }
+pub fresh_known : (n : Source) (depth : ℕ) (o : Origin) → Stands n (document_alone depth) ([] ∷ []) ahead.Nothing None o → n.begun ≡ 1
+    → known_of n ≡ record { front = Unknown; begun = 1 }
 fresh_known n depth o stands begun =
     ap (λ a. record { front = front_of a n.held; begun = n.begun }) stands.ahead_is ∙ ap (λ b. record { front = Unknown; begun = b }) begun
 
@@ -95,7 +95,7 @@ document_on p r t u asked at w pc pushed e =
     standing_parts (standing_of n) (within_source (record { origin = o; way = begun_way depth }) (known_now r) s) (fresh_stream u.source depth o e.source)
     (around_more outer_of r.outer.items u.outer.items r.source items)
     (ap (λ (y : Run). map (option_map (λ (z : Parked). (path_node z).node)) (reverse y.aside.items)) rest) targets copies shelves in
-    well_list_at p n w.stations (x ∷ fs) (within_source (record { origin = o; way = begun_way depth }) (known_now r) s) (record { front = Unknown; begun = 0 })
+    well_list_at p n w.stations (x ∷ fs) (within_source (record { origin = o; way = begun_way depth }) (known_now r) s) (record { front = Unknown; begun = 1 })
     w.stand steady refl (λ e2. absurd (not_here u.source.ahead e.source.ahead_is e2)) frames stands (fresh_known u.source depth o e.source e.begun)
     (document_opens p w.stations fs s asked (known_now r) at (begun_way depth) w.waits pc refl refl)
   where
@@ -128,8 +128,8 @@ buffer_on p r t u asked id at new w pc stays reads deep holds pushed e =
     let fresh = fresh_well u.source depth o e.source e.begun w.steady.shallow.1 in
     let rooms : map room_of (reverse u.outer.items) ≡ rooms_of r = around_more room_of r.outer.items u.outer.items r.source items in
     let room : room_of u.source ≡ record { limit = depth; begun = 0; next = 0 } =
-    ap (λ (y : Path). record { limit = y.limit; begun = u.source.begun; next = u.source.next }) e.source.path_is
-    ∙ ap (λ b. record { limit = depth; begun = b; next = u.source.next }) e.begun ∙ ap (λ k. record { limit = depth; begun = 0; next = k }) e.next in
+    ap (λ (y : Path). record { limit = y.limit; begun = u.source.begun - 1; next = u.source.next }) e.source.path_is
+    ∙ ap (λ b. record { limit = depth; begun = b - 1; next = u.source.next }) e.begun ∙ ap (λ k. record { limit = depth; begun = 0; next = k }) e.next in
     let tells : TellWithin (x ∷ fs) (record { limit = depth; begun = 0; next = 0 } ∷ rooms_of r) ys = (
       subst (λ h. AreWithin depth 0 (option_map_or (λ held. told (drop 0 held)) h [])) (sym reads.from) deep,
       subst (TellWithin fs (rooms_of r)) (sym reads.back) w.steady.within,
@@ -167,7 +167,7 @@ buffer_on p r t u asked id at new w pc stays reads deep holds pushed e =
     standing_parts (standing_of n) (within_source (record { origin = o; way = begun_way depth }) (known_now r) v) (fresh_stream u.source depth o e.source)
     (around_more outer_of r.outer.items u.outer.items r.source items)
     (ap (λ (y : Run). map (option_map (λ (z : Parked). (path_node z).node)) (reverse y.aside.items)) rest) targets copies shelves in
-    well_list_at p n w.stations (x ∷ fs) (within_source (record { origin = o; way = begun_way depth }) (known_now r) v) (record { front = Unknown; begun = 0 })
+    well_list_at p n w.stations (x ∷ fs) (within_source (record { origin = o; way = begun_way depth }) (known_now r) v) (record { front = Unknown; begun = 1 })
     w.stand steady refl (λ e2. absurd (not_here u.source.ahead e.source.ahead_is e2)) frames stands (fresh_known u.source depth o e.source e.begun)
     (buffer_opens p w.stations fs s ys asked id (known_now r) at (begun_way depth) w.waits pc refl refl reads)
   where

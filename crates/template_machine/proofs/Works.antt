@@ -6,7 +6,7 @@ use Rattle.std.proofs.lemmas.List.{reverse-append}
 use Rattle.frame_stack.specs.Change.{changed}
 use Rattle.frame_stack.specs.declared.frame.Frame.{Frame}
 use Rattle.template_machine.specs.Bodies.{pc_in}
-use Rattle.template_machine.specs.Work.{Sheds, Spends, burden, frame_work, frames_work, free, load, place_work, waits_work, work}
+use Rattle.template_machine.specs.Work.{Means, Sheds, Spends, burden, frame_work, frames_work, free, load, place_work, waits_work, work}
 use Rattle.template_machine.specs.declared.program.Program.{Program}
 use Rattle.template_machine.specs.declared.run.Doing.{Doing}
 use Rattle.template_machine.specs.declared.run.Doing.TheVariants as doing
@@ -56,7 +56,7 @@ less_falls p old new small same less =
     (place_work p old.doing (reverse old.frames.frames)) (omega (arith, small)) (place_few p new.doing (reverse new.frames.frames)) same less
 
 pub sheds_falls : (p : Program) (old new : Run) → length p.code.ops < 2 ^ 32 → Sheds 1 old new → work p new < work p old
-sheds_falls p old new small s = less_falls p old new small s.fuel (omega (arith, s.load))
+sheds_falls p old new small s = less_falls p old new small (ap (λ (m : Means). m.fuel) s.means) (omega (arith, s.load))
 
 -- an operation that costs nothing
 pub goes_falls : (p : Program) (old new : Run) (place to : ℕ) → old.doing ≡ doing.Body → new.doing ≡ doing.Body → new.source.ahead ≡ old.source.ahead → new.fuel ≡ old.fuel

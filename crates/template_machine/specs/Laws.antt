@@ -1,6 +1,6 @@
 -- What is so of all runs.
 use Rattle.sheet_model.specs.Passing.{kinds}
-use Rattle.std.specs.Prelude.{◌≡◌, ◌↔◌, ◌⊎◌, ◌≤◌, ℕ, ◌+◌, Bool, true, false, List, [], ◌∷◌, ◌++◌, Some, count_by, length, map, slice_get}
+use Rattle.std.specs.Prelude.{◌≡◌, ◌≢◌, ◌↔◌, ◌⊎◌, ◌≤◌, ℕ, ◌+◌, Bool, true, false, List, [], ◌∷◌, ◌++◌, Some, count_by, length, map, slice_get}
 use Rattle.stx_base.specs.Course.{Ask, Ends, Gives, Halt, Ret, Same}
 use Rattle.stx_base.specs.declared.name.Name.{Name}
 use Rattle.stx_base.specs.declared.part.Part.{Part}
@@ -17,6 +17,7 @@ use Rattle.sheet_model.specs.declared.pass.Pass.{Pass}
 use Rattle.sheet_model.specs.declared.pass.Pass.TheVariants as pass
 use Rattle.var_store.specs.declared.bound.Bound.{Bound}
 use Rattle.xml_events.specs.Tree.{Forest}
+use Rattle.template_machine.specs.Between.{IsAsking, documents_of}
 use Rattle.template_machine.specs.Ending.{Ending, Said}
 use Rattle.template_machine.specs.Acting.{cut_to}
 use Rattle.template_machine.specs.Fuel.{skip}
@@ -27,6 +28,7 @@ use Rattle.template_machine.specs.Passing.{leaf_parts, parts_before, parts_behin
 use Rattle.template_machine.specs.Putting.{attribute_part}
 use Rattle.template_machine.specs.Stepwise.{Flat_does, begun, flat_code, lifted}
 use Rattle.template_machine.specs.Trail.{Trail, one_more, path_of, stands}
+use Rattle.template_machine.specs.declared.machine.Machine.{Machine}
 
 -- Passing over nodes says nothing, and changes nothing but the fuel: either the run ends there, or it goes on.
 abbrev pub SkipsSilently : Type 0
@@ -81,6 +83,10 @@ KeepsLocals =
     (given : Given) (is : List Instr) (self : Self) (a b : Here) (os : List Said)
     → Gives (code given) (list given is self a) os b
     → names b.locals ≡ names a.locals
+
+-- A machine that waits for an event has an open document.
+abbrev pub AskingIsOpen : Type 0
+AskingIsOpen = (m : Machine) → IsAsking m → documents_of m ≢ []
 
 -- what is counted behind nodes of a list, the first one first
 abbrev pub behind : List Node → (earlier : NodeTest → ℕ) → NodeTest → ℕ

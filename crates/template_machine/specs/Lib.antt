@@ -33,6 +33,7 @@ pub mod Ways
 pub mod Contexts
 pub mod Bodies
 pub mod Standing
+pub mod Documents
 pub mod Steps
 pub mod Deep
 pub mod Sections

@@ -1,5 +1,5 @@
 -- What holds of a run at single moments of its steps, and behind them.
-use Rattle.std.specs.Prelude.{map, ◌≡◌, ◌≢◌, ℕ, ◌+◌, ◌-◌, ◌<◌, ◌≤◌, Bool, true, false, List, ◌∷◌, ◌&&◌, not, reverse, Some, None, IsSome, MatchBool, slice_get}
+use Rattle.std.specs.Prelude.{map, ◌≡◌, ◌≢◌, ℕ, ◌+◌, ◌-◌, ◌<◌, Bool, true, false, List, [], ◌∷◌, ◌&&◌, not, reverse, Some, None, IsSome, MatchBool, slice_get}
 use Rattle.event_buffers.specs.Sections.{tells_text}
 use Rattle.frame_stack.specs.declared.frame.Frame.{Frame}
 use Rattle.frame_stack.specs.declared.frame.Frame.TheVariants.{Pass}
@@ -10,10 +10,11 @@ use Rattle.xml_events.specs.declared.event.Event.{Event}
 use Rattle.node_stack.specs.Stack.{path}
 use Rattle.template_machine.specs.Bodies.{body_in, pc_in, skipped_in, takes_events}
 use Rattle.template_machine.specs.Contexts.{Choice, Choices, Form, HasForm, HasStations, Station}
+use Rattle.template_machine.specs.Documents.{documents}
 use Rattle.template_machine.specs.Lists.{rest_of}
 use Rattle.template_machine.specs.Sections.{HoldStill, HoldsSection}
 use Rattle.template_machine.specs.Standing.{shelf_of, Over, Unknown, known_now, node_over, standing_of, waits_from_here, with_way}
-use Rattle.template_machine.specs.Ways.{entered, first_in, here, left, open_on, way_of}
+use Rattle.template_machine.specs.Ways.{entered, first_in, here, left, way_of, lists_on}
 use Rattle.template_machine.specs.declared.program.Program.{Program}
 use Rattle.template_machine.specs.declared.run.Doing.TheVariants as doing
 use Rattle.template_machine.specs.declared.run.Run.{Run}
@@ -36,13 +37,14 @@ pub record StandsAsBefore (old new : Putting) : Type 0 where
   pub shelves : map shelf_of new.buffers.buffers ≡ map shelf_of old.buffers.buffers
   pub holds : HoldStill old.buffers new.buffers
 
--- What holds of a run whose current node is over: its list goes on, where it isn't the document node.
+-- What holds of a run whose current node is over: its list goes on, where it isn't the document node, and else no document is open.
 pub record NodeIsOver (p : Program) (r : Run) : Type 0 where
   pub steady : IsSteady p r
   pub stations : List Station
   pub stand : HasStations p.code stations p.sheet
   pub apart : r.source.ahead ≢ ahead.Here
   pub list : here (way_of (path r.source.stack)) ≢ Some Document → ListGoesOn p stations (reverse r.frames.frames) (node_over (standing_of r)) (known_now r)
+  pub ended : here (way_of (path r.source.stack)) ≡ Some Document → documents r ≡ []
 
 -- What holds of a run whose current node is a head that is taken.
 pub record HasHead (p : Program) (r : Run) : Type 0 where
@@ -129,7 +131,7 @@ pub record SkipsOn (p : Program) (depth : ℕ) (r : Run) : Type 0 where
   pub ahead : r.source.ahead ≡ ahead.Nothing
   pub skipped : IsSome (skipped_in (reverse r.frames.frames))
   pub well : AreWell p stations 0 true (reverse r.frames.frames) (standing_of r)
-  pub begun : open_on (standing_of r).source.way + depth ≤ r.source.begun
+  pub begun : lists_on (standing_of r).source.way + depth ≡ r.source.begun
 
 -- What holds of a run in whose innermost list, which is skipped, an element or the list itself ends.
 pub record SkipEnds (p : Program) (depth : ℕ) (r : Run) : Type 0 where
@@ -140,8 +142,8 @@ pub record SkipEnds (p : Program) (depth : ℕ) (r : Run) : Type 0 where
   pub ahead : r.source.ahead ≡ ahead.Nothing
   pub skipped : skipped_in (reverse r.frames.frames) ≡ Some depth
   pub well : AreWell p stations 0 true (reverse r.frames.frames) (standing_of r)
-  pub deep : 0 < depth → open_on (standing_of r).source.way + (depth - 1) ≤ r.source.begun
-  pub over : depth ≡ 0 → open_on (left (standing_of r).source.way) ≤ r.source.begun
+  pub deep : 0 < depth → lists_on (standing_of r).source.way + (depth - 1) ≡ r.source.begun
+  pub over : depth ≡ 0 → lists_on (left (standing_of r).source.way) ≡ r.source.begun
 
 -- What holds of a run whose innermost list has this head next.
 pub record TakesHead (p : Program) (x : Node) (r : Run) : Type 0 where
@@ -194,7 +196,7 @@ abbrev pub Follows : Program → Step → Run → Type 0
 Follows p step.More r = IsWell p r
 Follows p step.Wait r = WantsEvent p r
 Follows p step.Want r = IsWaiting p r
-Follows p step.Over r = Unit {0}
+Follows p step.Over r = documents r ≡ []
 
 -- A run whose innermost body is at an operation.
 pub record IsAtOp (p : Program) (r : Run) (at : Running) (o : Op) : Type 0 where

@@ -34,7 +34,7 @@ front_of ahead.Here held = Unknown
 front_of ahead.Held held = held_front held
 front_of ahead.Ended held = Over
 
--- what is known of the list that goes on: its front, and how many elements have begun in its source that haven't ended
+-- what is known of the list that goes on: its front, and how many lists have begun in its source that haven't ended
 pub record Known : Type 0 where
   pub front : Front
   pub begun : ℕ
@@ -61,14 +61,14 @@ outer_of s = record { source = stream_of s; known = known_of s }
 abbrev pub known_now : Run → Known
 known_now r = known_of r.source
 
--- how many elements may be open in a source, how many have begun and not ended, and where a buffer's next event stands
+-- how many elements may be open in a source, how many have begun and not ended while its own list goes on, and where a buffer's next event stands
 pub record Room : Type 0 where
   pub limit : ℕ
   pub begun : ℕ
   pub next : ℕ
 
 abbrev pub room_of : Source → Room
-room_of s = record { limit = (path s.stack).limit; begun = s.begun; next = s.next }
+room_of s = record { limit = (path s.stack).limit; begun = s.begun - 1; next = s.next }
 
 -- of the innermost source and of those around it
 abbrev pub rooms_of : Run → List Room

@@ -27,6 +27,6 @@ pub record IsFresh (p : Program) (r : Run) : Type 0 where
   pub targets : r.putting.targets ≡ []
   pub buffers : r.putting.buffers ≡ record { limit = p.limits.buffer; elements = p.limits.elements; buffers = map declared_by p.sheet.buffers }
   pub source : Stands r.source (document_alone p.limits.depth) ([] ∷ []) ahead.Nothing None origin.Main
-  pub begun : r.source.begun ≡ 0
+  pub begun : r.source.begun ≡ 1
   pub outer : r.outer.items ≡ []
   pub aside : r.aside.items ≡ []

@@ -1,5 +1,5 @@
 -- Paths, without what is counted on them.
-use Rattle.std.specs.Prelude.{◌≡◌, ◌≢◌, ℕ, ◌-◌, true, if◌then◌else◌, List, [], ◌∷◌, Option, Some, None, length, filter, map, reverse}
+use Rattle.std.specs.Prelude.{◌≡◌, ◌≢◌, ℕ, ◌-◌, true, if◌then◌else◌, List, [], ◌∷◌, Option, Some, None, length, filter, map, reverse, Bool}
 use Rattle.node_stack.specs.Path.{Node, Document, Path, PathNode, can_have_children, is_attribute, is_element}
 use Rattle.template_machine.specs.Lists.{rest_of}
 
@@ -30,6 +30,13 @@ number_of w = length w.nodes - (if is_attribute (here w) then 2 else 1)
 -- how many elements are open
 abbrev pub open_on : Way → ℕ
 open_on w = length (filter is_element w.nodes)
+
+-- how many nodes have a list of nodes, the document node among them
+abbrev pub has_list : Node → Bool
+has_list x = can_have_children (Some x)
+
+abbrev pub lists_on : Way → ℕ
+lists_on w = length (filter has_list w.nodes)
 
 -- a node more, and one fewer
 abbrev pub entered : Node → Way → Way

@@ -30,7 +30,7 @@ use Rattle.template_machine.specs.Deep.{AreAllDeep}
 use Rattle.template_machine.specs.Programs.{IsProgramOf, instr_at}
 use Rattle.template_machine.specs.Sections.{AllHoldSections, HoldsSection, IsHeldWell, WaitsWell}
 use Rattle.template_machine.specs.Standing.{Free, Front, Known, Outer, Over, Read, Room, Shelf, Standing, Unknown, Usage, Waits, Written, known_now, node_over, on_shelf, read_closed, region_over, rooms_of, scope_over, shelf_at, skip_over, source_over, standing_of, writing_over, written_closed}
-use Rattle.template_machine.specs.Ways.{Way, entered, first_in, here, left, number_of, open_on, way_of}
+use Rattle.template_machine.specs.Ways.{Way, entered, first_in, here, left, lists_on, number_of, open_on, way_of}
 use Rattle.template_machine.specs.declared.program.Link.{Link}
 use Rattle.template_machine.specs.declared.program.Program.{Program}
 use Rattle.template_machine.specs.declared.run.Doing.{Doing}
@@ -95,16 +95,16 @@ pub record CanReturn (x : Node) (w : Way) : Type 0 where
   pub room : is_element x ≡ true → open_on w < w.limit
   pub end : can_end (Some x) ≡ true
 
--- What is known of the front of a list that goes on, in a source in which so many elements have begun and not ended: those that are open
--- on the path around the front.
+-- What is known of the front of a list that goes on, in a source in which so many lists have begun and not ended: those that are open on the
+-- path around the front.
 abbrev pub IsFrontFor : Way → (begun : ℕ) → Front → Type 0
-IsFrontFor w n Unknown = open_on w ≤ n
-IsFrontFor w n Over = open_on (left w) ≤ n
-IsFrontFor w n (Waits x) = CanReturn x w × (open_on (entered x w) ≤ n)
+IsFrontFor w n Unknown = lists_on w ≡ n
+IsFrontFor w n Over = lists_on (left w) ≡ n
+IsFrontFor w n (Waits x) = CanReturn x w × (lists_on (entered x w) ≡ n)
 
 -- the children of a body's node aren't gone: nothing is known yet of what follows
 abbrev pub IsOpen : Way → (begun : ℕ) → Front → Type 0
-IsOpen w n front = (front ≡ Unknown) × (open_on w ≤ n)
+IsOpen w n front = (front ≡ Unknown) × (lists_on w ≡ n)
 
 -- What is known of a front is of the list around a body's node, in which nothing more is opened, or around an attribute's element.
 abbrev pub IsSettled : List Frame → Way → (begun : ℕ) → Front → Type 0
@@ -139,8 +139,8 @@ CanTake (f ∷ fs) w = (is_attribute (here w) ≡ false) × AreGone (f ∷ fs)
 
 -- where children are skipped, in which so many elements are open
 abbrev pub SkipFront : (depth : ℕ) → Way → (begun : ℕ) → Front → Type 0
-SkipFront depth w n Unknown = open_on w + depth ≤ n
-SkipFront depth w n Over = open_on (left w) ≤ n
+SkipFront depth w n Unknown = lists_on w + depth ≡ n
+SkipFront depth w n Over = lists_on (left w) ≡ n
 SkipFront depth w n (Waits x) = ⊥
 
 -- what a list that goes on knows of its front: a list of attributes, of nodes that are skipped, or of nodes that are taken; those of a
@@ -203,10 +203,11 @@ abbrev pub CanTakeOff : (group : ℕ) → Standing → Type 0
 CanTakeOff group s =
     (1 < unwrap_or (slice_get s.copies group) 0) × All (λ (x : Shelf). x.group ≡ group → IsLaidOver x.copies) s.shelves
 
--- how many elements have begun and not ended behind an event
+-- how many lists have begun and not ended behind an event
 abbrev pub begun_behind : Event → ℕ → ℕ
 begun_behind (event.Start offset name attrs decls first) n = n + 1
 begun_behind (event.End offset) n = n - 1
+begun_behind (event.DocumentEnd offset) n = n - 1
 begun_behind e n = n
 
 -- at most so many have behind each of these events
@@ -340,8 +341,8 @@ module _ (p : Program) (stations : List Station) where
 pub record IsSourceWell (s : sources.Source) : Type 0 where
   pub held : s.ahead ≡ ahead.Held → IsHeldWell s.held
   pub room : open_on (way_of (path s.stack)) ≤ (way_of (path s.stack)).limit
-  pub small : (way_of (path s.stack)).limit < 2 ^ 32
-  pub counted : s.begun ≤ (way_of (path s.stack)).limit
+  pub small : (way_of (path s.stack)).limit + 1 < 2 ^ 32
+  pub counted : s.begun ≤ (way_of (path s.stack)).limit + 1
   pub scopes : length s.bindings ≡ open_on (way_of (path s.stack)) + 1
   pub sections : All HoldsSection (way_of (path s.stack)).nodes
 

@@ -8,6 +8,7 @@ use Rattle.instr_code.specs.declared.code.Op.{Op}
 use Rattle.instr_code.specs.declared.code.Op.TheVariants as op
 use Rattle.template_machine.specs.Bodies.{pc_in}
 use Rattle.template_machine.specs.Contexts.{Choices, Form, form_of}
+use Rattle.template_machine.specs.Documents.{Open, documents}
 use Rattle.template_machine.specs.declared.program.Program.{Program}
 use Rattle.template_machine.specs.declared.run.Doing.{Doing}
 use Rattle.template_machine.specs.declared.run.Doing.TheVariants as doing
@@ -82,6 +83,14 @@ burden r = load r + waits_work r.doing r.source.ahead
 
 -- Runs.
 
+-- what is left of a run's fuel, and the documents that are open in it
+pub record Means : Type 0 where
+  pub fuel : ℕ
+  pub documents : List Open
+
+abbrev pub means_of : Run → Means
+means_of r = record { fuel = r.fuel; documents = documents r }
+
 module _ (p : Program) where
   -- the operations of the innermost body that cost nothing
   abbrev pub place_work : Doing → List Frame → ℕ
@@ -92,21 +101,26 @@ module _ (p : Program) where
   abbrev pub work : Run → ℕ
   work r = 2 ^ 110 * r.fuel + 2 ^ 33 * burden r + place_work r.doing (reverse r.frames.frames)
 
-  -- less is to be done where there is more to do
+  -- less is to be done, with the same documents
+  pub record Lessens (old new : Run) : Type 0 where
+    pub still : documents new ≡ documents old
+    pub falls : work new < work old
+
+  -- so it is where there is more to do, and no document begins or ends elsewhere
   abbrev pub Falls : (old : Run) → Step → (new : Run) → Type 0
-  Falls old step.More new = work new < work old
-  Falls old s new = Unit {0}
+  Falls old step.More new = Lessens old new
+  Falls old s new = documents new ≡ documents old
 
 -- What calls within a step do to them.
 
--- no fuel is spent, and so much more waits at most
+-- no fuel is spent, no document begins or ends, and so much more waits at most
 pub record Begins (most : ℕ) (old new : Run) : Type 0 where
-  pub fuel : new.fuel ≡ old.fuel
+  pub means : means_of new ≡ means_of old
   pub load : burden new ≤ load old + most
 
--- no fuel is spent, and so much less waits at least
+-- no fuel is spent, no document begins or ends, and so much less waits at least
 pub record Sheds (least : ℕ) (old new : Run) : Type 0 where
-  pub fuel : new.fuel ≡ old.fuel
+  pub means : means_of new ≡ means_of old
   pub load : burden new + least ≤ load old
 
 -- a unit is spent, and no more begins than that pays for

@@ -123,14 +123,14 @@ pub record IsChosen (p : Program) (r : Run) (template alternative : ℕ) : Type 
 
 -- the current node is a head that is taken, or that of a body which asked for it again
 abbrev pub CanEnter : Program → (spent : Bool) → Run → Type 0
-CanEnter p spent r = HasHead p r ⊎ (IsWaiting p r × (spent_in (reverse r.frames.frames) ≡ Some spent))
+CanEnter p spent r = (HasHead p r × (spent ≡ false)) ⊎ (IsWaiting p r × (spent_in (reverse r.frames.frames) ≡ Some spent))
 
 -- Sources.
 
 -- A source begins within the one that was the innermost, at its document node.
 pub record EntersSource (depth : ℕ) (origin : Origin) (old new : Run) : Type 0 where
   pub source : Stands new.source (document_alone depth) ([] ∷ []) ahead.Nothing None origin
-  pub begun : new.source.begun ≡ 0
+  pub begun : new.source.begun ≡ 1
   pub next : new.source.next ≡ 0
   pub outer : new.outer.items ≡ old.outer.items ++ old.source ∷ []
   pub putting : StandsAsBefore old.putting new.putting

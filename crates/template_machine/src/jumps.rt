@@ -1,10 +1,10 @@
 //! Operations of a body that cost no fuel and lead to one place.
 
-ghost use Rattle.std.specs.Prelude.{OnOk, ◌<◌};
+ghost use Rattle.std.specs.Prelude.{OnOk};
 ghost use Rattle.template_machine.specs.Contexts.{Declares, HasForm, Repeats, Single, Walks};
 ghost use Rattle.template_machine.specs.Moments.{IsAtOp, IsBranch};
 ghost use Rattle.template_machine.specs.Well.{IsWell};
-ghost use Rattle.template_machine.specs.Work.{Begins, work};
+ghost use Rattle.template_machine.specs.Work.{Begins, Lessens};
 ghost use Rattle.template_machine.specs.Working.{IsChoice, IsWalk, Runs};
 
 use crate::bodies::{count_turn, locals_at, take_off, turn_at};
@@ -20,7 +20,7 @@ impl Run {
     pub fn jump(&mut self, program: &Program, running: Running, to: u32)
         requires { IsAtOp program.now self.old running (Op.Jump to) }
         ensures stands { IsWell program.now self.new }
-        ensures works { work program.now self.new < work program.now self.old }
+        ensures works { Lessens program.now self.old self.new }
     {
         self.frames.set_pc(running.body, to);
     }
@@ -29,7 +29,7 @@ impl Run {
     pub fn drop_locals(&mut self, program: &Program, running: Running, count: u32)
         requires { IsAtOp program.now self.old running (Op.Drop count) }
         ensures stands { IsWell program.now self.new }
-        ensures works { work program.now self.new < work program.now self.old }
+        ensures works { Lessens program.now self.old self.new }
     {
         self.frames.set_pc(running.body, running.pc + 1);
         let len = locals_at(&self.frames, running.body).len() - count as usize;
@@ -50,7 +50,7 @@ impl Run {
         requires form { IsBranch program.now.code number }
         ensures stands { IsWell program.now self.new }
         ensures works { Begins 0 self.old self.new }
-        ensures chooses { IsChoice program.now.code number → work program.now self.new < work program.now self.old }
+        ensures chooses { IsChoice program.now.code number → Lessens program.now self.old self.new }
     {
         if holds {
             self.frames.set_pc(running.body, running.pc + 1);
@@ -81,7 +81,7 @@ impl Run {
         requires op { IsAtOp program.now self.old running (Op.Test number arm to) }
         requires form { HasForm program.now.code number Repeats }
         ensures stands { IsWell program.now self.new }
-        ensures works { work program.now self.new < work program.now self.old }
+        ensures works { Lessens program.now self.old self.new }
     {
         take_off(&mut self.frames);
         self.frames.set_pc(running.body, to);
@@ -187,7 +187,7 @@ impl Run {
         requires op { IsAtOp program.now self.old running (Op.Turn number to) }
         requires form { IsWalk program.now.code number }
         ensures stands { IsWell program.now self.new }
-        ensures works { work program.now self.new < work program.now self.old }
+        ensures works { Lessens program.now self.old self.new }
     {
         let last = locals_at(&self.frames, running.body).len() - 1;
         self.frames.cut_locals(running.body, last);

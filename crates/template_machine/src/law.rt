@@ -5,7 +5,7 @@ ghost use Rattle.stx_base.specs.Course.{Ends, Over};
 ghost use Rattle.template_machine.specs.Copies.{CopiesAll, CopiesNothing, CopiesTexts};
 ghost use Rattle.template_machine.specs.Ending.{Said, Ending};
 ghost use Rattle.template_machine.specs.Job.{Given};
-ghost use Rattle.template_machine.specs.Laws.{BodiesRunByCode, GoesOnByCode, KeepsLocals, PassesAsBefore, PositionsCountEarlier, SkipsSilently};
+ghost use Rattle.template_machine.specs.Laws.{AskingIsOpen, BodiesRunByCode, GoesOnByCode, KeepsLocals, PassesAsBefore, PositionsCountEarlier, SkipsSilently};
 ghost use Rattle.template_machine.specs.Meaning.{code, meaning};
 ghost use Rattle.template_machine.specs.Outcome.{AreNew, outcome};
 ghost use Rattle.template_machine.specs.Passed.{PassesThrough};
@@ -41,6 +41,11 @@ pub fn copies()
 /// A list of instructions leaves the locals that were there: what is declared in it, and in all that it calls, is gone at its end.
 pub fn locals_last()
     ensures { KeepsLocals }
+{}
+
+/// A machine that waits for an event has an open document.
+pub fn asking()
+    ensures { AskingIsOpen }
 {}
 
 /// Positions count the earlier nodes of a list.

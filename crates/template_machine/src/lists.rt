@@ -6,6 +6,7 @@ ghost use Rattle.node_stack.specs.Path.{Element, can_end, current, is_attribute}
 ghost use Rattle.node_stack.specs.Stack.{path};
 ghost use Rattle.template_machine.specs.Bodies as bodies;
 ghost use Rattle.template_machine.specs.Closing.{is_slot};
+ghost use Rattle.template_machine.specs.Documents.{documents};
 ghost use Rattle.template_machine.specs.Standing.{standing_of};
 ghost use Rattle.template_machine.specs.Ways.{first_in};
 ghost use Rattle.template_machine.specs.Moments.{Follows, GoesOrWaits, HasTold, HeadIsLooked, IsBuffer, ListIsOver, NodeIsOver, PutsAside, RegionIsOver, SkipEnds, SkipsOn, TakesHead};
@@ -32,6 +33,7 @@ impl Run {
         requires { HasTold program.now event self.old }
         ensures stands { IfOk result (λ _. IsWell program.now self.new × (self.new.doing ≡ Doing.List)) }
         ensures works { (id : ℕ) → IsBuffer id self.old.source.origin → OnOk result (work program.now self.new < work program.now self.old) }
+        ensures documents { OnOk result (documents self.new ≡ documents self.old) }
     {
         match skipped(&self.frames) {
             Some(depth) => self.skip(program, depth, event),
@@ -45,6 +47,7 @@ impl Run {
         requires taken { bodies.skipped_in (reverse self.old.frames.frames) ≡ None }
         ensures stands { IfOk result (λ _. IsWell program.now self.new × (self.new.doing ≡ Doing.List)) }
         ensures works { (id : ℕ) → IsBuffer id self.old.source.origin → OnOk result (work program.now self.new < work program.now self.old) }
+        ensures documents { OnOk result (documents self.new ≡ documents self.old) }
     {
         match event {
             Event::Start {
@@ -95,6 +98,7 @@ impl Run {
         requires { TakesHead program.now (Element name attrs decls first) self.old }
         ensures stands { IfOk result (λ _. IsWell program.now self.new × (self.new.doing ≡ Doing.List)) }
         ensures works { (id : ℕ) → IsBuffer id self.old.source.origin → OnOk result (work program.now self.new < work program.now self.old) }
+        ensures documents { OnOk result (documents self.new ≡ documents self.old) }
     {
         self.begin(program)?;
         let change = self.source.open(name, attrs, decls, first)?;
@@ -108,6 +112,7 @@ impl Run {
         requires { TakesHead program.now (leaf_of leaf) self.old }
         ensures stands { IfOk result (λ _. IsWell program.now self.new × (self.new.doing ≡ Doing.List)) }
         ensures works { (id : ℕ) → IsBuffer id self.old.source.origin → OnOk result (work program.now self.new < work program.now self.old) }
+        ensures documents { OnOk result (documents self.new ≡ documents self.old) }
     {
         self.begin(program)?;
         self.source.leaf(leaf)
@@ -121,6 +126,7 @@ impl Run {
         ensures well { IsWell program.now self.new }
         ensures list { self.new.doing ≡ Doing.List }
         ensures works { (id : ℕ) → IsBuffer id self.old.source.origin → work program.now self.new < work program.now self.old }
+        ensures documents { documents self.new ≡ documents self.old }
     {
         self.end_list(program);
         self.source.ahead = Ahead::Ended;
@@ -132,6 +138,7 @@ impl Run {
         requires skipped { bodies.skipped_in (reverse self.old.frames.frames) ≡ Some depth }
         ensures stands { IfOk result (λ _. IsWell program.now self.new × (self.new.doing ≡ Doing.List)) }
         ensures works { (id : ℕ) → IsBuffer id self.old.source.origin → OnOk result (work program.now self.new < work program.now self.old) }
+        ensures documents { OnOk result (documents self.new ≡ documents self.old) }
     {
         let skipped = self.pass_over(program, depth, &event);
         event.give_back(&mut self.putting.spare);
@@ -143,6 +150,7 @@ impl Run {
         requires skipped { bodies.skipped_in (reverse self.old.frames.frames) ≡ Some depth }
         ensures stands { IfOk result (λ _. IsWell program.now self.new × (self.new.doing ≡ Doing.List)) }
         ensures works { (id : ℕ) → IsBuffer id self.old.source.origin → OnOk result (work program.now self.new < work program.now self.old) }
+        ensures documents { OnOk result (documents self.new ≡ documents self.old) }
     {
         match event {
             Event::Start { .. } => self.skip_start(program, depth),
@@ -159,6 +167,7 @@ impl Run {
         requires { SkipsOn program.now (depth + 1) self.old }
         ensures stands { IfOk result (λ _. IsWell program.now self.new × (self.new.doing ≡ Doing.List)) }
         ensures works { (id : ℕ) → IsBuffer id self.old.source.origin → OnOk result (work program.now self.new < work program.now self.old) }
+        ensures documents { OnOk result (documents self.new ≡ documents self.old) }
     {
         self.begin(program)?;
         self.skip_to(program, depth + 1);
@@ -169,6 +178,7 @@ impl Run {
         requires { SkipsOn program.now depth self.old }
         ensures stands { IfOk result (λ _. IsWell program.now self.new × (self.new.doing ≡ Doing.List)) }
         ensures works { (id : ℕ) → IsBuffer id self.old.source.origin → OnOk result (work program.now self.new < work program.now self.old) }
+        ensures documents { OnOk result (documents self.new ≡ documents self.old) }
     {
         self.begin(program)?;
         self.skip_to(program, depth);
@@ -179,6 +189,7 @@ impl Run {
         requires { SkipEnds program.now depth self.old }
         ensures stands { IsWell program.now self.new × (self.new.doing ≡ Doing.List) }
         ensures works { (id : ℕ) → IsBuffer id self.old.source.origin → work program.now self.new < work program.now self.old }
+        ensures documents { documents self.new ≡ documents self.old }
     {
         match depth.checked_sub(1) {
             Some(less) => {
@@ -194,6 +205,7 @@ impl Run {
         requires { SkipsOn program.now depth self.old }
         ensures stands { IsWell program.now self.new × (self.new.doing ≡ Doing.List) }
         ensures works { (d : ℕ) → bodies.skipped_in (reverse self.old.frames.frames) ≡ Some d → (self.new.fuel ≡ self.old.fuel) × (burden self.new + d ≡ burden self.old + depth) }
+        ensures documents { documents self.new ≡ documents self.old }
     {
         let top = self.frames.count() - 1;
         self.frames.set_depth(top, depth);
@@ -303,7 +315,9 @@ impl Run {
                 Ok(Step::More)
             }
             None => {
-                self.find_end(program);
+                let end = Event::DocumentEnd { offset: 0 };
+                self.source.count(&end);
+                self.arrive(program, end)?;
                 Ok(Step::More)
             }
         }

@@ -1,8 +1,9 @@
 //! A run of a sheet, event by event.
 
-ghost use Rattle.std.specs.Prelude.{◌≡◌, ◌+◌, ◌<◌, ◌^◌, ℕ, IfOk, List as Items};
+ghost use Rattle.std.specs.Prelude.{◌≡◌, ◌+◌, ◌<◌, ◌^◌, [], ◌∷◌, ℕ, IfOk, OnOk, List as Items};
 ghost use Rattle.sheet_model.specs.Sound.{IsSound};
-ghost use Rattle.template_machine.specs.Between.{Continues, IsAsking, IsAskingForDocument, IsNew};
+ghost use Rattle.template_machine.specs.Between.{Continues, GoesOn, IsAbsent, IsAsking, IsAskingForDocument, IsNew, IsOf, behind, depth_of, documents_of, spare_of};
+ghost use Rattle.template_machine.specs.Documents.{documents};
 ghost use Rattle.template_machine.specs.Moments.{Follows};
 
 use crate::program::Program;
@@ -12,6 +13,7 @@ use crate::stop::Stop;
 use crate::turn::{Param, Turn};
 use sheet_model::Sheet;
 use std::alloc::Global;
+use std::mem;
 use stx_base::{Limits, List, Memory, RunCode, Spare};
 use xml_events::Event;
 
@@ -32,7 +34,9 @@ impl Machine {
         requires sound { IsSound sheet }
         requires depth { limits.depth + 1 < 2 ^ 32 }
         requires elements { limits.elements + 1 < 2 ^ 32 }
-        ensures { IfOk result IsNew }
+        ensures new { IfOk result IsNew }
+        ensures runs { IfOk result (IsOf sheet limits) }
+        ensures depth { IfOk result (λ m. depth_of m ≡ limits.depth) }
     {
         let program = Program::new(alloc, sheet, limits)?;
         let run = Run::new(alloc, &program, params)?;
@@ -44,6 +48,9 @@ impl Machine {
         requires { IsNew self.old }
         ensures more { result ≡ Turn.More → IsAsking self.new }
         ensures want { (name : Items ℕ) → result ≡ Turn.WantDocument name → IsAskingForDocument self.new }
+        ensures ended { result ≡ Turn.Ended → documents_of self.new ≡ [] }
+        ensures documents { GoesOn result → documents_of self.new ≡ 1 ∷ [] }
+        ensures depth { depth_of self.new ≡ depth_of self.old }
     {
         match self.begin(out) {
             Ok(step) => self.run.go_on_behind(&self.program, step, out),
@@ -54,6 +61,7 @@ impl Machine {
     fn begin<S: Sink>(&mut self, out: &mut S) -> Result<Step, Stop>
         requires { IsNew self.old }
         ensures follows { IfOk result (λ step. Follows self.new.program step self.new.run) }
+        ensures documents { OnOk result (documents self.new.run ≡ documents self.old.run) }
         ensures program { self.new.program ≡ self.old.program }
     {
         self.run.make_all(&self.program)?;
@@ -67,6 +75,9 @@ impl Machine {
         requires event { Continues self.old event }
         ensures more { result ≡ Turn.More → IsAsking self.new }
         ensures want { (name : Items ℕ) → result ≡ Turn.WantDocument name → IsAskingForDocument self.new }
+        ensures ended { result ≡ Turn.Ended → documents_of self.new ≡ [] }
+        ensures documents { GoesOn result → documents_of self.new ≡ behind event (documents_of self.old) }
+        ensures depth { depth_of self.new ≡ depth_of self.old }
     {
         self.run.source.count(&event);
         match self.run.arrive(&self.program, event) {
@@ -80,6 +91,9 @@ impl Machine {
         requires { IsAskingForDocument self.old }
         ensures more { result ≡ Turn.More → IsAsking self.new }
         ensures want { (name : Items ℕ) → result ≡ Turn.WantDocument name → IsAskingForDocument self.new }
+        ensures ended { result ≡ Turn.Ended → documents_of self.new ≡ [] }
+        ensures documents { GoesOn result → documents_of self.new ≡ 1 ∷ documents_of self.old }
+        ensures depth { depth_of self.new ≡ depth_of self.old }
     {
         match self.run.begin_document(&self.program) {
             Ok(()) => self.run.go_on(&self.program, out),
@@ -90,15 +104,22 @@ impl Machine {
     /// There is no wanted document. Allocates nothing.
     pub fn document_absent(&mut self) -> Turn
         requires { IsAskingForDocument self.old }
-        ensures { self.new ≡ self.old }
+        ensures same { self.new ≡ self.old }
+        ensures stopped { IsAbsent result }
     {
         let at = self.run.place_of_wanted(&self.program);
         Stop::fault(RunCode::NoDocument, at).turn()
     }
 
-    /// Texts that are done with, for the next events. Allocates nothing.
-    pub fn spare(&mut self) -> &mut Spare {
-        &mut self.run.putting.spare
+    /// Exchanges texts that are done with, for the next events, for others. Allocates nothing.
+    pub fn exchange_spare(&mut self, spare: &mut Spare)
+        ensures taken { spare.new ≡ spare_of self.old }
+        ensures left { spare_of self.new ≡ spare.old }
+        ensures asking { IsAsking self.old → IsAsking self.new }
+        ensures documents { documents_of self.new ≡ documents_of self.old }
+        ensures depth { depth_of self.new ≡ depth_of self.old }
+    {
+        mem::swap(&mut self.run.putting.spare, spare);
     }
 
     /// How many frames wait. Allocates nothing.

@@ -1,9 +1,10 @@
 //! Instructions that process nodes.
 
-ghost use Rattle.std.specs.Prelude.{◌≡◌, ◌<◌, IfOk, OnOk, length, ◌^◌};
+ghost use Rattle.std.specs.Prelude.{◌≡◌, ◌<◌, ◌∷◌, IfOk, OnOk, length, ◌^◌};
 ghost use Rattle.node_stack.specs.Path.{can_end, current};
 ghost use Rattle.node_stack.specs.Stack.{path};
 ghost use Rattle.template_machine.specs.Contexts.{HasForm, Single};
+ghost use Rattle.template_machine.specs.Documents.{documents};
 ghost use Rattle.template_machine.specs.Evaluating.{TemplateCanBeEvaluated};
 ghost use Rattle.template_machine.specs.Moments.{Follows, IsAtOp};
 ghost use Rattle.template_machine.specs.Well.{IsWaiting, IsWell};
@@ -269,7 +270,8 @@ impl Run {
     /// The document that was wanted is there.
     pub fn begin_document(&mut self, program: &Program) -> Result<(), Stop>
         requires { IsWaiting program.now self.old }
-        ensures { IfOk result (λ _. IsWell program.now self.new) }
+        ensures stands { IfOk result (λ _. IsWell program.now self.new) }
+        ensures documents { OnOk result (documents self.new ≡ record { limit = program.now.limits.depth; lists = 1 } ∷ documents self.old) }
     {
         let asked = self.running().pc - 1;
         let at = place_of(program.instr_asked(asked));

@@ -1,6 +1,6 @@
 //! Instructions that put parts, and those around lists.
 
-ghost use Rattle.std.specs.Prelude.{◌≡◌, [], true, All, IfOk, OnOk, ◌<◌};
+ghost use Rattle.std.specs.Prelude.{◌≡◌, [], true, All, IfOk, OnOk};
 ghost use Rattle.std.specs.Option.{ForSome};
 ghost use Rattle.sheet_model.specs.declared.instr.Instr.TheViews.{out-Instr};
 ghost use Rattle.stxpath_syntax.specs.Shape.{CanBeEvaluated};
@@ -10,7 +10,7 @@ ghost use Rattle.template_machine.specs.Puts.{OnlyPuts};
 ghost use Rattle.template_machine.specs.Steps.{Sees};
 ghost use Rattle.template_machine.specs.Moments.{IsAtOp, CanPut};
 ghost use Rattle.template_machine.specs.Well.{AreTexts, IsSourceWell, IsWell};
-ghost use Rattle.template_machine.specs.Work.{Begins, work};
+ghost use Rattle.template_machine.specs.Work.{Begins, Lessens};
 ghost use Rattle.template_machine.specs.Working as working;
 ghost use Rattle.template_machine.specs.Working.{CanBeRun, Runs};
 
@@ -318,7 +318,7 @@ impl Run {
     ) -> Result<(), Stop>
         requires { IsAtOp program.now self.old running (Op.Open number to) }
         ensures stands { OnOk result (IsWell program.now self.new) }
-        ensures works { OnOk result (work program.now self.new < work program.now self.old) }
+        ensures works { OnOk result (Lessens program.now self.old self.new) }
     {
         let instr = program.instr(number);
         let spot = Spot {
@@ -365,7 +365,7 @@ impl Run {
     ) -> Result<(), Stop>
         requires { IsAtOp program.now self.old running (Op.Close number) }
         ensures stands { OnOk result (IsWell program.now self.new) }
-        ensures works { OnOk result (work program.now self.new < work program.now self.old) }
+        ensures works { OnOk result (Lessens program.now self.old self.new) }
     {
         match program.instr(number) {
             Instr::Literal { name, at, .. } => {
@@ -492,7 +492,7 @@ impl Run {
         requires op { IsAtOp program.now self.old running (Op.Close number) }
         requires form { HasForm program.now.code number Around }
         ensures stands { IsWell program.now self.new }
-        ensures works { work program.now self.new < work program.now self.old }
+        ensures works { Lessens program.now self.old self.new }
     {
         self.frames.set_pc(running.body, running.pc + 1);
     }
@@ -541,7 +541,7 @@ impl Run {
         requires op { IsAtOp program.now self.old running (Op.Close number) }
         requires form { HasForm program.now.code number AroundTag }
         ensures stands { OnOk result (IsWell program.now self.new) }
-        ensures works { OnOk result (work program.now self.new < work program.now self.old) }
+        ensures works { OnOk result (Lessens program.now self.old self.new) }
     {
         let locals = locals_at(&self.frames, running.body);
         let last = locals.len() - 1;
@@ -584,7 +584,7 @@ impl Run {
         requires op { IsAtOp program.now self.old running (Op.Close number) }
         requires form { HasForm program.now.code number AroundBuffer }
         ensures stands { OnOk result (IsWell program.now self.new) }
-        ensures works { OnOk result (work program.now self.new < work program.now self.old) }
+        ensures works { OnOk result (Lessens program.now self.old self.new) }
     {
         self.putting.end_writing(at)?;
         self.frames.set_pc(running.body, running.pc + 1);

@@ -8,8 +8,10 @@ ghost use Rattle.stx_base.specs.declared.node.NodeTest.TheVariants.{Document};
 ghost use Rattle.node_stack.specs.Path.{document_alone};
 ghost use Rattle.node_stack.specs.Stack.{path};
 ghost use Rattle.template_machine.specs.Asking.{HasAsker, HasBase, IsAsker, IsBodyAsking, WaitsFor};
+ghost use Rattle.template_machine.specs.Between.{GoesOn};
 ghost use Rattle.template_machine.specs.Bodies as bodies;
 ghost use Rattle.template_machine.specs.Closing.{ClosesStream, IsOpenStream};
+ghost use Rattle.template_machine.specs.Documents.{documents};
 ghost use Rattle.template_machine.specs.Seen.{ParentsStandBefore};
 ghost use Rattle.template_machine.specs.Sources.{Stands};
 ghost use Rattle.template_machine.specs.Standing.{standing_of};
@@ -18,7 +20,7 @@ ghost use Rattle.template_machine.specs.Steps as spec;
 ghost use Rattle.template_machine.specs.Steps.{Sees};
 ghost use Rattle.template_machine.specs.Moments.{Follows, ListIsOver, WantsEvent};
 ghost use Rattle.template_machine.specs.Well.{IsWaiting, IsWell};
-ghost use Rattle.template_machine.specs.Work.{Begins, Falls, load};
+ghost use Rattle.template_machine.specs.Work.{Begins, Falls, load, means_of};
 ghost use Rattle.template_machine.specs.Working.{EntersSource};
 
 use crate::bindings::Change;
@@ -138,6 +140,8 @@ impl Run {
         requires { IsWell program.now self.old }
         ensures more { result ≡ Turn.More → WantsEvent program.now self.new }
         ensures want { (name : Items ℕ) → result ≡ Turn.WantDocument name → IsWaiting program.now self.new }
+        ensures ended { result ≡ Turn.Ended → documents self.new ≡ [] }
+        ensures documents { GoesOn result → documents self.new ≡ documents self.old }
     {
         loop {
             match self.step(program, out) {
@@ -156,6 +160,8 @@ impl Run {
         requires root { 0 < length program.now.sheet.groups }
         ensures more { result ≡ Turn.More → WantsEvent program.now self.new }
         ensures want { (name : Items ℕ) → result ≡ Turn.WantDocument name → IsWaiting program.now self.new }
+        ensures ended { result ≡ Turn.Ended → documents self.new ≡ [] }
+        ensures documents { GoesOn result → documents self.new ≡ documents self.old }
     {
         match step {
             Step::More => self.go_on(program, out),
@@ -188,6 +194,7 @@ impl Run {
         requires { 0 < length program.now.sheet.groups }
         ensures more { result ≢ Turn.More }
         ensures want { (name : Items ℕ) → result ≢ Turn.WantDocument name }
+        ensures documents { documents self.new ≡ documents self.old }
     {
         match self.putting.finish(program.group(0).at, out) {
             Ok(()) => Turn::Ended,
@@ -426,7 +433,7 @@ impl Run {
         requires over { ListIsOver program.now self.old }
         requires source { bodies.is_source_in (reverse self.old.frames.frames) ≡ true }
         ensures stands { IsWaiting program.now self.new }
-        ensures works { (self.new.fuel ≡ self.old.fuel) × (load self.new + 1 ≤ load self.old) }
+        ensures works { (means_of self.new ≡ means_of self.old) × (load self.new + 1 ≤ load self.old) }
     {
         take_off(&mut self.frames);
         self.close_stream();

@@ -50,7 +50,7 @@ pub struct Source {
     /// The head that is held aside.
     held: Option<Parked>,
     pub origin: Origin,
-    /// How many elements have begun in it that haven't ended.
+    /// How many lists have begun in it that haven't ended: its own, and those of elements.
     pub begun: u32,
     /// Where the next event of a buffer stands.
     pub next: usize,
@@ -60,7 +60,7 @@ impl Source {
     /// At the document node. At most `depth` elements may be open at once.
     pub fn new(alloc: Global, depth: u32, origin: Origin) -> Result<Source, Memory>
         requires { depth + 1 < 2 ^ 32 }
-        ensures { IfOk result (λ s. Stands s (document_alone depth) ([] ∷ []) Ahead.Nothing None origin × (s.begun ≡ 0) × (s.next ≡ 0)) }
+        ensures { IfOk result (λ s. Stands s (document_alone depth) ([] ∷ []) Ahead.Nothing None origin × (s.begun ≡ 1) × (s.next ≡ 0)) }
     {
         Ok(Source {
             stack: NodeStack::new(alloc, depth)?,
@@ -68,7 +68,7 @@ impl Source {
             ahead: Ahead::Nothing,
             held: None,
             origin,
-            begun: 0,
+            begun: 1,
             next: 0,
         })
     }
@@ -113,7 +113,7 @@ impl Source {
         Ok(())
     }
 
-    /// Counts an event that is told: an element begins, or the innermost that has begun ends, if there is one. Allocates nothing.
+    /// Counts an event that is told: an element begins, or the innermost list that has begun ends, if there is one. Allocates nothing.
     pub fn count(&mut self, event: &Event)
         requires { begun_behind event.now self.old.begun < 2 ^ 32 }
         ensures { self.new ≡ record self.old { begun = begun_behind event.now self.old.begun } }
@@ -121,6 +121,7 @@ impl Source {
         match event {
             Event::Start { .. } => self.begun += 1,
             Event::End { .. } => self.begun = self.begun.saturating_sub(1),
+            Event::DocumentEnd { .. } => self.begun = self.begun.saturating_sub(1),
             _ => {}
         }
     }

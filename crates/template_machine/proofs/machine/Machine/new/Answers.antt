@@ -1,12 +1,20 @@
 use Rattle.template_machine.proofs.Starting.{makes_ready}
+use Rattle.std.proofs.Common.{ap}
+use Rattle.stx_base.specs.declared.limits.Limits.{Limits}
 use Rattle.template_machine.proofs.machine.Machine.new.Goals as goal
 
 pub new-requires-2 : goal.new-requires-2
 new-requires-2 c =
     makes_ready c.args.sheet c.args.limits c.in_ok-program.program c.requires.sound c.in_ok-program.ensures c.requires.depth c.requires.elements
 
-pub returns : goal.returns
-returns c = record {
+pub returns-clause-new : goal.returns-clause-new
+returns-clause-new c = record {
   ready = makes_ready c.args.sheet c.args.limits c.in_ok-program.program c.requires.sound c.in_ok-program.ensures c.requires.depth c.requires.elements;
   fresh = c.in_ok-run.ensures;
 }
+
+pub returns-clause-runs : goal.returns-clause-runs
+returns-clause-runs c = c.in_ok-program.ensures
+
+pub returns-clause-depth : goal.returns-clause-depth
+returns-clause-depth c = ap (λ (l : Limits). l.depth) c.in_ok-program.ensures.limits_are

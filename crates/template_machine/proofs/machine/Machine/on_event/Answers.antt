@@ -1,26 +1,62 @@
-use Rattle.std.proofs.Common.{◌<◌, ◌^◌, sym, subst, arith, ◌∙◌}
+use Rattle.std.proofs.Common.{◌<◌, ◌^◌, sym, subst, arith, ◌∙◌, ◌+◌, ap, map}
 use Rattle.node_stack.specs.Stack.{path}
 use Rattle.template_machine.specs.Moments.{HasTold}
 use Rattle.template_machine.specs.declared.source.Source.{Source}
 use Rattle.template_machine.proofs.Eventful.{event_told}
-use Rattle.template_machine.proofs.Turning.{stop_more, stop_wants}
+use Rattle.template_machine.proofs.Turning.{stop_more, stop_wants, stop_ended, stop_goes}
+use Rattle.template_machine.specs.Between.{GoesOn, HasDepth, depth_of, lists_in}
+use Rattle.template_machine.proofs.Machines.{event_depths, event_fits, event_lists, text_told}
+use Rattle.std.specs.Prelude.{All}
 use Rattle.template_machine.proofs.machine.Machine.on_event.Goals as goal
 
 pub count-requires : goal.count-requires
 count-requires g c =
     let r = c.args.self.now.run in
-    let small : (path r.source.stack).limit < 2 ^ 32 = c.requires.asking.well.steady.source.small in
-    omega (arith, c.requires.event.room, small)
+    let small : (path r.source.stack).limit + 1 < 2 ^ 32 = c.requires.asking.wants.well.steady.source.small in
+    omega (arith, event_fits c.args.self.now c.args.event c.requires.asking c.requires.event, small)
 
 pub arrive-requires : goal.arrive-requires
 arrive-requires g c =
     let p = c.args.self.now.program in
     let r = c.args.self.now.run in
     subst (λ (x : Source). HasTold p c.args.event (record r { source = x })) (sym c.count.ensures)
-    (event_told p r c.args.event c.requires.asking c.requires.event.room c.requires.event.text)
+    (event_told p r c.args.event c.requires.asking.wants (event_fits c.args.self.now c.args.event c.requires.asking c.requires.event)
+    (text_told c.args.event c.requires.event.text))
 
 pub returns-in-Err-clause-more : goal.returns-in-Err-clause-more
 returns-in-Err-clause-more g c = λ e. absurd (stop_more c.in-Err.stop (sym c.turn.ensures ∙ e))
 
 pub returns-in-Err-clause-want : goal.returns-in-Err-clause-want
 returns-in-Err-clause-want g c = λ name e. absurd (stop_wants c.in-Err.stop name (sym c.turn.ensures ∙ e))
+
+pub returns-in-Ok-clause-more : goal.returns-in-Ok-clause-more
+returns-in-Ok-clause-more g c = λ e.
+    record {
+      wants = c.go_on.ensures.more e;
+      depths =
+          subst (All (HasDepth (depth_of c.args.self.now))) (sym (c.go_on.ensures.documents (subst GoesOn (sym e) tt) ∙ c.in-Ok.ensures.documents))
+          (event_depths c.args.self.now c.args.event c.count.new.self c.requires.asking c.count.ensures);
+    }
+
+pub returns-in-Ok-clause-want : goal.returns-in-Ok-clause-want
+returns-in-Ok-clause-want g c = λ name e.
+    record {
+      waits = c.go_on.ensures.want name e;
+      depths =
+          subst (All (HasDepth (depth_of c.args.self.now))) (sym (c.go_on.ensures.documents (subst GoesOn (sym e) tt) ∙ c.in-Ok.ensures.documents))
+          (event_depths c.args.self.now c.args.event c.count.new.self c.requires.asking c.count.ensures);
+    }
+
+pub returns-in-Ok-clause-ended : goal.returns-in-Ok-clause-ended
+returns-in-Ok-clause-ended g c = λ e. ap (map lists_in) (c.go_on.ensures.ended e)
+
+pub returns-in-Ok-clause-documents : goal.returns-in-Ok-clause-documents
+returns-in-Ok-clause-documents g c = λ goes.
+    ap (map lists_in) (c.go_on.ensures.documents goes ∙ c.in-Ok.ensures.documents)
+    ∙ event_lists c.args.self.now c.args.event c.count.new.self c.requires.asking c.requires.event c.count.ensures
+
+pub returns-in-Err-clause-ended : goal.returns-in-Err-clause-ended
+returns-in-Err-clause-ended g c = λ e. absurd (stop_ended c.in-Err.stop (sym c.turn.ensures ∙ e))
+
+pub returns-in-Err-clause-documents : goal.returns-in-Err-clause-documents
+returns-in-Err-clause-documents g c = λ goes. absurd (stop_goes c.in-Err.stop (subst GoesOn c.turn.ensures goes))

@@ -1,7 +1,9 @@
-use Rattle.std.proofs.Common.{◌<◌, length, sym, subst, ◌∙◌}
+use Rattle.std.proofs.Common.{◌<◌, length, sym, subst, ◌∙◌, ap, map}
 use Rattle.template_machine.specs.declared.program.Program.{Program}
 use Rattle.template_machine.proofs.Starting.{ready_root}
-use Rattle.template_machine.proofs.Turning.{stop_more, stop_wants}
+use Rattle.template_machine.proofs.Turning.{stop_more, stop_wants, stop_ended, stop_goes}
+use Rattle.template_machine.specs.Between.{GoesOn, lists_in}
+use Rattle.template_machine.proofs.Machines.{fresh_depths, fresh_lists}
 use Rattle.template_machine.proofs.machine.Machine.start.Goals as goal
 
 pub go_on_behind-requires-clause-root : goal.go_on_behind-requires-clause-root
@@ -12,3 +14,40 @@ returns-in-Err-clause-more g c = λ e. absurd (stop_more c.in-Err.stop (sym c.tu
 
 pub returns-in-Err-clause-want : goal.returns-in-Err-clause-want
 returns-in-Err-clause-want g c = λ name e. absurd (stop_wants c.in-Err.stop name (sym c.turn.ensures ∙ e))
+
+pub returns-in-Ok-clause-more : goal.returns-in-Ok-clause-more
+returns-in-Ok-clause-more g c = λ e.
+    record {
+      wants = c.go_on_behind.ensures.more e;
+      depths =
+          fresh_depths c.args.self.now.program c.begin.new.self.program c.args.self.now.run c.go_on_behind.new.self c.requires.fresh c.begin.ensures.program
+          (c.go_on_behind.ensures.documents (subst GoesOn (sym e) tt) ∙ c.in-Ok.ensures.documents);
+    }
+
+pub returns-in-Ok-clause-want : goal.returns-in-Ok-clause-want
+returns-in-Ok-clause-want g c = λ name e.
+    record {
+      waits = c.go_on_behind.ensures.want name e;
+      depths =
+          fresh_depths c.args.self.now.program c.begin.new.self.program c.args.self.now.run c.go_on_behind.new.self c.requires.fresh c.begin.ensures.program
+          (c.go_on_behind.ensures.documents (subst GoesOn (sym e) tt) ∙ c.in-Ok.ensures.documents);
+    }
+
+pub returns-in-Ok-clause-ended : goal.returns-in-Ok-clause-ended
+returns-in-Ok-clause-ended g c = λ e. ap (map lists_in) (c.go_on_behind.ensures.ended e)
+
+pub returns-in-Ok-clause-documents : goal.returns-in-Ok-clause-documents
+returns-in-Ok-clause-documents g c = λ goes.
+    fresh_lists c.args.self.now.program c.args.self.now.run c.go_on_behind.new.self c.requires.fresh (c.go_on_behind.ensures.documents goes ∙ c.in-Ok.ensures.documents)
+
+pub returns-in-Ok-clause-depth : goal.returns-in-Ok-clause-depth
+returns-in-Ok-clause-depth g c = ap (λ (p : Program). p.limits.depth) c.begin.ensures.program
+
+pub returns-in-Err-clause-depth : goal.returns-in-Err-clause-depth
+returns-in-Err-clause-depth g c = ap (λ (p : Program). p.limits.depth) c.begin.ensures.program
+
+pub returns-in-Err-clause-ended : goal.returns-in-Err-clause-ended
+returns-in-Err-clause-ended g c = λ e. absurd (stop_ended c.in-Err.stop (sym c.turn.ensures ∙ e))
+
+pub returns-in-Err-clause-documents : goal.returns-in-Err-clause-documents
+returns-in-Err-clause-documents g c = λ goes. absurd (stop_goes c.in-Err.stop (subst GoesOn c.turn.ensures goes))

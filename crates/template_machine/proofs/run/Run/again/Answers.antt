@@ -9,8 +9,7 @@ use Rattle.template_machine.proofs.Beside.{level_waits}
 use Rattle.template_machine.proofs.Handing.{spent_there}
 use Rattle.template_machine.proofs.Overs.{goes_or_waits}
 use Rattle.frame_stack.specs.declared.frame.Frame.TheVariants.{Pass}
-use Rattle.template_machine.specs.Work.{Begins, load}
-use Rattle.template_machine.specs.declared.run.Run.{Run}
+use Rattle.template_machine.specs.Work.{Begins, load, means_of}
 use Rattle.template_machine.proofs.Beginning.{begins_passed, begins_put}
 use Rattle.template_machine.proofs.Falling.{begins_within}
 use Rattle.template_machine.proofs.run.Run.again.Goals as goal
@@ -89,4 +88,4 @@ returns-clause-works g c =
     begins_within 4 (2 ^ 68) r c.list_goes_on.new.self (omega arith)
     (subst (Begins 4 r) (sym c.list_goes_on.ensures.run)
     (begins_passed c.level_at-level.result (Pass c.link_asked-base.result.base c.level_at-level.result true) r m c.push.new.self c.spend_children.new.frames
-    (ap load c.pass.ensures.run) (ap (λ (x : Run). x.fuel) c.pass.ensures.run) c.spend_children.ensures.frames c.in_ok-push.ensures.ok (omega arith)))
+    (ap load c.pass.ensures.run) (ap means_of c.pass.ensures.run) c.spend_children.ensures.frames c.in_ok-push.ensures.ok (omega arith)))

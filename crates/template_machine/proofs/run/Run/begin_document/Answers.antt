@@ -1,6 +1,8 @@
-use Rattle.std.proofs.Common.{◌≡◌, suc, ◌-◌, ◌∙◌, Some, ap, arith}
+use Rattle.std.proofs.Common.{◌≡◌, suc, ◌-◌, ◌∙◌, Some, ap, arith, ◌∷◌}
 use Rattle.template_machine.proofs.Operating.{asked_at, waiting_pc}
 use Rattle.template_machine.proofs.Within.{document_on}
+use Rattle.template_machine.specs.Documents.{documents}
+use Rattle.template_machine.proofs.Documents.{document_before}
 use Rattle.template_machine.proofs.run.Run.begin_document.Goals as goal
 
 pub running-asked-requires : goal.running-asked-requires
@@ -12,10 +14,15 @@ overflow_sub-asked c = (asked_at c.args.program.now c.args.self.now c.running-as
 pub instr_asked-requires : goal.instr_asked-requires
 instr_asked-requires c = (asked_at c.args.program.now c.args.self.now c.running-asked.result.pc c.requires c.running-asked.ensures.pc).2
 
-pub returns : goal.returns
-returns c =
+pub returns-clause-stands : goal.returns-clause-stands
+returns-clause-stands c =
     let pc = c.running-asked.result.pc in
     let asked = asked_at c.args.program.now c.args.self.now pc c.requires c.running-asked.ensures.pc in
     let long : pc ≡ suc (pc - 1) = omega (arith, asked.0) in
     document_on c.args.program.now c.args.self.now c.push.new.self c.enter_source.new.self (pc - 1) _ c.requires (c.running-asked.ensures.pc ∙ ap (λ n. Some n) long)
     c.in_ok-push.ensures.ok c.in_ok-enter_source.ensures
+
+pub returns-clause-documents : goal.returns-clause-documents
+returns-clause-documents c =
+    document_before c.args.program.now.limits.depth _ c.push.new.self c.enter_source.new.self tt c.in_ok-enter_source.ensures
+    ∙ ap (λ l. record { limit = c.args.program.now.limits.depth; lists = 1 } ∷ l) (ap documents c.in_ok-push.ensures.ok)

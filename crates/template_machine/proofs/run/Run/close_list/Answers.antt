@@ -32,4 +32,5 @@ returns-in_ok-close_copy-in-Copy-clause-works g c =
     falls_put c.args.program.now c.args.self.now c.close_copy.new.self c.leave_list-in-Copy.new.self c.close_copy.ensures c.leave_list-in-Copy.ensures.works
 
 pub returns-in_ok-end-in-Literal-clause-works : goal.returns-in_ok-end-in-Literal-clause-works
-returns-in_ok-end-in-Literal-clause-works g c = c.leave_list.ensures.works
+returns-in_ok-end-in-Literal-clause-works g c =
+    let l = c.leave_list.ensures.works in record { still = l.still; falls = l.falls }

@@ -1,4 +1,4 @@
-use Rattle.std.proofs.Common.{refl, sym, subst}
+use Rattle.std.proofs.Common.{refl, sym, subst, ap}
 use Rattle.template_machine.specs.declared.run.Doing.TheVariants as doing
 use Rattle.template_machine.specs.Well.{IsWell}
 use Rattle.node_stack.specs.Path.{current}
@@ -6,6 +6,7 @@ use Rattle.node_stack.specs.Stack.{path}
 use Rattle.template_machine.proofs.Overs.{goes_or_waits, node_left, some_end}
 use Rattle.template_machine.proofs.Sourcing.{has_scopes}
 use Rattle.template_machine.proofs.Lightened.{goes_on_list, load_same}
+use Rattle.template_machine.proofs.Documents.{limit_in, means_kept}
 use Rattle.template_machine.proofs.run.Run.close_node.Goals as goal
 
 pub close-change-requires-clause-scope : goal.close-change-requires-clause-scope
@@ -27,4 +28,5 @@ pub returns-clause-works : goal.returns-clause-works
 returns-clause-works c =
     let r = c.args.self.now in
     let m = record r { source = c.close-change.new.self; putting = c.see.new.self } in
-    goes_on_list r m c.list_goes_on.new.self c.list_goes_on.ensures.run refl (load_same r m refl c.close-change.ensures.closed.ahead_is refl)
+    let st = c.close-change.ensures.closed in
+    goes_on_list r m c.list_goes_on.new.self c.list_goes_on.ensures.run (means_kept r m refl st.origin_is (ap limit_in st.path_is) c.close-change.ensures.counts.0 refl) (load_same r m refl st.ahead_is refl)

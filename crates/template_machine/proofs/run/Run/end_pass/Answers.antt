@@ -7,7 +7,7 @@ use Rattle.template_machine.specs.Well.{AreWell, IsWaiting, is_again}
 use Rattle.template_machine.proofs.Taken.{pass_leaves, pass_waits}
 use Rattle.template_machine.proofs.Lightened.{load_off}
 use Rattle.template_machine.proofs.Falling.{begins_behind}
-use Rattle.template_machine.specs.Work.{Begins}
+use Rattle.template_machine.specs.Work.{Begins, means_of}
 use Rattle.template_machine.proofs.Operating.{on_ok}
 use Rattle.template_machine.proofs.run.Run.end_pass.Goals as goal
 
@@ -55,7 +55,7 @@ returns-then-is_asked_again-clause-works g c =
     let e = c.pass_end.ensures.run in
     let frames = ap (λ (x : Run). reverse x.frames.frames) e ∙ c.take_off.ensures (Pass c.args.base c.args.level i.0) i.1.0 i.1.1 in
     let off = load_off r m (Pass c.args.base c.args.level i.0) i.1.0 i.1.1 frames (ap (λ (x : Run). x.source.ahead) e) (ap (λ (x : Run). x.outer.items) e) in
-    begins_behind 2 0 r m c.end_process.new.self (ap (λ (x : Run). x.fuel) e) off c.end_process.ensures.works 0 (omega arith)
+    begins_behind 2 0 r m c.end_process.new.self (ap means_of e) off c.end_process.ensures.works 0 (omega arith)
 
 pub returns-clause-works : goal.returns-clause-works
 returns-clause-works g c =
@@ -66,4 +66,4 @@ returns-clause-works g c =
     let e = c.pass_end.ensures.run in
     let frames = ap (λ (x : Run). reverse x.frames.frames) e ∙ c.take_off.ensures (Pass c.args.base c.args.level i.0) i.1.0 i.1.1 in
     let off = load_off r m (Pass c.args.base c.args.level i.0) i.1.0 i.1.1 frames (ap (λ (x : Run). x.source.ahead) e) (ap (λ (x : Run). x.outer.items) e) in
-    on_ok c.leave_node.result (Begins 2 m n) (Begins 0 r n) c.leave_node.ensures.works (λ b. begins_behind 2 2 r m n (ap (λ (x : Run). x.fuel) e) off b 0 (omega arith))
+    on_ok c.leave_node.result (Begins 2 m n) (Begins 0 r n) c.leave_node.ensures.works (λ b. begins_behind 2 2 r m n (ap means_of e) off b 0 (omega arith))

@@ -8,6 +8,7 @@ use Rattle.template_machine.proofs.Slots.{aside_of, popped, slot_there, last_som
 use Rattle.template_machine.specs.Ways.{first_in}
 use Rattle.template_machine.proofs.Ways.{way_depth, way_here}
 use Rattle.template_machine.proofs.Lightened.{load_off, sheds_behind}
+use Rattle.template_machine.proofs.Documents.{limit_in, means_kept}
 use Rattle.template_machine.proofs.run.Run.end_region.Goals as goal
 
 pub unwrap-requires : goal.unwrap-requires
@@ -65,4 +66,5 @@ returns-clause-works c =
     let gone = c.take_off.ensures (Region f.asked f.level) f.frames f.is in
     let m = record r { frames = c.take_off.new.frames; putting = c.see.new.self; source = c.resume.new.self; aside = c.pop.new.self } in
     let off = load_off r m (Region f.asked f.level) f.frames f.is gone c.in_ok-change.ensures.ok.ahead_is refl in
-    sheds_behind 2 0 r m c.end_process.new.self refl off c.end_process.ensures.works 2 (omega arith)
+    let ok = c.in_ok-change.ensures.ok in
+    sheds_behind 2 0 r m c.end_process.new.self (means_kept r m refl ok.origin_is (ap limit_in ok.path_is) c.in_ok-change.ensures.counts.0 refl) off c.end_process.ensures.works 2 (omega arith)

@@ -6,7 +6,7 @@ use Rattle.template_machine.specs.Standing.{standing_of}
 use Rattle.template_machine.specs.Well.{CanTakeOff}
 use Rattle.template_machine.proofs.Ended.{group_within, one_template, scope_left, template_finds, template_left, template_within}
 use Rattle.template_machine.proofs.Lightened.{begins_ok, load_off}
-use Rattle.template_machine.specs.Work.{frame_work, load}
+use Rattle.template_machine.specs.Work.{frame_work, load, means_of}
 use Rattle.template_machine.specs.declared.run.Run.{Run}
 use Rattle.template_machine.proofs.run.Run.end_template.Goals as goal
 
@@ -78,7 +78,7 @@ returns-then-declared-clause-works c =
     let rest = c.leave_scope.ensures.rest in
     let frames = ap (λ (x : Run). reverse x.frames.frames) rest ∙ c.take_off.ensures f.frame f.frames f.on_top in
     let off = load_off r m f.frame f.frames f.on_top frames (ap (λ (x : Run). x.source.ahead) rest) (ap (λ (x : Run). x.outer.items) rest) in
-    begins_ok p 5 4 r m c.leave_body.new.self c.requires.op.well.steady.places (ap (λ (x : Run). x.fuel) rest)
+    begins_ok p 5 4 r m c.leave_body.new.self c.requires.op.well.steady.places (ap means_of rest)
     (subst (λ w. load m + w ≤ load r) (ap frame_work f.body.1.1.1) off) (omega arith) c.leave_body.result c.leave_body.ensures.works
 
 pub returns-clause-works : goal.returns-clause-works

@@ -1,4 +1,6 @@
 use Rattle.template_machine.proofs.Lightened.{end_found}
+use Rattle.std.proofs.Common.{ap}
+use Rattle.template_machine.specs.Documents.{documents}
 use Rattle.template_machine.proofs.run.Run.find_end.Goals as goal
 
 pub returns-clause-works : goal.returns-clause-works
@@ -6,3 +8,6 @@ returns-clause-works c = λ id buffer.
     let p = c.args.program.now in
     let over = c.requires.over in
     end_found p c.args.self.now c.end_list.new.self p.limits.fuel id over.steady.places c.end_list.ensures buffer c.requires.list over.ahead
+
+pub returns-clause-documents : goal.returns-clause-documents
+returns-clause-documents c = ap documents c.end_list.ensures

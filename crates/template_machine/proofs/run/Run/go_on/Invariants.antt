@@ -1,10 +1,12 @@
+use Rattle.std.proofs.Common.{◌≡◌}
+use Rattle.template_machine.specs.Documents.{documents}
 use Rattle.template_machine.specs.Well.{IsWell}
 use Rattle.template_machine.specs.Work.{work}
 use Rattle.template_machine.proofs.run.Run.go_on.Given as goal
 
--- it goes on well
+-- it goes on well, in the documents that were open
 abbrev pub invariant-loop-self : goal.invariant-loop-self
-invariant-loop-self g l = IsWell l.program l.self
+invariant-loop-self g l = IsWell l.program l.self × (documents l.self ≡ documents l.initial.self)
 
 -- and each step leaves less to do
 abbrev pub decreases-loop-self : goal.decreases-loop-self

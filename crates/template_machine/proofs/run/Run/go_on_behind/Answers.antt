@@ -1,6 +1,7 @@
-use Rattle.std.proofs.Common.{sym, subst, ◌∙◌}
+use Rattle.std.proofs.Common.{sym, subst, ◌∙◌, ap, refl}
 use Rattle.template_machine.specs.Moments.{Follows}
-use Rattle.template_machine.proofs.Turning.{more_wants, wanted_waits, wants_more}
+use Rattle.template_machine.proofs.Turning.{more_wants, wanted_waits, wants_more, more_ended, wants_ended}
+use Rattle.template_machine.specs.Documents.{documents}
 use Rattle.template_machine.proofs.run.Run.go_on_behind.Goals as goal
 
 pub go_on-requires : goal.go_on-requires
@@ -25,3 +26,22 @@ returns-in-Over-clause-more g c = λ e. absurd (c.finish.ensures.more e)
 
 pub returns-in-Over-clause-want : goal.returns-in-Over-clause-want
 returns-in-Over-clause-want g c = λ name e. absurd (c.finish.ensures.want name e)
+
+pub returns-in-Wait-clause-documents : goal.returns-in-Wait-clause-documents
+returns-in-Wait-clause-documents g c = λ goes. refl
+
+pub returns-in-Wait-clause-ended : goal.returns-in-Wait-clause-ended
+returns-in-Wait-clause-ended g c = λ e. absurd (more_ended e)
+
+pub returns-in-Want-clause-documents : goal.returns-in-Want-clause-documents
+returns-in-Want-clause-documents g c = λ goes. ap documents c.want_document.ensures.rest
+
+pub returns-in-Want-clause-ended : goal.returns-in-Want-clause-ended
+returns-in-Want-clause-ended g c = λ e. absurd (wants_ended _ (sym c.want_document.ensures.name ∙ e))
+
+pub returns-in-Over-clause-documents : goal.returns-in-Over-clause-documents
+returns-in-Over-clause-documents g c = λ goes. c.finish.ensures.documents
+
+pub returns-in-Over-clause-ended : goal.returns-in-Over-clause-ended
+returns-in-Over-clause-ended g c = λ e.
+    c.finish.ensures.documents ∙ subst (λ s. Follows c.args.program.now s c.args.self.now) c.in-Over.is c.requires.follows

@@ -11,6 +11,7 @@ use Rattle.template_machine.proofs.Lightened.{begins_shed, load_known}
 use Rattle.template_machine.specs.Work.{Begins, Sheds, load}
 use Rattle.template_machine.proofs.Operating.{on_ok}
 use Rattle.template_machine.specs.declared.source.Ahead.TheVariants as ahead
+use Rattle.template_machine.proofs.Documents.{limit_in, means_kept}
 use Rattle.template_machine.proofs.run.Run.head.Goals as goal
 
 pub hold-change-requires-clause-end : goal.hold-change-requires-clause-end
@@ -44,5 +45,6 @@ returns-then-over-clause-works g c =
     let r = c.args.self.now in
     let m = record r { source = c.hold-change.new.self; putting = c.see.new.self } in
     let n = c.end_region.new.self in
-    let more : load m ≤ load r + (5 + 2) = omega (arith, load_known r m ahead.Held refl c.hold-change.ensures.held.ahead_is refl) in
-    on_ok c.end_region.result (Sheds 2 m n) (Begins 5 r n) c.end_region.ensures.works (λ s. begins_shed 2 5 r m n refl more s)
+    let k = c.hold-change.ensures in
+    let more : load m ≤ load r + (5 + 2) = omega (arith, load_known r m ahead.Held refl k.held.ahead_is refl) in
+    on_ok c.end_region.result (Sheds 2 m n) (Begins 5 r n) c.end_region.ensures.works (λ s. begins_shed 2 5 r m n (means_kept r m refl k.held.origin_is (ap limit_in k.held.path_is) k.counts.0 refl) more s)

@@ -1,8 +1,10 @@
-use Rattle.std.proofs.Common.{◌∙◌, refl, sym}
+use Rattle.std.proofs.Common.{◌∙◌, refl, sym, ap}
 use Rattle.node_stack.specs.Open.{leaf_of}
 use Rattle.template_machine.proofs.Arriving.{arrives, leaf_scopes, takes_at, takes_list}
 use Rattle.template_machine.proofs.Going.{if_ok}
 use Rattle.template_machine.proofs.Lightened.{node_begun, node_here}
+use Rattle.template_machine.specs.Documents.{documents}
+use Rattle.template_machine.proofs.Documents.{limit_in, sources_same}
 use Rattle.template_machine.proofs.run.Run.leaf.Goals as goal
 use Rattle.template_machine.proofs.Shelved.{stands_still}
 
@@ -29,3 +31,9 @@ returns-clause-works c = λ id buffer.
     let n = record m { source = c.leaf.new.self } in
     if_ok c.leaf.result _ _ c.leaf.ensures.ok
     (λ u st. node_begun p r m n p.limits.fuel id c.requires.steady.places c.begin.ensures.same c.in_ok-begin.ensures.ok buffer refl (node_here m n refl st.ahead_is refl))
+
+pub returns-clause-documents : goal.returns-clause-documents
+returns-clause-documents c =
+    let m = c.begin.new.self in
+    if_ok c.leaf.result _ _ c.leaf.ensures.ok
+    (λ u st. sources_same m (record m { source = c.leaf.new.self }) st.origin_is (ap limit_in st.path_is) c.leaf.ensures.counts.0 refl ∙ ap documents c.begin.ensures.same)

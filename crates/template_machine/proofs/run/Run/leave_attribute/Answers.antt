@@ -1,10 +1,11 @@
-use Rattle.std.proofs.Common.{refl, sym, subst}
+use Rattle.std.proofs.Common.{refl, sym, subst, ap}
 use Rattle.template_machine.specs.declared.run.Doing.TheVariants as doing
 use Rattle.template_machine.specs.Well.{IsWell}
 use Rattle.node_stack.specs.Path.{current}
 use Rattle.node_stack.specs.Stack.{path}
 use Rattle.template_machine.proofs.Overs.{goes_or_waits, node_left, some_attribute}
 use Rattle.template_machine.proofs.Lightened.{goes_on_list}
+use Rattle.template_machine.proofs.Documents.{limit_in, means_kept}
 use Rattle.template_machine.proofs.run.Run.leave_attribute.Goals as goal
 use Rattle.template_machine.proofs.Shelved.{stands_still}
 
@@ -22,4 +23,4 @@ pub returns-clause-works : goal.returns-clause-works
 returns-clause-works c =
     let r = c.args.self.now in
     let m = record r { source = record r.source { stack = c.leave_attribute.new.self } } in
-    goes_on_list r m c.list_goes_on.new.self c.list_goes_on.ensures.run refl refl
+    goes_on_list r m c.list_goes_on.new.self c.list_goes_on.ensures.run (means_kept r m refl refl (ap limit_in c.leave_attribute.ensures) refl refl) refl

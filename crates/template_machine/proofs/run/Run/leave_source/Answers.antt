@@ -5,6 +5,8 @@ use Rattle.template_machine.specs.Standing.{standing_of}
 use Rattle.template_machine.specs.declared.run.Run.{Run}
 use Rattle.template_machine.proofs.Buffered.{leaves_source, source_there, stream_open}
 use Rattle.template_machine.proofs.Lightened.{source_gone}
+use Rattle.template_machine.proofs.Documents.{means_same, source_behind}
+use Rattle.template_machine.proofs.Grounded.{source_ended}
 use Rattle.template_machine.proofs.run.Run.leave_source.Goals as goal
 
 pub close_stream-requires : goal.close_stream-requires
@@ -51,6 +53,6 @@ returns-clause-works c =
     let items : r.outer.items ≡ init ++ x ∷ [] =
     sym (ap (λ (x : Run). x.outer.items) run) ∙ c.pop.ensures.items ∙ ap (λ o. init ++ option_to_list o) c.unwrap.ensures in
     let n = record m { source = x; outer = c.pop.new.self; putting = c.see.new.self } in (
-      ap (λ (x : Run). x.fuel) run,
+      means_same r n (ap (λ (x : Run). x.fuel) run) (source_behind r n x init items refl refl (source_ended p r h f.buffer f.next f.asked f.frames f.is)),
       source_gone r n (Source f.buffer f.next f.asked) f.frames x init f.is refl h.ahead items (ap (λ (x : Run). reverse x.frames.frames) run ∙ gone) refl refl,
     )

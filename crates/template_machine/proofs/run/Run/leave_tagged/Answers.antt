@@ -81,5 +81,7 @@ returns-clause-stands g c =
 
 pub returns-clause-works : goal.returns-clause-works
 returns-clause-works g c =
+    let l =
     tagged_works c.args.program.now c.args.self.now c.args.running c.args.number (take (c.len-last.result - 1)) c.requires.op c.set_pc.new.self c.cut_locals.new.self
-    c.set_pc.ensures c.cut_locals.ensures
+    c.set_pc.ensures c.cut_locals.ensures in
+    record { still = l.still; falls = l.falls }

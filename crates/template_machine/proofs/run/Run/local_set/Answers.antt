@@ -1,4 +1,4 @@
-use Rattle.std.proofs.Common.{false, true, sym, ◌∙◌}
+use Rattle.std.proofs.Common.{sym, ◌∙◌}
 use Rattle.std.proofs.lemmas.Bool.{false≢true}
 use Rattle.template_machine.proofs.Assigned.{named_local_at}
 use Rattle.template_machine.proofs.run.Run.local_set.Goals as goal

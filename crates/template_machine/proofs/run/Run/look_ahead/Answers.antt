@@ -2,11 +2,12 @@ use Rattle.std.proofs.Common.{◌∙◌, refl, ap, sym, subst, arith}
 use Rattle.node_stack.specs.Path.{can_have_children}
 use Rattle.node_stack.specs.Stack.{path, path_node}
 use Rattle.std.specs.Option.{option_map}
-use Rattle.template_machine.specs.Sources.{FindsRoom, resumed_by, within_held}
+use Rattle.template_machine.specs.Sources.{FindsRoom, resumed_by, within_held, held_node}
 use Rattle.template_machine.proofs.Looking.{head_looked, head_resumed, holds_head, list_ended}
 use Rattle.template_machine.proofs.Ways.{way_depth, way_here}
 use Rattle.template_machine.proofs.Lightened.{begins_ok, known_less, resumed_falls}
 use Rattle.template_machine.specs.declared.source.Ahead.TheVariants as ahead
+use Rattle.template_machine.proofs.Documents.{limit_in, means_kept, resumed_limit}
 use Rattle.template_machine.proofs.run.Run.look_ahead.Goals as goal
 
 pub head-requires : goal.head-requires
@@ -49,7 +50,10 @@ pub returns-in_ok-change-in-Held-clause-works : goal.returns-in_ok-change-in-Hel
 returns-in_ok-change-in-Held-clause-works g c =
     let r = c.args.self.now in
     let n = record r { putting = c.see.new.self; source = c.resume_held.new.self } in
-    resumed_falls c.args.program.now r n c.requires.well.steady.places refl c.in-Held.is refl c.in_ok-change-in-Held.ensures.ok.ahead_is refl c.requires.list
+    let k = c.in_ok-change-in-Held.ensures in
+    resumed_falls c.args.program.now r n c.requires.well.steady.places
+    (means_kept r n refl k.ok.origin_is (ap limit_in k.ok.path_is ∙ resumed_limit (held_node r.source) (path r.source.stack)) k.counts.0 refl) c.in-Held.is refl
+    k.ok.ahead_is refl c.requires.list
 
 pub returns-in-Ended-clause-works : goal.returns-in-Ended-clause-works
 returns-in-Ended-clause-works g c =

@@ -8,6 +8,7 @@ use Rattle.template_machine.proofs.Looking.{attribute_taken, attributes_asker, a
 use Rattle.template_machine.proofs.Tops.{top_changed}
 use Rattle.template_machine.proofs.Lightened.{attribute_less, attributes_weigh, begins_ok, load_off}
 use Rattle.template_machine.proofs.Falling.{falls_behind}
+use Rattle.template_machine.proofs.Documents.{limit_in, means_kept}
 use Rattle.template_machine.proofs.run.Run.next_attribute.Goals as goal
 use Rattle.template_machine.proofs.Shelved.{stands_still}
 
@@ -60,7 +61,8 @@ returns-then-next-attributes-clause-works g c =
     ∙ top_changed (with_next (c.args.next + 1)) r.frames.frames (Attributes c.args.next a.asked) a.frames a.is in
     let small : c.args.next < 2 ^ 64 = omega (arith, c.ranges.next.fits) in
     let n = record r { frames = c.set_next.new.self; source = record r.source { stack = c.enter_attribute.new.self } } in
-    begins_ok p 8 5 r n c.take.new.self w.steady.places refl (attribute_less r n c.args.next a.asked a.frames a.is frames refl refl small) (omega arith) c.take.result
+    begins_ok p 8 5 r n c.take.new.self w.steady.places (means_kept r n refl refl (ap limit_in c.in_ok-enter_attribute.ensures.ok) refl refl)
+    (attribute_less r n c.args.next a.asked a.frames a.is frames refl refl small) (omega arith) c.take.result
     c.take.ensures.works
 
 pub returns-clause-works : goal.returns-clause-works

@@ -1,7 +1,9 @@
-use Rattle.std.proofs.Common.{refl}
+use Rattle.std.proofs.Common.{refl, ◌∙◌, ap}
 use Rattle.node_stack.specs.Path.{Element}
 use Rattle.template_machine.proofs.Arriving.{arrives, takes_at, takes_list, takes_room}
 use Rattle.template_machine.proofs.Lightened.{node_begun, node_here}
+use Rattle.template_machine.specs.Documents.{documents}
+use Rattle.template_machine.proofs.Documents.{limit_in, sources_same}
 use Rattle.template_machine.proofs.run.Run.open_node.Goals as goal
 
 pub open-requires-clause-children : goal.open-requires-clause-children
@@ -34,3 +36,10 @@ returns-clause-works c = λ id buffer.
     let n = record m { source = c.open.new.self; putting = c.see.new.self } in
     node_begun p r m n p.limits.fuel id c.requires.steady.places c.begin.ensures.same c.in_ok-begin.ensures.ok buffer refl
     (node_here m n refl c.in_ok-change.ensures.ok.ahead_is refl)
+
+pub returns-clause-documents : goal.returns-clause-documents
+returns-clause-documents c =
+    let m = c.begin.new.self in
+    let st = c.in_ok-change.ensures.ok in
+    sources_same m (record m { source = c.open.new.self; putting = c.see.new.self }) st.origin_is (ap limit_in st.path_is) c.open.ensures.counts.0 refl
+    ∙ ap documents c.begin.ensures.same

@@ -31,5 +31,5 @@ returns-clause-works c =
     let h = c.hand.new.self in
     let m = record h { putting = record h.putting { buffers = c.open_read.new.self } } in
     begins_after 3 c.args.self.now h _ c.in_ok-hand.ensures.works
-    (begins_source c.args.program.now.buffer_depth (Buffer c.link-id.result.named c.args.at) (Source (Some c.link-id.result.named) 0 c.args.running.pc) h m c.push.new.self
-    c.enter_source.new.self refl refl c.in_ok-push.ensures.ok (omega arith) c.in_ok-enter_source.ensures) (omega arith)
+    (begins_source c.args.program.now.buffer_depth c.link-id.result.named (Buffer c.link-id.result.named c.args.at) (Source (Some c.link-id.result.named) 0 c.args.running.pc) h m c.push.new.self
+    c.enter_source.new.self refl refl refl c.in_ok-push.ensures.ok (omega arith) c.in_ok-enter_source.ensures) (omega arith)

@@ -4,7 +4,7 @@ use Rattle.template_machine.specs.declared.run.Run.{Run}
 use Rattle.template_machine.proofs.Beside.{can_skip, is_gone, level_waits, puts_on}
 use Rattle.template_machine.proofs.Handing.{spent_there}
 use Rattle.frame_stack.specs.declared.frame.Frame.TheVariants.{Region}
-use Rattle.template_machine.specs.Work.{Begins}
+use Rattle.template_machine.specs.Work.{Begins, means_of}
 use Rattle.template_machine.proofs.Beginning.{begins_after, begins_grown, load_pushed}
 use Rattle.template_machine.proofs.Operating.{on_ok}
 use Rattle.template_machine.proofs.run.Run.process_siblings.Goals as goal
@@ -49,5 +49,5 @@ returns-clause-works c =
     let h = c.hand.new.self in
     let m = record c.push.new.self { aside = c.push-2.new.self } in
     begins_after 4 c.args.self.now h c.put_aside.new.self c.in_ok-hand.ensures.works
-    (begins_grown 2 2 4 h m c.put_aside.new.self (ap (λ (x : Run). x.fuel) c.in_ok-push.ensures.ok)
+    (begins_grown 2 2 4 h m c.put_aside.new.self (ap means_of c.in_ok-push.ensures.ok)
     (load_pushed (Region c.args.running.pc c.level_at-level.result) h c.push.new.self c.in_ok-push.ensures.ok) c.put_aside.ensures.works (omega arith)) (omega arith)

@@ -8,6 +8,7 @@ use Rattle.template_machine.proofs.Slots.{aside_of, slot_filled, slot_there, wai
 use Rattle.template_machine.proofs.Sourcing.{has_scopes}
 use Rattle.template_machine.proofs.Ways.{way_here}
 use Rattle.template_machine.proofs.Lightened.{goes_on_list, load_same}
+use Rattle.template_machine.proofs.Documents.{limit_in, means_kept}
 use Rattle.template_machine.proofs.run.Run.put_aside.Goals as goal
 
 pub park-node-requires-clause-end : goal.park-node-requires-clause-end
@@ -38,4 +39,6 @@ pub returns-clause-works : goal.returns-clause-works
 returns-clause-works c =
     let r = c.args.self.now in
     let m = record r { putting = c.see.new.self; source = c.park-node.new.self; aside = c.fill.new.aside } in
-    goes_on_list r m (record m { doing = doing.List }) refl refl (load_same r m refl c.park-node.ensures.parked.ahead_is refl)
+    let k = c.park-node.ensures in
+    goes_on_list r m (record m { doing = doing.List }) refl (means_kept r m refl k.parked.origin_is (ap limit_in k.parked.path_is) k.counts.0 refl)
+    (load_same r m refl k.parked.ahead_is refl)

@@ -5,7 +5,7 @@ use Rattle.node_stack.specs.Path.{is_told}
 use Rattle.node_stack.specs.Stack.{path}
 use Rattle.stx_base.specs.declared.node.NodeTest.{NodeTest}
 use Rattle.template_machine.specs.Bodies.{below, level_of}
-use Rattle.template_machine.specs.Steps.{group_of, test_in}
+use Rattle.template_machine.specs.Steps.{test_in}
 use Rattle.template_machine.proofs.Seeing.{and_then_from}
 use Rattle.template_machine.proofs.run.Run.setting.Goals as goal
 

@@ -12,3 +12,6 @@ returns-clause-stands c =
 
 pub returns-clause-works : goal.returns-clause-works
 returns-clause-works c = c.pass_over-skipped.ensures.works
+
+pub returns-clause-documents : goal.returns-clause-documents
+returns-clause-documents c = c.pass_over-skipped.ensures.documents

@@ -1,7 +1,8 @@
-use Rattle.std.proofs.Common.{◌≡◌, ◌+◌, ◌-◌, ◌<◌, subst, arith}
+use Rattle.std.proofs.Common.{◌≡◌, ◌+◌, ◌-◌, ◌<◌, subst, arith, ◌∙◌, ap}
 use Rattle.template_machine.specs.Moments.{SkipsOn}
 use Rattle.template_machine.proofs.Arriving.{skip_goes_on, skip_is_over, skips_at}
 use Rattle.template_machine.proofs.Lightened.{skip_ended}
+use Rattle.template_machine.specs.Documents.{documents}
 use Rattle.template_machine.proofs.run.Run.skip_end.Goals as goal
 
 pub skip_to-requires : goal.skip_to-requires
@@ -23,3 +24,6 @@ returns-in-Some-clause-works c = λ id buffer.
     let one : c.in-Some.less + 1 ≡ c.args.depth = omega (arith, c.in-Some.ensures) in
     skip_ended p c.args.self.now c.end_list.new.self c.skip_to.new.self p.limits.fuel id c.args.depth c.in-Some.less c.requires one c.end_list.ensures buffer
     c.skip_to.ensures.works
+
+pub returns-in-Some-clause-documents : goal.returns-in-Some-clause-documents
+returns-in-Some-clause-documents c = c.skip_to.ensures.documents ∙ ap documents c.end_list.ensures

@@ -1,6 +1,7 @@
-use Rattle.std.proofs.Common.{◌+◌}
+use Rattle.std.proofs.Common.{◌+◌, ◌∙◌, ap}
 use Rattle.template_machine.proofs.Arriving.{skips_at}
 use Rattle.template_machine.proofs.Lightened.{skip_begun}
+use Rattle.template_machine.specs.Documents.{documents}
 use Rattle.template_machine.proofs.run.Run.skip_start.Goals as goal
 
 pub skip_to-requires : goal.skip_to-requires
@@ -12,3 +13,6 @@ returns-clause-works c = λ id buffer.
     let p = c.args.program.now in
     skip_begun p c.args.self.now c.begin.new.self c.skip_to.new.self p.limits.fuel id (c.args.depth + 1) c.requires c.begin.ensures.same c.in_ok-begin.ensures.ok buffer
     c.skip_to.ensures.works
+
+pub returns-clause-documents : goal.returns-clause-documents
+returns-clause-documents c = c.skip_to.ensures.documents ∙ ap documents c.begin.ensures.same

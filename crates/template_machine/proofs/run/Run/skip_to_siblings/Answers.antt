@@ -4,6 +4,7 @@ use Rattle.template_machine.proofs.Beside.{level_waits, skips_on}
 use Rattle.frame_stack.specs.declared.frame.Frame.TheVariants.{Region, Skip}
 use Rattle.template_machine.proofs.Beginning.{begins_skipped, load_pushed}
 use Rattle.template_machine.proofs.Falling.{begins_within}
+use Rattle.template_machine.specs.Work.{means_of}
 use Rattle.template_machine.proofs.run.Run.skip_to_siblings.Goals as goal
 
 pub level_at-level-requires : goal.level_at-level-requires
@@ -23,4 +24,4 @@ returns-clause-works c =
     begins_within 6 (2 ^ 68) r _ (omega arith)
     (begins_skipped c.level_at-level.result (Region c.args.running.pc c.level_at-level.result) (Skip 0) r t c.push-3.new.self c.spend_children.new.frames c.spend_children.ensures.frames
     (load_pushed (Region c.args.running.pc c.level_at-level.result) (record r { frames = c.spend_children.new.frames }) c.push.new.self c.in_ok-push.ensures.ok)
-    (ap (λ (x : Run). x.fuel) c.in_ok-push.ensures.ok) c.in_ok-push-3.ensures.ok (omega arith))
+    (ap means_of c.in_ok-push.ensures.ok) c.in_ok-push-3.ensures.ok (omega arith))

@@ -1,4 +1,4 @@
-use Rattle.std.proofs.Common.{inl, subst}
+use Rattle.std.proofs.Common.{inl, subst, refl}
 use Rattle.std.specs.Prelude.{IfSome}
 use Rattle.group_scope.specs.declared.rank.Chosen.{Chosen}
 use Rattle.template_machine.specs.Working.{IsChosen}
@@ -14,7 +14,7 @@ pub place_of-at-requires : goal.place_of-at-requires
 place_of-at-requires g c = c.requires.asker.base
 
 pub enter-requires-clause-node : goal.enter-requires-clause-node
-enter-requires-clause-node g c = inl c.requires.head
+enter-requires-clause-node g c = inl (c.requires.head, refl)
 
 pub enter-requires-clause-asker : goal.enter-requires-clause-asker
 enter-requires-clause-asker g c = c.requires.asker.on

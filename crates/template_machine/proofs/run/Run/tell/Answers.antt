@@ -1,10 +1,12 @@
-use Rattle.std.proofs.Common.{◌<◌, ap, sym, subst}
+use Rattle.std.proofs.Common.{◌<◌, ap, sym, subst, ◌∙◌}
 use Rattle.event_buffers.specs.Buffers.{read_at}
 use Rattle.event_buffers.specs.Told.{IsToldAt}
+use Rattle.xml_events.specs.declared.event.Event.TheVariants as event
 use Rattle.template_machine.specs.Moments.{HasTold, IsBuffer}
 use Rattle.template_machine.specs.declared.source.Source.{Source}
-use Rattle.template_machine.proofs.Buffered.{buffer_fits, buffer_next, list_done, tells_there}
+use Rattle.template_machine.proofs.Buffered.{buffer_fits, buffer_next, buffer_over, tells_there}
 use Rattle.template_machine.specs.Work.{work}
+use Rattle.template_machine.proofs.Documents.{buffer_counted}
 use Rattle.template_machine.proofs.run.Run.tell.Goals as goal
 
 pub event-requires-clause-id : goal.event-requires-clause-id
@@ -12,9 +14,6 @@ event-requires-clause-id c = (tells_there c.args.program.now c.args.self.now c.a
 
 pub event-requires-clause-read : goal.event-requires-clause-read
 event-requires-clause-read c = (tells_there c.args.program.now c.args.self.now c.args.id c.requires.well c.requires.list c.requires.ahead c.requires.buffer).1
-
-pub find_end-requires-clause-over : goal.find_end-requires-clause-over
-find_end-requires-clause-over c = list_done c.args.program.now c.args.self.now c.requires.well c.requires.list c.requires.ahead c.requires.events
 
 pub count-requires : goal.count-requires
 count-requires c =
@@ -35,7 +34,33 @@ returns-in_ok-arrive-in-Some-clause-works c =
     let p = c.args.program.now in
     let r = c.args.self.now in
     let buffer = subst (λ (x : Source). IsBuffer c.args.id x.origin) (sym c.count.ensures) c.requires.buffer in
-    subst (λ k. work p c.arrive.new.self < k) (ap (λ (x : Source). work p (record r { source = x })) c.count.ensures) (c.in_ok-arrive-in-Some.ensures.works c.args.id buffer)
+    record {
+      still = c.in_ok-arrive-in-Some.ensures.documents ∙ buffer_counted r c.count.new.self c.args.id c.requires.buffer (ap (λ (x : Source). x.origin) c.count.ensures);
+      falls = subst (λ k. work p c.arrive.new.self < k) (ap (λ (x : Source). work p (record r { source = x })) c.count.ensures) (c.in_ok-arrive-in-Some.ensures.works c.args.id buffer);
+    }
 
-pub returns-in-None-clause-works : goal.returns-in-None-clause-works
-returns-in-None-clause-works c = c.find_end.ensures.works c.args.id c.requires.buffer
+pub count-requires-in-None : goal.count-requires-in-None
+count-requires-in-None c =
+    let r = c.args.self.now in
+    let tells = subst (IsToldAt (read_at r.putting.buffers c.args.id) r.source.next) c.in-None.is c.in_ok-event.ensures in
+    (buffer_over c.args.program.now r c.args.id c.requires.well c.requires.list c.requires.ahead c.requires.events c.requires.buffer tells).0
+
+pub arrive-requires-in-None : goal.arrive-requires-in-None
+arrive-requires-in-None c =
+    let p = c.args.program.now in
+    let r = c.args.self.now in
+    let tells = subst (IsToldAt (read_at r.putting.buffers c.args.id) r.source.next) c.in-None.is c.in_ok-event.ensures in
+    subst (λ (x : Source). HasTold p (event.DocumentEnd 0) (record r { source = x })) (sym c.count-in-None.ensures)
+    (buffer_over p r c.args.id c.requires.well c.requires.list c.requires.ahead c.requires.events c.requires.buffer tells).1
+
+pub returns-in_ok-arrive-in-None-clause-works : goal.returns-in_ok-arrive-in-None-clause-works
+returns-in_ok-arrive-in-None-clause-works c =
+    let p = c.args.program.now in
+    let r = c.args.self.now in
+    let buffer = subst (λ (x : Source). IsBuffer c.args.id x.origin) (sym c.count-in-None.ensures) c.requires.buffer in
+    record {
+      still = c.in_ok-arrive-in-None.ensures.documents ∙ buffer_counted r c.count-in-None.new.self c.args.id c.requires.buffer (ap (λ (x : Source). x.origin) c.count-in-None.ensures);
+      falls =
+          subst (λ k. work p c.arrive-in-None.new.self < k) (ap (λ (x : Source). work p (record r { source = x })) c.count-in-None.ensures)
+          (c.in_ok-arrive-in-None.ensures.works c.args.id buffer);
+    }
