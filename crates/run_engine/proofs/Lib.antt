@@ -1,0 +1,11 @@
+pub mod Telling
+pub mod Pulled
+pub mod Turning
+pub mod Feeding
+pub mod Taking
+pub mod Asking
+pub mod SectionForms
+pub mod Sections
+pub mod Documents
+pub mod Going
+pub mod Standing

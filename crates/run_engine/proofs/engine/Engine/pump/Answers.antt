@@ -1,0 +1,65 @@
+use Rattle.std.proofs.Common.{refl, subst, sym}
+use Rattle.run_engine.specs.Run.{Absents, HasHead, MayCome, Run}
+use Rattle.run_engine.specs.Taking.{Takes, handed}
+use Rattle.run_engine.specs.inside.Cores.{IsKept, IsSame, opens_of, stage_of}
+use Rattle.run_engine.specs.declared.run.Core.{Core}
+use Rattle.run_engine.proofs.Asking.{absents-memory, grows, heads, lacks, same-run, same-then}
+use Rattle.run_engine.proofs.Standing.{kept-out}
+use Rattle.run_engine.proofs.engine.Engine.pump.Goals as goal
+
+pub step-pumped-requires : goal.step-pumped-requires
+step-pumped-requires c = record { sound = c.self.invariant; may = subst (λ (r : Run). MayCome r.stage c.args.piece) (sym c.self.view_is) c.requires }
+
+pub invariant_of-self : goal.invariant_of-self
+invariant_of-self c = kept-out c.step-pumped.new.self c.exchange.new.self c.step-pumped.ensures.sound
+
+pub returns-in-Ok-clause-stands : goal.returns-in-Ok-clause-stands
+returns-in-Ok-clause-stands c = c.step-pumped.ensures.sound.stands
+
+pub returns-in-Ok-clause-same : goal.returns-in-Ok-clause-same
+returns-in-Ok-clause-same c = same-run c.self.inside.core c.step-pumped.new.self c.args.self.now c.self.view_is c.step-pumped.ensures.same
+
+pub returns-in-Ok-clause-took : goal.returns-in-Ok-clause-took
+returns-in-Ok-clause-took c =
+    subst (λ (r : Run). Takes (stage_of c.step-pumped.new.self.stage) (handed r c.args.piece) (opens_of c.step-pumped.new.self)) c.self.view_is c.step-pumped.ensures.took
+
+pub returns-in-Ok-clause-out : goal.returns-in-Ok-clause-out
+returns-in-Ok-clause-out c =
+    grows c.args.piece c.args.out.now.items c.step-pumped.new.out.items c.append_both.new.bytes.items (stage_of c.step-pumped.new.self.stage) c.step-pumped.ensures.out c.append_both.ensures.bytes
+
+pub returns-in-Ok-clause-head : goal.returns-in-Ok-clause-head
+returns-in-Ok-clause-head c =
+    heads c.args.piece c.args.out.now.items c.step-pumped.new.out.items c.append_both.new.bytes.items (stage_of c.step-pumped.new.self.stage) c.step-pumped.ensures.out c.append_both.ensures.bytes
+
+pub invariant_of-self-in-Err : goal.invariant_of-self-in-Err
+invariant_of-self-in-Err c = subst IsKept (sym c.lack.ensures.over) (record { sound = tt; stands = tt })
+
+pub returns-in-Err-clause-says : goal.returns-in-Err-clause-says
+returns-in-Err-clause-says c =
+    let mid : Core = record c.step-pumped.new.self { out = c.exchange.new.self } in
+    (lacks mid c.lack.new.self c.lack.result c.lack.ensures.answer c.lack.ensures.over).says
+
+pub returns-in-Err-clause-stands : goal.returns-in-Err-clause-stands
+returns-in-Err-clause-stands c =
+    let mid : Core = record c.step-pumped.new.self { out = c.exchange.new.self } in
+    (lacks mid c.lack.new.self c.lack.result c.lack.ensures.answer c.lack.ensures.over).sound.stands
+
+pub returns-in-Err-clause-same : goal.returns-in-Err-clause-same
+returns-in-Err-clause-same c =
+    same-run c.self.inside.core c.lack.new.self c.args.self.now c.self.view_is
+    (same-then c.self.inside.core c.step-pumped.new.self c.lack.new.self c.step-pumped.ensures.same
+    (subst (IsSame c.step-pumped.new.self) (sym c.lack.ensures.over) (record { files = refl; limits = refl; strip = refl; cdata = refl })))
+
+pub returns-in-Err-clause-took : goal.returns-in-Err-clause-took
+returns-in-Err-clause-took c = subst (λ (x : Core). Takes (stage_of x.stage) (handed c.args.self.now c.args.piece) (opens_of x)) (sym c.lack.ensures.over) tt
+
+pub returns-in-Err-clause-absent : goal.returns-in-Err-clause-absent
+returns-in-Err-clause-absent c = subst (λ (x : Core). Absents c.args.piece (stage_of x.stage)) (sym c.lack.ensures.over) (absents-memory c.args.piece)
+
+pub returns-in-Err-clause-out : goal.returns-in-Err-clause-out
+returns-in-Err-clause-out c =
+    grows c.args.piece c.args.out.now.items c.step-pumped.new.out.items c.append_both.new.bytes.items (stage_of c.step-pumped.new.self.stage) c.step-pumped.ensures.out c.append_both.ensures.bytes
+
+pub returns-in-Err-clause-head : goal.returns-in-Err-clause-head
+returns-in-Err-clause-head c =
+    subst (λ (x : Core). HasHead c.args.piece c.args.out.now.items (stage_of x.stage) c.append_both.new.bytes.items) (sym c.lack.ensures.over) tt

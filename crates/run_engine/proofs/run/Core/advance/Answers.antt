@@ -1,0 +1,38 @@
+use Rattle.xml_events.specs.declared.event.Pull.TheVariants as pull
+use Rattle.run_engine.proofs.Asking.{answers-then, lacks}
+use Rattle.run_engine.proofs.Going.{advances-so}
+use Rattle.run_engine.proofs.Pulled.{faulty, hungry, never-ends, pull-took, reads-still, told}
+use Rattle.run_engine.proofs.run.Core.advance.Goals as goal
+
+pub hand-requires : goal.hand-requires
+hand-requires c = told c.args.self.now c.pull.new.self c.in-Event.event c.requires c.in-Event.ensures
+
+pub returns-in-Event : goal.returns-in-Event
+returns-in-Event c = advances-so c.args.self.now c.pull.new.self c.hand.new.self c.in-Event.event c.hand.result c.requires c.in-Event.ensures c.hand.ensures
+
+pub ask-requires-clause-reads : goal.ask-requires-clause-reads
+ask-requires-clause-reads c = reads-still c.args.self.now c.pull.new.self c.requires c.in-Need.ensures
+
+pub ask-requires-clause-hungry : goal.ask-requires-clause-hungry
+ask-requires-clause-hungry c = hungry c.args.self.now c.pull.new.self c.in-Need.ensures
+
+pub returns-in-Need : goal.returns-in-Need
+returns-in-Need c =
+    answers-then c.args.self.now c.pull.new.self c.ask.new.self c.ask.result c.in-Need.ensures.own (pull-took c.args.self.now c.pull.new.self pull.Need c.in-Need.ensures) c.ask.ensures
+
+pub unreachable-requires : goal.unreachable-requires
+unreachable-requires c = never-ends c.args.self.now c.pull.new.self c.requires c.in-End.ensures
+
+pub fail-requires : goal.fail-requires
+fail-requires c = faulty c.args.self.now c.pull.new.self c.in-Bad.fault c.in-Bad.ensures
+
+pub returns-in-Bad : goal.returns-in-Bad
+returns-in-Bad c =
+    answers-then c.args.self.now c.pull.new.self c.fail.new.self c.fail.result c.in-Bad.ensures.own
+    (pull-took c.args.self.now c.pull.new.self (pull.Bad c.in-Bad.fault) c.in-Bad.ensures) c.fail.ensures
+
+pub returns-in-Memory : goal.returns-in-Memory
+returns-in-Memory c =
+    answers-then c.args.self.now c.pull.new.self c.lack.new.self c.lack.result c.in-Memory.ensures.own
+    (pull-took c.args.self.now c.pull.new.self pull.Memory c.in-Memory.ensures)
+    (lacks c.pull.new.self c.lack.new.self c.lack.result c.lack.ensures.answer c.lack.ensures.over)

@@ -1,0 +1,23 @@
+use Rattle.std.proofs.Common.{refl}
+use Rattle.run_engine.specs.declared.run.Core.{Core}
+use Rattle.run_engine.proofs.Going.{closed-asks, closed-continues, hands-so}
+use Rattle.run_engine.proofs.Turning.{turned}
+use Rattle.run_engine.proofs.run.Core.hand.Goals as goal
+
+pub on_event-turn-requires-clause-asking : goal.on_event-turn-requires-clause-asking
+on_event-turn-requires-clause-asking c = closed-asks c.args.event c.args.self.now c.close.new.self c.close.ensures c.requires
+
+pub on_event-turn-requires-clause-event : goal.on_event-turn-requires-clause-event
+on_event-turn-requires-clause-event c = closed-continues c.args.event c.args.self.now c.close.new.self c.close.ensures c.requires
+
+pub settle-requires : goal.settle-requires
+settle-requires c =
+    let next : Core = record c.close.new.self { machine = c.on_event-turn.new.self; out = c.on_event-turn.new.out } in
+    turned c.args.event c.args.self.now c.close.new.self c.requires c.close.ensures next refl refl refl c.on_event-turn.ensures.depth c.on_event-turn.result c.on_event-turn.ensures.more
+    c.on_event-turn.ensures.want c.on_event-turn.ensures.ended c.on_event-turn.ensures.documents
+
+pub returns : goal.returns
+returns c =
+    let next : Core = record c.close.new.self { machine = c.on_event-turn.new.self; out = c.on_event-turn.new.out } in
+    hands-so c.args.event c.args.self.now c.close.new.self c.close.ensures next c.settle.new.self c.settle.result refl
+    (record { files = refl; limits = refl; strip = refl; cdata = refl }) c.requires.whole c.settle.ensures

@@ -1,0 +1,18 @@
+use Rattle.run_engine.specs.Run.{Absents, HasBegun}
+use Rattle.run_engine.specs.inside.Cores.{stage_of}
+use Rattle.run_engine.specs.declared.run.Core.{Core}
+use Rattle.run_engine.proofs.Asking.{absents-memory, begins-same, has-begun-so}
+use Rattle.std.proofs.Common.{subst, sym}
+use Rattle.stx_base.specs.Course.{Begins}
+use Rattle.run_engine.proofs.run.Core.step.Goals as goal
+
+pub returns-in-Ok-clause-out : goal.returns-in-Ok-clause-out
+returns-in-Ok-clause-out c = has-begun-so c.args.piece c.args.out.now.items c.begin.new.out.items (stage_of c.take.new.self.stage) c.in-Ok.ensures.ok
+
+pub returns-in-Err-clause-absent : goal.returns-in-Err-clause-absent
+returns-in-Err-clause-absent c = subst (λ (x : Core). Absents c.args.piece (stage_of x.stage)) (sym c.lack.ensures.over) (absents-memory c.args.piece)
+
+pub returns-in-Err-clause-out : goal.returns-in-Err-clause-out
+returns-in-Err-clause-out c =
+    subst (λ (x : Core). HasBegun c.args.piece c.args.out.now.items (stage_of x.stage) c.begin.new.out.items) (sym c.lack.ensures.over)
+    (subst (Begins c.args.out.now.items) (sym c.in-Err.ensures.err) (begins-same c.args.out.now.items))

@@ -1,0 +1,4 @@
+pub mod Run
+pub mod Taking
+pub mod Fitting
+pub mod inside
