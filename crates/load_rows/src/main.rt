@@ -1,7 +1,7 @@
 //! Rows of sheets: whether each is accepted, or its first fault, and the names of the files that are opened.
 #![tactic(auto)]
 
-mod reading;
+mod given;
 mod told;
 
 use rows::{Row, Tables, Trouble, run_rows};
