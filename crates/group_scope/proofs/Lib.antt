@@ -18,3 +18,4 @@ mod Filled
 mod Lawful
 mod Numbering
 mod Marking
+mod Texts

@@ -53,7 +53,7 @@ test_kept old new keeps (test.AttrName n) h =
 test_kept old new keeps (test.AttrPrefix b) h = keeps b.uri h
 test_kept old new keeps _ h = refl
 
-all_kept : {A : Type 0} (p q : A → Bool) → ((x : A) → p x ≡ true → q x ≡ true) → (xs : List A) → list_all p xs ≡ true → list_all q xs ≡ true
+pub all_kept : {A : Type 0} (p q : A → Bool) → ((x : A) → p x ≡ true → q x ≡ true) → (xs : List A) → list_all p xs ≡ true → list_all q xs ≡ true
 all_kept p q f [] h = refl
 all_kept p q f (x ∷ xs) h = let parts = both (p x) (list_all p xs) h in and_both (q x) (list_all q xs) (f x parts.0) (all_kept p q f xs parts.1)
 

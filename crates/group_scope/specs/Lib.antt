@@ -1,5 +1,6 @@
 pub mod Rank
 pub mod Choice
+pub mod Marked
 pub mod Words
 pub mod Entries
 pub mod Homes

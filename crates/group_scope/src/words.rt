@@ -1,8 +1,11 @@
 //! Numbers for the texts that the tests of a sheet name.
 
-ghost use Rattle.std.specs.Prelude.{◌≡◌, [], OnOk, is_some, string_bytes, true};
+ghost use Rattle.std.specs.Prelude.{◌≡◌, ◌<◌, [], None, OnOk, false, is_some, string_bytes, true};
+ghost use Rattle.std.specs.Bool.{OnFalse};
+ghost use Rattle.std.specs.List.{list_all};
 ghost use Rattle.std.specs.Str.{bytes_eq};
 ghost use Rattle.indexmap.specs.IndexSet.{contains_by, index_of_by};
+ghost use Rattle.group_scope.specs.Marked.{is_marked, mark_of};
 ghost use Rattle.node_stack.specs.Open.{node_of};
 ghost use Rattle.node_stack.specs.Path.{kind_of};
 
@@ -12,13 +15,19 @@ use node_stack::NodeView;
 use std::alloc::Global;
 use stx_base::{Memory, Name, NodeTest, Text};
 
+/// So many marks of texts are kept.
+const MARKS: usize = 256;
+
 /// The texts that tests name, each once.
 #[derive(Drop)]
 pub struct Words {
     texts: IndexSet<String>,
     // The number of the empty text, which is the URI of most names, so that it needn't be looked up.
     empty: Option<usize>,
+    // By their first byte and their length: a text that isn't marked is none of them, so that most names needn't be looked up.
+    marks: [bool; MARKS],
     ghost known: { empty ≡ index_of_by (λ word. bytes_eq [] (string_bytes word)) texts },
+    ghost marked: { list_all (λ word. is_marked marks (string_bytes word)) texts.keys ≡ true },
     ghost has: { is_some empty ≡ contains_by (λ word. bytes_eq [] (string_bytes word)) texts },
 }
 
@@ -29,6 +38,7 @@ impl Words {
         Words {
             texts: IndexSet::new(alloc),
             empty: None,
+            marks: [false; MARKS],
         }
     }
 
@@ -60,12 +70,25 @@ impl Words {
         ensures numbered { OnOk result (spec.has_number self.new text.now ≡ true) }
         ensures kept { OnOk result (spec.Keeps self.old self.new) }
     {
-        if self.number(text).is_none() {
-            let text = String::from_str(alloc, text.as_str())?;
-            self.texts.insert(text)?;
-            self.empty = self.texts.get_index_of("");
+        if self.number(text).is_some() {
+            return Ok(());
         }
+        let word = String::from_str(alloc, text.as_str())?;
+        let mark = mark_of(text.as_str());
+        self.texts.insert(word)?;
+        self.marks[mark] = true;
+        self.empty = self.texts.get_index_of("");
         Ok(())
+    }
+
+    /// Whether a text may have a number: it is true of each that has one. It may be true of others as well, since whoever
+    /// asks looks the text up then.
+    #[inline(always)]
+    pub fn may_have(&self, text: &Text) -> bool
+        ensures number { OnFalse result (spec.number self.now text.now ≡ None) }
+        ensures found { OnFalse result (spec.has_number self.now text.now ≡ false) }
+    {
+        self.marks[mark_of(text.as_str())]
     }
 
     fn number(&self, text: &Text) -> Option<usize>
@@ -74,6 +97,9 @@ impl Words {
     {
         if text.is_empty() {
             return self.empty;
+        }
+        if !self.may_have(text) {
+            return None;
         }
         self.texts.get_index_of(text.as_str())
     }
@@ -154,4 +180,15 @@ impl Words {
             None,
         ]
     }
+}
+
+/// Where a text is marked.
+#[inline(always)]
+fn mark_of(text: &str) -> usize
+    ensures value { result ≡ mark_of text.now }
+    ensures bound { result < 256 }
+{
+    let bytes = text.as_bytes();
+    let first = bytes.first().copied().unwrap_or(0);
+    (usize::from(first) + bytes.len() % MARKS) % MARKS
 }
