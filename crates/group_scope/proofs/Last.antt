@@ -1,8 +1,8 @@
 -- Where an alternative fits, the node passes the test of its last step.
-use Rattle.std.proofs.Common.{◌≡◌, ℕ, ◌+◌, ◌==◌, true, ◌&&◌, List, [], ◌∷◌, Option, Some, None, ◌≤◌, length, subst, arith}
+use Rattle.std.proofs.Common.{◌≡◌, ℕ, ◌+◌, ◌-◌, ◌==◌, true, ◌&&◌, List, [], ◌∷◌, Option, Some, None, ◌≤◌, length, option_map, slice_get, refl, ap, sym, subst, ◌∙◌, arith}
 use Rattle.std.proofs.lemmas.Bool.{eqb-true}
 use Rattle.std.specs.List.{range_with_len}
-use Rattle.node_stack.specs.Path.{node_at}
+use Rattle.node_stack.specs.Path.{Node, Path, PathNode, current, last_of, node_at}
 use Rattle.node_stack.specs.Stack.{path}
 use Rattle.node_stack.specs.declared.stack.NodeStack.{NodeStack}
 use Rattle.stxpath_eval.specs.Setting.{Setting}
@@ -33,3 +33,15 @@ fitting_passes (alternative.Steps (s ∷ steps)) g h = last_passes steps s g Non
 pub some_node : (s : NodeStack) → 1 ≤ length (path s).nodes
 unfolding path
 some_node s = omega arith
+
+last_behind : (x : PathNode) (xs : List PathNode) → last_of (x ∷ xs) ≡ slice_get (x ∷ xs) (length xs)
+last_behind x [] = refl
+last_behind x (y ∷ xs) = last_behind y xs
+
+last_at : (xs : List PathNode) → last_of xs ≡ slice_get xs (length xs - 1)
+last_at [] = refl
+last_at (x ∷ xs) = let same : length xs ≡ length (x ∷ xs) - 1 = omega arith in last_behind x xs ∙ ap (slice_get (x ∷ xs)) same
+
+-- the current node is that of the last place
+pub current_last : (p : Path) (n : Node) → current p ≡ Some n → node_at p (length p.nodes - 1) ≡ Some n
+current_last p n e = ap (option_map (λ (x : PathNode). x.node)) (sym (last_at p.nodes)) ∙ e

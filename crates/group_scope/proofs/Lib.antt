@@ -18,4 +18,5 @@ mod Filled
 mod Lawful
 mod Numbering
 mod Marking
+mod Rowless
 mod Texts

@@ -1,5 +1,5 @@
 -- What stands under a key, and of which keys there may be rows.
-use Rattle.std.specs.Prelude.{ℕ, Bool, false, ◌&&◌, List, [], unwrap_or, slice_get}
+use Rattle.std.specs.Prelude.{ℕ, Bool, false, true, ◌&&◌, ◌||◌, is_some, List, [], unwrap_or, slice_get}
 use Rattle.indexmap.specs.IndexMap.{IndexMap, get}
 use Rattle.group_scope.specs.contracts.key.KeyPartialEq.TheImpl as key_eq
 use Rattle.group_scope.specs.declared.entry.Entry.{Entry}
@@ -45,6 +45,30 @@ is_set marks n = unwrap_or (slice_get marks n) false
 abbrev pub has_home : Marks → Home → Bool
 has_home marks h = is_set marks.homes (home_kind h)
 
+-- all texts of a test have numbers
+abbrev pub is_known : Test → Bool
+is_known test.Document = true
+is_known (test.Name u l) = is_some u && is_some l
+is_known (test.Prefix u) = is_some u
+is_known test.AnyElement = true
+is_known test.AnyNode = true
+is_known test.Chars = true
+is_known test.CData = true
+is_known test.Comment = true
+is_known test.AnyPi = true
+is_known (test.Pi t) = is_some t
+is_known (test.AttrName u l) = is_some u && is_some l
+is_known (test.AttrPrefix u) = is_some u
+is_known test.AnyAttr = true
+
+-- the kind of a test is marked
+abbrev pub has_kind : Marks → Test → Bool
+has_kind marks t = is_set marks.tests (test_kind t)
+
+-- and its texts, if they have no numbers
+abbrev pub has_test : Marks → Test → Bool
+has_test marks t = has_kind marks t && (marks.unknown || is_known t)
+
 -- the kinds of its home and of its test are marked
 abbrev pub has : Marks → Key → Bool
-has marks key = has_home marks key.home && is_set marks.tests (test_kind key.test)
+has marks key = has_home marks key.home && has_test marks key.test

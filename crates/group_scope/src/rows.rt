@@ -34,13 +34,31 @@ impl Rows {
     }
 
     /// Whether there may be rows of a home.
+    #[inline(always)]
     pub fn may_have(&self, home: Home) -> bool
         ensures { OnFalse result ((test : Under) → spec.row self.now (record { home = home; test = test }) ≡ []) }
     {
         self.marks.has_home(home)
     }
 
+    /// Whether there may be rows of tests of a kind, in any home.
+    #[inline(always)]
+    pub fn may_have_kind(&self, test: Test) -> bool
+        ensures { OnFalse result ((key : spec.Key) → spec.test_kind key.test ≡ spec.test_kind test → spec.row self.now key ≡ []) }
+    {
+        self.marks.has_kind(test)
+    }
+
+    /// Whether there may be rows of tests of a kind of which a text has no number.
+    #[inline(always)]
+    pub fn may_have_unknown(&self) -> bool
+        ensures { OnFalse result ((key : spec.Key) → spec.is_known key.test ≡ false → spec.row self.now key ≡ []) }
+    {
+        self.marks.has_unknown()
+    }
+
     /// The row under a key; empty where there is none.
+    #[inline(always)]
     pub fn get(&self, key: Key) -> &[Entry]
         ensures { result.now ≡ spec.row self.now key }
     {
