@@ -1,15 +1,10 @@
 ghost use Rattle.std.specs.Prelude.{◌≡◌, ◌≤◌, ◌<◌, [], ◌∷◌, ◌++◌, length, map, take, OnOk, OnErr, Some, slice_get};
 ghost use Rattle.frame_stack.specs.Locals.{local, with_value};
 
-use smallvec::SmallVec;
 use std::alloc::Global;
-use std::default::MadeWith;
 use std::marker::Model;
-use stx_base::{Copied, List, Memory, Name, Text};
+use stx_base::{Copied, List, Memory, Name};
 use stxpath_values::Atom;
-
-/// So many locals need no allocation.
-const INLINE: usize = 2;
 
 /// A variable of a body, or a value that waits.
 #[derive(Debug, Drop)]
@@ -18,10 +13,11 @@ pub struct Local {
     pub value: List<Atom>,
 }
 
-/// The variables of a body, in the order of their declaration, seen as the list of them.
+/// The variables of a body, in the order of their declaration, seen as the list of them. They stand apart, so that a frame is
+/// small: frames are moved for each element, and most have none.
 #[derive(Debug, Drop)]
 pub struct Locals {
-    entries: SmallVec<Local, INLINE>,
+    entries: Vec<Local>,
 }
 
 impl Model for Locals {
@@ -39,7 +35,7 @@ impl Locals {
         ensures { result ≡ [] }
     {
         Locals {
-            entries: SmallVec::new(alloc),
+            entries: Vec::new(alloc),
         }
     }
 
@@ -53,14 +49,14 @@ impl Locals {
         requires { index < length self.now }
         ensures { slice_get (map (λ entry. entry.name) self.now) index ≡ Some result.now }
     {
-        &self.entries.as_slice()[index].name
+        &self.entries[index].name
     }
 
     pub fn value(&self, index: usize) -> &List<Atom>
         requires { index < length self.now }
         ensures { slice_get (map (λ entry. entry.value) self.now) index ≡ Some result.now }
     {
-        &self.entries.as_slice()[index].value
+        &self.entries[index].value
     }
 
     /// Appends a local. After a refusal nothing has changed.
@@ -77,7 +73,7 @@ impl Locals {
         requires { index < length self.old }
         ensures { self.new ≡ with_value index value self.old }
     {
-        let entry = &mut self.entries.as_mut_slice()[index];
+        let entry = &mut self.entries[index];
         entry.value = value;
     }
 
@@ -87,19 +83,6 @@ impl Locals {
         ensures { self.new ≡ take len self.old }
     {
         self.entries.truncate(len);
-    }
-}
-
-impl MadeWith<Global> for Local {
-    fn made_with(alloc: Global) -> Local {
-        Local {
-            name: Name {
-                uri: Text::new(alloc),
-                local: Text::new(alloc),
-                prefix: Text::new(alloc),
-            },
-            value: List::new(alloc),
-        }
     }
 }
 
@@ -113,8 +96,8 @@ impl Copied for Local {
 
 impl Copied for Locals {
     fn copy(&self, alloc: Global) -> Result<Locals, Memory> {
-        let mut entries = SmallVec::with_capacity(alloc, self.entries.len())?;
-        for entry in self.entries.as_slice() {
+        let mut entries = Vec::with_capacity(alloc, self.entries.len())?;
+        for entry in &self.entries {
             let copy = entry.copy(alloc)?;
             entries.push(copy)?;
         }
