@@ -88,6 +88,7 @@ impl EventReader {
 
     /// The next event, or why there is none. An answer other than an event and `Need` is repeated from then on. Most of
     /// its texts are made of what is spare.
+    #[inline(always)]
     pub fn next(&mut self, spare: &mut Spare) -> Pull
         ensures answer { IsAnswer self.old result }
         ensures leaves { Leaves self.old result self.new }
