@@ -1,42 +1,18 @@
 -- One name more among those that are compared, or among the others.
-use Rattle.std.proofs.Common.{◌≡◌, ℕ, ◌+◌, ◌<◌, ◌≤◌, ◌==◌, Bool, true, false, ◌&&◌, if◌then◌else◌, List, [], ◌∷◌, ◌++◌, Option, Some, None, refl, ap, sym, ◌∙◌, arith, encode_utf8_all, length, get_or, take, string_bytes, sum_by}
+use Rattle.std.proofs.Common.{◌≡◌, ℕ, ◌+◌, ◌<◌, ◌≤◌, ◌==◌, Bool, true, false, ◌&&◌, if◌then◌else◌, List, Option, Some, None, refl, ap, ◌∙◌, arith, encode_utf8_all, length, get_or, sum_by}
 use Rattle.std.proofs.Math.ListN.{set}
-use Rattle.std.specs.BTreeMap.{btree_map_len, get_by_text, is_at}
-use Rattle.std.specs.Cmp.Lexicographic.{slice_cmp}
-use Rattle.std.specs.Map.{lookup, values_of}
-use Rattle.std.specs.Ordering.{nat_cmp}
-use Rattle.std.specs.Option.{is_none, option_and_then, option_map_or}
+use Rattle.std.specs.Option.{is_none}
 use Rattle.std.specs.Str.{bytes_eq}
 use Rattle.std.proofs.lemmas.Bool.{and_parts}
-use Rattle.std.proofs.lemmas.List.{length-set, length_push, take_more}
-use Rattle.std.proofs.lemmas.List.Sums.{fold_push, get_or-le-sum_by, sum_by-set}
+use Rattle.std.proofs.lemmas.List.{length-set}
+use Rattle.std.proofs.lemmas.List.Sums.{get_or-le-sum_by, sum_by-set}
 use Rattle.std.proofs.lemmas.Slice.Eq.{bytes_eq-Decides}
 use Rattle.node_stack.specs.Few.{CountsOne, SameCounts, came, elements_among, few_times, few_within, is_named, is_within, names_among, times_among, told}
-use Rattle.node_stack.specs.Names.{CountsName, Namespaces, SameNames, again_of, elements_of, names_of}
+use Rattle.node_stack.specs.Names.{CountsName, SameNames, again_of, elements_of, names_of}
 use Rattle.node_stack.specs.Times.{more, once_more, times}
 use Rattle.node_stack.specs.declared.names.Named.{Named}
-use Rattle.node_stack.specs.declared.names.Namespace.{Namespace}
 use Rattle.node_stack.specs.declared.names.Names.{Names}
 use Rattle.node_stack.proofs.Tallying.{not_zero}
-
--- Loops
-
--- what is counted of one name more
-pub counted-more : (q : Named → Bool) (few : List Named) (i : ℕ) (n : Named) → i < length few → n ≡ get_or few i n
-    → sum_by (λ m. came (q m) m) (take (i + 1) few) ≡ sum_by (λ m. came (q m) m) (take i few) + came (q n) n
-counted-more q few i n h e =
-    let f : Named → ℕ = λ m. came (q m) m in
-    ap (sum_by f) (take_more few i n h ∙ ap (λ x. take i few ++ x ∷ []) (sym e)) ∙ fold_push (λ a x. a + f x) 0 (take i few) n
-
-pub counted-yes : (q : Named → Bool) (few : List Named) (i : ℕ) (n : Named) → i < length few → n ≡ get_or few i n → q n ≡ true
-    → sum_by (λ m. came (q m) m) (take (i + 1) few) ≡ sum_by (λ m. came (q m) m) (take i few) + (n.again + 1)
-counted-yes q few i n h e is = counted-more q few i n h e ∙ ap (λ b. sum_by (λ m. came (q m) m) (take i few) + came b n) is
-
-pub counted-no : (q : Named → Bool) (few : List Named) (i : ℕ) (n : Named) → i < length few → n ≡ get_or few i n → q n ≡ false
-    → sum_by (λ m. came (q m) m) (take (i + 1) few) ≡ sum_by (λ m. came (q m) m) (take i few)
-counted-no q few i n h e isn't =
-    let same : sum_by (λ m. came (q m) m) (take i few) + 0 ≡ sum_by (λ m. came (q m) m) (take i few) = omega arith in
-    counted-more q few i n h e ∙ ap (λ b. sum_by (λ m. came (q m) m) (take i few) + came b n) isn't ∙ same
 
 -- Names that are compared
 
@@ -104,53 +80,6 @@ counted_again old new uri local at d h named few many = record { counted = count
       ∙ ap (λ k. k + names_of old.many) (length-set old.few.items at w)
       ∙ (let none = some_left (times_among old uri local) there in omega (arith, none))
 
--- a name that is pushed
-module _ (b : Bool) (sum rest : ℕ) (n : Named) (e : n.again ≡ 0) where
-  pushed : told (sum + came b n + rest) ≡ told (if b then sum + rest + 1 else sum + rest)
-  pushed = ap (λ a. told (sum + (if b then a + 1 else 0) + rest)) e ∙ by_case b where
-    by_case : (b : Bool) → told (sum + (if b then 0 + 1 else 0) + rest) ≡ told (if b then sum + rest + 1 else sum + rest)
-    by_case true = omega arith
-    by_case false = omega arith
-
-nothing_at : (m : Namespaces) (uri local : List ℕ) → m.entries ≡ [] → again_of m uri local ≡ None
-nothing_at m uri local empty =
-    ap (λ es. option_and_then (λ (n : Namespace). get_by_text n.names local) (lookup (is_at (λ k. slice_cmp nat_cmp uri (string_bytes k))) es)) empty
-
-nothing_within : (m : Namespaces) (uri : List ℕ) → m.entries ≡ [] → elements_of m uri ≡ 0
-nothing_within m uri empty =
-    ap (λ es. option_map_or (λ (n : Namespace). n.elements) (lookup (is_at (λ k. slice_cmp nat_cmp uri (string_bytes k))) es) 0) empty
-
-pub counted_first : (old new : Names) (uri local : List ℕ) (n : Named) → few_times old.few.items uri local ≡ 0 → old.many.entries ≡ []
-    → new.few.items ≡ old.few.items ++ n ∷ [] → new.many ≡ old.many
-    → encode_utf8_all n.uri ≡ uri → encode_utf8_all n.local ≡ local → n.again ≡ 0 → CountsOne old new uri local
-counted_first old new uri local n absent empty few many is_uri is_local once = record { counted = counted; elements = elements; len = len } where
-  counted : (cs ds : List ℕ) → told (times_among new cs ds) ≡ told (if bytes_eq uri cs && bytes_eq local ds then times_among old cs ds + 1 else times_among old cs ds)
-  counted cs ds =
-      let f : Named → ℕ = λ m. came (is_named cs ds m) m in
-      ap (λ l. told (sum_by f l + times (again_of new.many cs ds))) few
-      ∙ ap (λ m. told (sum_by f (old.few.items ++ n ∷ []) + times (again_of m cs ds))) many
-      ∙ ap (λ k. told (k + times (again_of old.many cs ds))) (fold_push (λ a x. a + f x) 0 old.few.items n)
-      ∙ pushed (is_named cs ds n) (sum_by f old.few.items) (times (again_of old.many cs ds)) n once
-      ∙ ap (λ b. told (if b then times_among old cs ds + 1 else times_among old cs ds)) (same_test uri local n (is_uri, is_local) cs ds)
-
-  elements : (cs : List ℕ) → told (elements_among new cs) ≡ told (if bytes_eq uri cs then elements_among old cs + 1 else elements_among old cs)
-  elements cs =
-      let f : Named → ℕ = λ m. came (is_within cs m) m in
-      ap (λ l. told (sum_by f l + elements_of new.many cs)) few
-      ∙ ap (λ m. told (sum_by f (old.few.items ++ n ∷ []) + elements_of m cs)) many
-      ∙ ap (λ k. told (k + elements_of old.many cs)) (fold_push (λ a x. a + f x) 0 old.few.items n)
-      ∙ pushed (is_within cs n) (sum_by f old.few.items) (elements_of old.many cs) n once
-      ∙ ap (λ u. told (if bytes_eq u cs then elements_among old cs + 1 else elements_among old cs)) is_uri
-
-  never : times_among old uri local ≡ 0
-  never = ap (λ k. k + times (again_of old.many uri local)) absent ∙ ap (λ o. 0 + times o) (nothing_at old.many uri local empty)
-
-  len : names_among new ≡ names_among old + (if times_among old uri local == 0 then 1 else 0)
-  len =
-      ap (λ l. length l + names_of new.many) few ∙ ap (λ m. length (old.few.items ++ n ∷ []) + names_of m) many
-      ∙ ap (λ k. k + names_of old.many) (length_push old.few.items n)
-      ∙ (let one = none_left (times_among old uri local) never in omega (arith, one))
-
 -- Names that aren't compared
 
 once_at : (few : ℕ) (b : Bool) (o : Option ℕ) → told (few + times (if b then once_more o else o)) ≡ told (if b then few + times o + 1 else few + times o)
@@ -189,22 +118,3 @@ same_of old new few h = record {
   elements = λ cs. ap (λ l. few_within l cs + elements_of new.many cs) few ∙ ap (λ k. few_within old.few.items cs + k) (h.elements cs);
   len = ap (λ l. length l + names_of new.many) few ∙ ap (λ k. length old.few.items + k) h.len;
 }
-
-pub same_lists : (old new : Names) → new.few.items ≡ old.few.items → new.many ≡ old.many → SameCounts old new
-same_lists old new few many = same_of old new few (record {
-  counted = λ cs ds. ap (λ m. again_of m cs ds) many;
-  elements = λ cs. ap (λ m. elements_of m cs) many;
-  len = ap names_of many;
-})
-
--- No names
-
-module _ (s : Names) (few : s.few.items ≡ []) (many : s.many.entries ≡ []) where
-  pub no_times : (cs ds : List ℕ) → times_among s cs ds ≡ 0
-  no_times cs ds = ap (λ l. few_times l cs ds + times (again_of s.many cs ds)) few ∙ ap (λ o. 0 + times o) (nothing_at s.many cs ds many)
-
-  pub no_elements : (cs : List ℕ) → elements_among s cs ≡ 0
-  no_elements cs = ap (λ l. few_within l cs + elements_of s.many cs) few ∙ ap (λ k. 0 + k) (nothing_within s.many cs many)
-
-  pub no_names : names_among s ≡ 0
-  no_names = ap (λ l. length l + names_of s.many) few ∙ ap (λ es. 0 + sum_by (λ (n : Namespace). btree_map_len n.names) (values_of es)) many

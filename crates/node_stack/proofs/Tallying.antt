@@ -1,16 +1,13 @@
 -- What counters tell after one node more.
-use Rattle.std.proofs.Common.{◌≡◌, ℕ, ◌+◌, ◌<◌, ◌==◌, Bool, true, false, ◌⊎◌, inl, inr, if◌then◌else◌, List, [], length, string_bytes, Option, Some, None, refl, ap, sym, ◌∙◌, arith, encode_utf8_all}
+use Rattle.std.proofs.Common.{◌≡◌, ℕ, ◌+◌, ◌<◌, ◌==◌, Bool, true, false, ◌⊎◌, inl, inr, if◌then◌else◌, List, Option, Some, None, refl, ap, sym, ◌∙◌, arith, encode_utf8_all}
 use Rattle.std.proofs.lemmas.Bool.{cases_eq, eqb-true}
-use Rattle.std.specs.BTreeMap.{get_by_text, btree_map_len, is_at}
-use Rattle.std.specs.Cmp.Lexicographic.{slice_cmp}
-use Rattle.std.specs.Map.{lookup}
-use Rattle.std.specs.Ordering.{nat_cmp}
+use Rattle.std.specs.BTreeMap.{get_by_text, btree_map_len}
 use Rattle.std.specs.Option.{is_none}
 use Rattle.stx_base.specs.declared.name.Name.{Name}
 use Rattle.stx_base.specs.declared.node.NodeTest.{NodeTest}
 use Rattle.stx_base.specs.declared.node.NodeTest.TheVariants as test
-use Rattle.node_stack.specs.Counts.{Counts, capped, counted, none, raised}
-use Rattle.node_stack.specs.Few.{CountsOne, SameCounts, elements_among, names_among, times_among, told}
+use Rattle.node_stack.specs.Counts.{Counts, capped, counted, raised}
+use Rattle.node_stack.specs.Few.{CountsOne, elements_among, names_among, times_among, told}
 use Rattle.node_stack.specs.Tally.{before, counts, without}
 use Rattle.node_stack.specs.Test.{Element, Pi}
 use Rattle.node_stack.specs.Times.{CountsText, more, once_more, times}
@@ -133,46 +130,6 @@ instruction_counted old new target texts names instructions nodes chars cdata co
     same_counts (counts new) (counted (Pi target) (counts old))
     (instruction_passing old new target (record { texts = texts; names = names; instructions = instructions; nodes = nodes; chars = chars; cdata = cdata; comments = comments; elements = elements }))
     (ap (λ n. names_among n + btree_map_len new.targets) names ∙ ap (λ n. names_among old.names + n) texts.len ∙ rw (new_at o) (omega arith))
-
--- where the same names came, all is told as before
-pub same_counted : (old new : Tally) → SameCounts old.names new.names → new.targets ≡ old.targets → new.elements ≡ old.elements → new.nodes ≡ old.nodes
-    → new.chars ≡ old.chars → new.cdata ≡ old.cdata → new.comments ≡ old.comments → new.instructions ≡ old.instructions → counts new ≡ counts old
-same_counted old new names targets elements nodes chars cdata comments instructions =
-    same_counts (counts new) (counts old) passing (ap (λ k. k + btree_map_len new.targets) names.len ∙ ap (λ t. names_among old.names + btree_map_len t) targets) where
-      passing : (t : NodeTest) → (counts new).passing t ≡ (counts old).passing t
-      passing test.Document = refl
-      passing (test.Name n) = ap capped (names.counted _ _)
-      passing (test.Prefix b) = ap capped (names.elements _)
-      passing test.AnyElement = ap capped elements
-      passing test.AnyNode = ap capped nodes
-      passing test.Chars = ap capped chars
-      passing test.CData = ap capped cdata
-      passing test.Comment = ap capped comments
-      passing test.AnyPi = ap capped instructions
-      passing (test.Pi t) = ap (λ m. capped (times (get_by_text m (encode_utf8_all t)))) targets
-      passing (test.AttrName n) = refl
-      passing (test.AttrPrefix b) = refl
-      passing test.AnyAttr = refl
-
--- a list of nothing
-pub none_counted : (t : Tally) → ((cs ds : List ℕ) → times_among t.names cs ds ≡ 0) → ((cs : List ℕ) → elements_among t.names cs ≡ 0) → names_among t.names ≡ 0
-    → t.targets.entries ≡ [] → t.elements ≡ 0 → t.nodes ≡ 0 → t.chars ≡ 0 → t.cdata ≡ 0 → t.comments ≡ 0 → t.instructions ≡ 0 → counts t ≡ none
-none_counted t named within names targets elements nodes chars cdata comments instructions =
-    same_counts (counts t) none passing (ap (λ k. k + btree_map_len t.targets) names ∙ ap (λ es. 0 + length es) targets) where
-      passing : (q : NodeTest) → (counts t).passing q ≡ 0
-      passing test.Document = refl
-      passing (test.Name n) = ap capped (named _ _)
-      passing (test.Prefix b) = ap capped (within _)
-      passing test.AnyElement = ap capped elements
-      passing test.AnyNode = ap capped nodes
-      passing test.Chars = ap capped chars
-      passing test.CData = ap capped cdata
-      passing test.Comment = ap capped comments
-      passing test.AnyPi = ap capped instructions
-      passing (test.Pi u) = ap (λ es. capped (times (lookup (is_at (λ k. slice_cmp nat_cmp (encode_utf8_all u) (string_bytes k))) es))) targets
-      passing (test.AttrName n) = refl
-      passing (test.AttrPrefix b) = refl
-      passing test.AnyAttr = refl
 
 -- without the one element itself, all is told as before
 pub element_before : (old new : Tally) (name : Name)
