@@ -1,5 +1,6 @@
 mod Among
 mod Counting
+mod Giving
 mod Keeping
 mod Listing
 mod Lists

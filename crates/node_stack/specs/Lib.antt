@@ -1,5 +1,6 @@
 pub mod Counts
 pub mod Few
+pub mod Kept
 pub mod Laws
 pub mod Listed
 pub mod Names

@@ -1,7 +1,7 @@
 //! How often names came in a list: the first few are compared, the others are found by a map.
 
 ghost use Rattle.std.specs.Prelude.{◌≡◌, ◌+◌, ◌-◌, ◌<◌, ◌^◌, ◌++◌, ◌∷◌, [], ℕ, true, List as Items, min, OnOk, OnErr, IfOk, MatchOption, encode_utf8_all, length, slice_index_or as get_or, slice_set};
-ghost use Rattle.std.specs.BTreeMap.{IsUnchanged};
+ghost use Rattle.std.specs.BTreeMap.{btree_map_len, IsUnchanged};
 ghost use Rattle.std.specs.Option.{option_copied};
 ghost use Rattle.node_stack.specs.Few.{few_times, few_within, is_named, is_within};
 ghost use Rattle.node_stack.specs.declared.names.Named.{Named as CountedName};
@@ -47,15 +47,15 @@ impl Names {
     ghost use Rattle.node_stack.specs.Few.{elements_among, names_among, times_among, CountsOne, SameCounts};
 
     /// None yet. Allocates nothing.
-    pub fn new(alloc: Global, few: Vec<Named>) -> Names
-        requires { few.items ≡ [] }
+    #[inline(always)]
+    pub fn new(alloc: Global) -> Names
         ensures times { (cs ds : Items ℕ) → times_among result cs ds ≡ 0 }
         ensures elements { (cs : Items ℕ) → elements_among result cs ≡ 0 }
         ensures names { names_among result ≡ 0 }
     {
         Names {
             alloc,
-            few,
+            few: Vec::new(alloc),
             many: BTreeMap::new(alloc),
         }
     }
@@ -70,13 +70,22 @@ impl Names {
                 count_again(&mut self.few, at);
                 Ok(())
             }
-            None if self.few.len() < FEW && self.many.is_empty() => {
-                let named = spare.named(name)?;
-                self.few.push(named)?;
-                Ok(())
-            }
+            None if self.few.len() < FEW && self.many.is_empty() => self.append(name, spare),
             None => count_name(self.alloc, &mut self.many, name),
         }
+    }
+
+    /// Counts one of the first names, which is new. After a refusal nothing has changed.
+    fn append(&mut self, name: &Name, spare: &mut SpareNames) -> Result<(), Memory>
+        requires others { btree_map_len self.old.many ≡ 0 }
+        requires none { few_times self.old.few.items (encode_utf8_all name.now.uri) (encode_utf8_all name.now.local) ≡ 0 }
+        ensures ok { OnOk result (CountsOne self.old self.new (encode_utf8_all name.now.uri) (encode_utf8_all name.now.local)) }
+        ensures err { OnErr result (SameCounts self.old self.new) }
+    {
+        take_room(&mut self.few, spare);
+        let named = spare.named(name)?;
+        self.few.push(named)?;
+        Ok(())
     }
 
     /// How often a name came, as far as 64 bits go.
@@ -128,6 +137,15 @@ impl Named {
         ensures { result ≡ is_within (encode_utf8_all uri.now) self.now }
     {
         self.uri.as_str() == uri.as_str()
+    }
+}
+
+/// Many lists have no names, so a list takes its room with the first of them.
+fn take_room(few: &mut Vec<Named>, spare: &mut SpareNames)
+    ensures { few.new.items ≡ few.old.items }
+{
+    if few.is_empty() {
+        *few = spare.list();
     }
 }
 

@@ -2,6 +2,7 @@
 
 ghost use Rattle.std.specs.Prelude.{◌≡◌, ◌+◌, ◌<◌, ◌≤◌, ◌^◌, [], OnOk, OnErr, Some, None, true, false, MatchOption, count_by, length, option_map, slice_get, take};
 ghost use Rattle.node_stack.specs.Counts.{capped};
+ghost use Rattle.node_stack.specs.Kept.{lists_in, texts_in};
 ghost use Rattle.node_stack.specs.Open.{at_tip, attributes_in, closed_node, earlier_of, element_of, has_leaf, leaf_of, node_of, nodes_of, tally_in, tip_node, tip_told, HasChild, KeepsOwn};
 ghost use Rattle.node_stack.specs.Open as told;
 ghost use Rattle.node_stack.specs.Path as node;
@@ -9,13 +10,14 @@ ghost use Rattle.node_stack.specs.Path.{position_at};
 ghost use Rattle.node_stack.specs.Tally.{kind_of};
 ghost use Rattle.node_stack.specs.Test as spec;
 ghost use Rattle.node_stack.specs.declared.open.Tip.TheVariants as tips;
+ghost use Rattle.stx_base.specs.Spare.{Gains, IsBounded};
 
 use crate::node::{Closed, Leaf, NodeView};
 use crate::own::Own;
 use crate::spare::SpareNames;
 use crate::tally::{Child, MOST, Tally};
 use crate::test::passes;
-use stx_base::{Attr, Binding, First, List, Memory, Name, NodeTest};
+use stx_base::{Attr, Binding, First, List, Memory, Name, NodeTest, Spare};
 
 /// An element whose end is still to come.
 #[derive(Drop)]
@@ -31,6 +33,7 @@ pub(crate) struct OpenElement {
 }
 
 impl OpenElement {
+    #[inline(always)]
     pub fn view(&self) -> NodeView<'_>
         ensures { node_of result ≡ element_of self.now }
     {
@@ -40,6 +43,26 @@ impl OpenElement {
             decls: &self.decls,
             first: &self.first,
         }
+    }
+
+    /// Its texts, and the list of its counters, are kept for others.
+    #[inline(always)]
+    pub fn give_back(self, names: &mut SpareNames, spare: &mut Spare)
+        ensures gains { Gains (texts_in (Some (element_of self))) (lists_in (Some (element_of self))) spare.old spare.new }
+        ensures bounded { IsBounded spare.new }
+    {
+        let OpenElement {
+            name,
+            attrs,
+            decls: _,
+            first,
+            children,
+            own: _,
+        } = self;
+        children.give_back(names);
+        keep_first(first, spare);
+        spare.keep_name(name);
+        spare.keep_attrs(attrs);
     }
 
     /// The texts and the list of its counters are kept for others.
@@ -64,6 +87,16 @@ impl OpenElement {
     }
 }
 
+/// Characters are kept for others.
+#[inline(always)]
+fn keep_first(first: First, spare: &mut Spare)
+    ensures { Gains 1 0 spare.old spare.new }
+{
+    if let First::Chars(text) = first {
+        spare.keep(text);
+    }
+}
+
 /// What stands on the innermost element, or on the document node.
 #[derive(Drop)]
 pub(crate) enum Tip {
@@ -82,6 +115,7 @@ pub(crate) enum Ended {
 }
 
 /// Counts a node among the children of the innermost element. After a refusal nothing has changed.
+#[inline(always)]
 pub(crate) fn count_child(
     document: &mut Tally,
     elements: &mut [OpenElement],
@@ -97,6 +131,7 @@ pub(crate) fn count_child(
     }
 }
 
+#[inline(always)]
 pub(crate) fn child_of(leaf: &Leaf) -> Child<'_>
     ensures { kind_of result ≡ node.kind_of (leaf_of leaf.now) }
 {
@@ -109,6 +144,7 @@ pub(crate) fn child_of(leaf: &Leaf) -> Child<'_>
 }
 
 /// Whether a leaf stands there.
+#[inline(always)]
 pub(crate) fn is_leaf(tip: &Option<Tip>) -> bool
     ensures { result ≡ has_leaf tip.now }
 {
@@ -131,6 +167,7 @@ pub(crate) fn siblings<'a>(
 }
 
 /// The attributes of the innermost element.
+#[inline(always)]
 pub(crate) fn attributes(elements: &[OpenElement]) -> &[Attr]
     ensures { result.now ≡ attributes_in [] elements.now }
 {
@@ -188,6 +225,7 @@ pub(crate) fn earlier(
 }
 
 /// The leaf that stands there, with what it kept.
+#[inline(always)]
 pub(crate) fn taken_leaf(tip: Option<Tip>) -> Option<(Leaf, Option<Own>)>
     ensures { MatchOption result (has_leaf tip ≡ false) (λ taken. tip ≡ Some (tips.Leaf taken.0 taken.1)) }
 {
@@ -236,6 +274,7 @@ fn attribute_position(attrs: &[Attr], index: usize, test: &NodeTest) -> u64
     (earlier.count() as u64).min(MOST) + 1
 }
 
+#[inline(always)]
 pub(crate) fn view_leaf(leaf: &Leaf) -> NodeView<'_>
     ensures { node_of result ≡ leaf_of leaf.now }
 {
@@ -247,6 +286,7 @@ pub(crate) fn view_leaf(leaf: &Leaf) -> NodeView<'_>
     }
 }
 
+#[inline(always)]
 pub(crate) fn view_tip<'a>(tip: &'a Option<Tip>, attrs: &'a [Attr]) -> Option<NodeView<'a>>
     ensures { option_map node_of result ≡ tip_node attrs.now tip.now }
 {

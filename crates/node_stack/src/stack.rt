@@ -11,7 +11,7 @@ use crate::parked::{Parked, Waiting, put_aside};
 use crate::spare::SpareNames;
 use crate::tally::{Child, Tally};
 use std::alloc::Global;
-use stx_base::{Attr, Binding, First, List, Memory, Name, NodeTest, Text};
+use stx_base::{Attr, Binding, First, List, Memory, Name, NodeTest, Spare, Text};
 
 /// The path from the document node to the current node. Of the nodes before those of the path it keeps how many there
 /// were, by name and by kind.
@@ -34,27 +34,29 @@ pub struct NodeStack {
 
 impl NodeStack {
     ghost use Rattle.node_stack.specs.Path.{at_attribute, attributes, can_end, can_have_children, current, depth, document_alone, entered, is_attribute, is_element, is_told, last_of, left, level, node_at, parked, position, resumed, string_value, text_of, Element};
+    ghost use Rattle.node_stack.specs.Kept.{lists_in, texts_in};
     ghost use Rattle.node_stack.specs.Open.{closed_node, ended_in, leaf_of, node_of, open_in};
     ghost use Rattle.node_stack.specs.Stack.{innermost, path, path_node};
+    ghost use Rattle.stx_base.specs.Spare.{Gains, IsBounded};
 
     /// The document node alone. At most `limit` elements may be open at once.
     pub fn new(alloc: Global, limit: u32) -> Result<NodeStack, Memory>
         requires { limit + 1 < 2 ^ 32 }
         ensures { IfOk result (λ stack. path stack ≡ document_alone limit) }
     {
-        let mut spare = SpareNames::new(alloc);
         Ok(NodeStack {
             alloc,
             limit,
-            document: Tally::new(alloc, &mut spare),
+            document: Tally::new(alloc),
             elements: Vec::new(alloc),
             tip: None,
             empty: Text::new(alloc),
-            spare,
+            spare: SpareNames::new(alloc),
         })
     }
 
     /// Makes an element the current node, a child of the one that was. After a refusal the path is the same.
+    #[inline(always)]
     pub fn open(
         &mut self,
         name: Name,
@@ -73,7 +75,7 @@ impl NodeStack {
             return Err(StackFault::Depth);
         }
         self.elements.reserve(1)?;
-        let children = Tally::new(self.alloc, &mut self.spare);
+        let children = Tally::new(self.alloc);
         // Nothing stands on the current node: at most a number is left there that no attribute has.
         self.tip = None;
         count_child(
@@ -82,18 +84,19 @@ impl NodeStack {
             Child::Element(&name),
             &mut self.spare,
         )?;
-        self.elements.push(OpenElement {
+        self.elements.push_reserved(OpenElement {
             name,
             attrs,
             decls,
             first,
             children,
             own: None,
-        })?;
+        });
         Ok(())
     }
 
     /// Makes a leaf the current node, a child of the one that was. After a refusal the path is the same.
+    #[inline(always)]
     pub fn leaf(&mut self, leaf: Leaf) -> Result<(), Memory>
         requires { IsTrue (can_have_children (current (path self.old))) }
         ensures ok { OnOk result (path self.new ≡ entered (leaf_of leaf) (path self.old)) }
@@ -119,6 +122,20 @@ impl NodeStack {
         match self.end() {
             Ended::Element(element) => element.closed(&mut self.spare),
             Ended::Leaf(leaf, _) => Closed::Leaf(leaf),
+        }
+    }
+
+    /// Ends the current node, and keeps its texts and its list of attributes for others, as far as there is room.
+    #[inline(always)]
+    pub fn close_into(&mut self, spare: &mut Spare)
+        requires { IsTrue (can_end (current (path self.old))) }
+        ensures path { path self.new ≡ left (path self.old) }
+        ensures gains { Gains (texts_in (current (path self.old))) (lists_in (current (path self.old))) spare.old spare.new }
+        ensures bounded { IsBounded spare.new }
+    {
+        match self.end() {
+            Ended::Element(element) => element.give_back(&mut self.spare, spare),
+            Ended::Leaf(leaf, _) => leaf.give_back(spare),
         }
     }
 
@@ -158,6 +175,7 @@ impl NodeStack {
     }
 
     /// Takes the current node off the path.
+    #[inline(always)]
     fn end(&mut self) -> Ended
         requires { IsTrue (can_end (current (path self.old))) }
         ensures node { last_of (path self.old).nodes ≡ Some (ended_in (innermost self.new) result) }
@@ -260,6 +278,7 @@ impl NodeStack {
     }
 
     /// The number of the current node's place; an attribute has its element's. Allocates nothing.
+    #[inline(always)]
     pub fn level(&self) -> u32
         ensures { result ≡ level (path self.now) }
     {
@@ -272,6 +291,7 @@ impl NodeStack {
     }
 
     /// How many nodes the path has. Allocates nothing.
+    #[inline(always)]
     pub fn len(&self) -> usize
         ensures value { result ≡ length (path self.now).nodes }
         ensures bound { result < 2 ^ 63 }
@@ -284,6 +304,7 @@ impl NodeStack {
     }
 
     /// The current node. Allocates nothing.
+    #[inline(always)]
     pub fn current(&self) -> NodeView<'_>
         ensures { current (path self.now) ≡ Some (node_of result) }
     {
@@ -291,6 +312,7 @@ impl NodeStack {
     }
 
     /// The node at a place, where 0 is that of the document node. Allocates nothing.
+    #[inline(always)]
     pub fn view(&self, place: usize) -> NodeView<'_>
         requires { place < length (path self.now).nodes }
         ensures { node_at (path self.now) place ≡ Some (node_of result) }

@@ -46,12 +46,13 @@ impl Tally {
     ghost use Rattle.node_stack.specs.Test.{Element, CData, Chars, Comment, Pi};
 
     /// Allocates nothing.
-    pub fn new(alloc: Global, spare: &mut SpareNames) -> Tally
+    #[inline(always)]
+    pub fn new(alloc: Global) -> Tally
         ensures { counts result ≡ none }
     {
         Tally {
             alloc,
-            names: Names::new(alloc, spare.list()),
+            names: Names::new(alloc),
             targets: BTreeMap::new(alloc),
             nodes: 0,
             elements: 0,
@@ -63,6 +64,7 @@ impl Tally {
     }
 
     /// Counts a node. After a refusal nothing has changed.
+    #[inline(always)]
     pub fn add(&mut self, child: Child<'_>, spare: &mut SpareNames) -> Result<(), Memory>
         ensures counts { OnOk result (counts self.new ≡ counted (kind_of child.entry) (counts self.old)) }
         ensures before { OnOk result (before self.new (kind_of child.entry) ≡ (counts self.old).passing) }
@@ -134,6 +136,7 @@ impl Tally {
     }
 
     /// Keeps what can be used again.
+    #[inline(always)]
     pub fn give_back(self, spare: &mut SpareNames) {
         let Tally {
             alloc: _,

@@ -34,7 +34,7 @@ returns-clause-ok c =
     let items = with_items_is c.reserve.new.self c.count_child.new.elements (c.count_child.auto.elements ∙ ap length v ∙ sym c.reserve.new.self.ok.0) in
     let has = subst (λ es. HasChild c.args.self.now.document es c.count_child.new.document c.count_child.new.elements k) (v ∙ c.in_ok-reserve.ensures.items) c.in_ok-count_child.ensures.ok in
     ap (λ ps. record { limit = c.args.self.now.limit; nodes = ps })
-    (ap (λ es. nodes_of c.count_child.new.document es None) (c.in_ok-push.ensures.items ∙ ap (λ es. es ++ e ∷ []) items)
+    (ap (λ es. nodes_of c.count_child.new.document es None) (c.push_reserved.ensures.items ∙ ap (λ es. es ++ e ∷ []) items)
     ∙ element_entered c.args.self.now.document c.args.self.now.elements.items c.args.self.now.tip c.count_child.new.document c.count_child.new.elements e k c.requires has refl c.new-children.ensures refl)
 
 pub returns-clause-room : goal.returns-clause-room
