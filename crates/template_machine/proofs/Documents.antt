@@ -5,7 +5,7 @@ use Rattle.std.proofs.lemmas.List.{reverse-append}
 use Rattle.std.proofs.lemmas.List.Elements.{All-cons, All-head, All-tail}
 use Rattle.node_stack.specs.Path.{Document, Node, Path, PathNode}
 use Rattle.node_stack.specs.Stack.{path}
-use Rattle.template_machine.specs.Documents.{Open, documents, open_before, open_in}
+use Rattle.template_machine.specs.Documents.{Open, documents, open_before, open_in, is_main}
 use Rattle.template_machine.specs.Lists.{rest_of}
 use Rattle.template_machine.specs.Moments.{IsBuffer, IsDocument}
 use Rattle.template_machine.specs.Ways.{IsWay, Way, first_in, has_list, here, left, lists_on}
@@ -28,7 +28,7 @@ resumed_limit (Some x) p = refl
 
 -- One source.
 
-pub opens : (o : Origin) (limit n : ℕ) (others : List Open) → IsDocument o → 1 ≤ n → open_before o limit n others ≡ record { limit = limit; lists = n } ∷ others
+pub opens : (o : Origin) (limit n : ℕ) (others : List Open) → IsDocument o → 1 ≤ n → open_before o limit n others ≡ record { main = is_main o; limit = limit; lists = n } ∷ others
 opens (origin.Buffer id at) limit n others is some = absurd is
 opens origin.Main limit zero others is some = absurd (omega (arith, some))
 opens origin.Main limit (suc n) others is some = refl
@@ -46,17 +46,18 @@ hides origin.Main id limit n others is = absurd is
 hides (origin.Document at) id limit n others is = absurd is
 
 -- what holds by limits alone
-pub limits_hold : (P : Open → Type 0) (o : Origin) (limit n m : ℕ) (others : List Open) → ((k : ℕ) → P (record { limit = limit; lists = n }) → P (record { limit = limit; lists = k }))
+pub limits_hold : (P : Open → Type 0) (o : Origin) (limit n m : ℕ) (others : List Open) → ((k : ℕ) → P (record { main = is_main o; limit = limit; lists = n }) → P (record { main = is_main o; limit = limit; lists = k }))
     → IsDocument o → 1 ≤ n → All P (open_before o limit n others) → All P (open_before o limit m others)
 limits_hold P o limit n m others any is some all =
-    let l : List Open = record { limit = limit; lists = n } ∷ others in
+    let front : Open = record { main = is_main o; limit = limit; lists = n } in
+    let l : List Open = front ∷ others in
     let both : All P l = subst (All P) (opens o limit n others is some) all in
-    by m (All-head P (record { limit = limit; lists = n }) others both) (All-tail P (record { limit = limit; lists = n }) others both)
+    by m (All-head P front others both) (All-tail P front others both)
   where
-    by : (m : ℕ) → P (record { limit = limit; lists = n }) → All P others → All P (open_before o limit m others)
+    by : (m : ℕ) → P (record { main = is_main o; limit = limit; lists = n }) → All P others → All P (open_before o limit m others)
     by zero front rest = subst (All P) (sym (closes o limit others)) rest
     by (suc m) front rest =
-        subst (All P) (sym (opens o limit (suc m) others is (omega arith))) (All-cons P (record { limit = limit; lists = suc m }) others (any (suc m) front) rest)
+        subst (All P) (sym (opens o limit (suc m) others is (omega arith))) (All-cons P (record { main = is_main o; limit = limit; lists = suc m }) others (any (suc m) front) rest)
 
 -- A run.
 
@@ -101,7 +102,7 @@ source_before depth o r t e =
 pub buffer_before : (depth id : ℕ) (o : Origin) (r t : Run) → IsBuffer id o → EntersSource depth o r t → documents t ≡ documents r
 buffer_before depth id o r t is e = source_before depth o r t e ∙ hides o id depth 1 (documents r) is
 
-pub document_before : (depth : ℕ) (o : Origin) (r t : Run) → IsDocument o → EntersSource depth o r t → documents t ≡ record { limit = depth; lists = 1 } ∷ documents r
+pub document_before : (depth : ℕ) (o : Origin) (r t : Run) → IsDocument o → EntersSource depth o r t → documents t ≡ record { main = is_main o; limit = depth; lists = 1 } ∷ documents r
 document_before depth o r t is e = source_before depth o r t e ∙ opens o depth 1 (documents r) is (omega arith)
 
 -- the innermost source, which has ended, is left

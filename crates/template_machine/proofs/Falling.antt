@@ -33,6 +33,7 @@ use Rattle.template_machine.proofs.Moving.{goes_at}
 use Rattle.template_machine.proofs.Operating.{behind_locals, behind_pc, some_context}
 use Rattle.template_machine.proofs.Works.{goes_falls, less_falls, spends_falls, waits_few, work_changed, work_pushed}
 use Rattle.var_store.specs.Copies.{Stored}
+use Rattle.template_machine.proofs.Spared.{same_fuel}
 
 -- One after another.
 
@@ -60,6 +61,7 @@ begins_behind a b old mid new means less x c few = record { means = x.means ∙ 
 pub less_lessens : (p : Program) (old new : Run) → length p.code.ops < 2 ^ 32 → means_of new ≡ means_of old → burden new + 1 ≤ burden old → Lessens p old new
 less_lessens p old new small means less = record {
   still = same_documents old new means;
+  spared = same_fuel old new means;
   falls = less_falls p old new small (ap (λ (m : Means). m.fuel) means) less;
 }
 
@@ -103,32 +105,43 @@ one_less_is : (n m : ℕ) → one_less n ≡ Some m → n ≡ suc m
 one_less_is zero m e = absurd (cc)
 one_less_is (suc n) m e = let same : n ≡ m = cc in ap suc same
 
--- a unit is spent, and what follows begins less than that pays for
+-- a unit is spent
+spent_less : (old mid new : Run) (most : ℕ) → mid ≡ record old { fuel = mid.fuel } → one_less old.fuel ≡ Some mid.fuel → Begins most mid new → new.fuel < old.fuel
+spent_less old mid new most same spent b = by old.fuel mid.fuel new.fuel (one_less_is old.fuel mid.fuel spent) (ap (λ (m : Means). m.fuel) b.means)
+  where
+    by : (k m n : ℕ) → k ≡ suc m → n ≡ m → n < k
+    by k m n f g = omega (arith, f, g)
+
+no_more : (n m : ℕ) → n < m → n ≤ m
+no_more n m less = omega (arith, less)
+
+-- and what follows begins less than that pays for
 pub spent_falls : (p : Program) (old mid new : Run) (most : ℕ) → length p.code.ops < 2 ^ 32 → mid ≡ record old { fuel = mid.fuel } → one_less old.fuel ≡ Some mid.fuel
     → most ≤ 2 ^ 68 → Begins most mid new → Lessens p old new
 spent_falls p old mid new most small same spent few b =
     record {
       still = same_documents mid new b.means ∙ ap documents same;
+      spared = no_more new.fuel old.fuel (spent_less old mid new most same spent b);
       falls =
           spends_falls p old new small
           (record {
-            fuel = less old.fuel mid.fuel new.fuel (one_less_is old.fuel mid.fuel spent) (ap (λ (m : Means). m.fuel) b.means);
+            fuel = spent_less old mid new most same spent b;
             load = by (load old) (load mid) (load new) (waits_work new.doing new.source.ahead) b.load (ap load same) few;
           });
     }
   where
-    less : (k m n : ℕ) → k ≡ suc m → n ≡ m → n < k
-    less k m n f g = omega (arith, f, g)
-
     by : (k m n w : ℕ) → n + w ≤ m + most → m ≡ k → most ≤ 2 ^ 68 → n ≤ k + 2 ^ 68
     by k m n w f g h = omega (arith, f, g, h)
 
 pub spent_ok : (p : Program) (old mid new : Run) (most : ℕ) → length p.code.ops < 2 ^ 32 → mid ≡ record old { fuel = mid.fuel } → one_less old.fuel ≡ Some mid.fuel
     → most ≤ 2 ^ 68 → {E : Type 0} (result : Result Step E) → OnOk result (Begins most mid new) → IfOk result (λ s. Falls p old s new)
 spent_ok p old mid new most small same spent few (Ok step.More) b = spent_falls p old mid new most small same spent few b
-spent_ok p old mid new most small same spent few (Ok step.Wait) b = same_documents mid new b.means ∙ ap documents same
-spent_ok p old mid new most small same spent few (Ok step.Want) b = same_documents mid new b.means ∙ ap documents same
-spent_ok p old mid new most small same spent few (Ok step.Over) b = same_documents mid new b.means ∙ ap documents same
+spent_ok p old mid new most small same spent few (Ok step.Wait) b =
+    record { still = same_documents mid new b.means ∙ ap documents same; spared = no_more new.fuel old.fuel (spent_less old mid new most same spent b) }
+spent_ok p old mid new most small same spent few (Ok step.Want) b =
+    record { still = same_documents mid new b.means ∙ ap documents same; spent = spent_less old mid new most same spent b }
+spent_ok p old mid new most small same spent few (Ok step.Over) b =
+    record { still = same_documents mid new b.means ∙ ap documents same; spared = no_more new.fuel old.fuel (spent_less old mid new most same spent b) }
 spent_ok p old mid new most small same spent few (Err e) b = tt
 
 pub begun_buffer : (whole fuel left id : ℕ) (o : Origin) → IsBuffer id o → fuel_begun whole fuel o ≡ Some left → one_less fuel ≡ Some left
@@ -201,6 +214,7 @@ goes_work p r running o at frames g to same is pc less =
     let weigh : frames_work (reverse frames.frames) ≡ frames_work (reverse r.frames.frames) = ap frames_work is ∙ body_weighs g same (reverse r.frames.frames) in
     record {
       still = refl;
+      spared = same_fuel r (record r { frames = frames }) refl;
       falls =
           goes_falls p r (record r { frames = frames }) running.pc to at.doing at.doing refl refl
           (ap (λ n. n + ahead_work r.source.ahead + outer_work r.outer.items) weigh) at.pc (ap pc_in is ∙ pc) less;
@@ -312,5 +326,6 @@ puts_falls p old mid put new small same spent o is b =
 pub falls_put : (p : Program) (old put new : Run) → OnlyPuts old put → Lessens p put new → Lessens p old new
 falls_put p old put new o less = record {
   still = less.still ∙ ap documents o.rest;
+  spared = subst (λ k. new.fuel ≤ k) (ap (λ (x : Run). x.fuel) o.rest) less.spared;
   falls = subst (λ n. work p new < n) (ap (work p) o.rest) less.falls;
 }

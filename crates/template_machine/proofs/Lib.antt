@@ -117,3 +117,4 @@ pub mod Turning
 pub mod Lightened
 pub mod Grounded
 pub mod Machines
+pub mod Spared

@@ -12,7 +12,7 @@ use Rattle.template_machine.specs.Standing.{standing_of}
 use Rattle.template_machine.specs.Steps.{fuel_begun, fuel_ended, one_less}
 use Rattle.template_machine.specs.Ways.{lists_on}
 use Rattle.template_machine.specs.Moments.{IsAtOp, IsBuffer, SkipEnds, SkipsOn}
-use Rattle.template_machine.specs.Work.{Begins, Falls, Lessens, Sheds, ahead_work, burden, frame_work, frames_work, load, means_of, outer_work, waits_work, work}
+use Rattle.template_machine.specs.Work.{Begins, Falls, Lessens, Sheds, ahead_work, burden, frame_work, frames_work, load, means_of, outer_work, waits_work, work, AsksNone}
 use Rattle.template_machine.specs.declared.program.Program.{Program}
 use Rattle.template_machine.specs.declared.run.Doing.TheVariants as doing
 use Rattle.template_machine.specs.declared.run.Run.{Run}
@@ -24,11 +24,11 @@ use Rattle.template_machine.specs.declared.source.Ahead.TheVariants as ahead
 use Rattle.template_machine.specs.declared.source.Origin.{Origin}
 use Rattle.template_machine.specs.declared.source.Origin.TheVariants as origin
 use Rattle.template_machine.specs.declared.source.Source as sources
-use Rattle.template_machine.proofs.Documents.{same_documents}
 use Rattle.template_machine.proofs.Falling.{begins_list, begins_within, begun_buffer, falls_behind, frame_pushed, less_lessens, top_off}
 use Rattle.template_machine.proofs.Operating.{body_on_top}
 use Rattle.template_machine.proofs.Tops.{skip_top}
 use Rattle.template_machine.proofs.Works.{less_falls, spends_falls, waits_few}
+use Rattle.template_machine.proofs.Spared.{means_stay}
 
 -- Parts.
 
@@ -106,12 +106,12 @@ begins_shed a k old mid new means more x = record { means = x.means ∙ means; l
 
 -- what is known of a list pays for what is begun
 pub begins_ok : (p : Program) (a b : ℕ) (old mid new : Run) → length p.code.ops < 2 ^ 32 → means_of mid ≡ means_of old → load mid + a ≤ load old → b < a
-    → {E : Type 0} (result : Result Step E) → OnOk result (Begins b mid new) → IfOk result (λ step. Falls p old step new)
-begins_ok p a b old mid new small means less few (Ok step.More) x = falls_behind p a b old mid new small means less x few
-begins_ok p a b old mid new small means less few (Ok step.Wait) x = same_documents old new (x.means ∙ means)
-begins_ok p a b old mid new small means less few (Ok step.Want) x = same_documents old new (x.means ∙ means)
-begins_ok p a b old mid new small means less few (Ok step.Over) x = same_documents old new (x.means ∙ means)
-begins_ok p a b old mid new small means less few (Err e) x = tt
+    → {E : Type 0} (result : Result Step E) → IfOk result AsksNone → OnOk result (Begins b mid new) → IfOk result (λ step. Falls p old step new)
+begins_ok p a b old mid new small means less few (Ok step.More) asks x = falls_behind p a b old mid new small means less x few
+begins_ok p a b old mid new small means less few (Ok step.Wait) asks x = means_stay old new (x.means ∙ means)
+begins_ok p a b old mid new small means less few (Ok step.Want) asks x = absurd asks
+begins_ok p a b old mid new small means less few (Ok step.Over) asks x = means_stay old new (x.means ∙ means)
+begins_ok p a b old mid new small means less few (Err e) asks x = tt
 
 -- what was known of the list is known no more
 pub known_less : (r n : Run) (b a : Ahead) (k : ℕ) → r.source.ahead ≡ b → ahead_work a + k ≡ ahead_work b → reverse n.frames.frames ≡ reverse r.frames.frames
@@ -179,7 +179,7 @@ unit_less : (fuel less : ℕ) → one_less fuel ≡ Some less → less < fuel
 unit_less zero less e = absurd (cc)
 unit_less (suc n) less e = let same : n ≡ less = cc in omega (arith, same)
 
-ended_still : (whole fuel id : ℕ) (o : Origin) → IsBuffer id o → fuel_ended whole fuel o ≡ fuel
+pub ended_still : (whole fuel id : ℕ) (o : Origin) → IsBuffer id o → fuel_ended whole fuel o ≡ fuel
 ended_still whole fuel id origin.Main is = absurd is
 ended_still whole fuel id (origin.Buffer own at) is = refl
 ended_still whole fuel id (origin.Document at) is = absurd is

@@ -1,5 +1,5 @@
 -- What holds of a machine between its calls.
-use Rattle.std.specs.Prelude.{◌≡◌, ℕ, ◌+◌, ◌<◌, ◌≤◌, true, List, [], ◌∷◌, All, map}
+use Rattle.std.specs.Prelude.{◌≡◌, ℕ, ◌+◌, ◌<◌, ◌≤◌, Bool, true, List, [], ◌∷◌, All, map}
 use Rattle.sheet_model.specs.declared.sheet.Sheet.{Sheet}
 use Rattle.stx_base.specs.Character.{is_cdata_text}
 use Rattle.stx_base.specs.Spare.{Kept}
@@ -33,6 +33,20 @@ lists_in d = d.lists
 abbrev pub documents_of : Machine → List ℕ
 documents_of m = map lists_in (documents m.run)
 
+abbrev pub main_in : Open → Bool
+main_in d = d.main
+
+-- which of these is the main document
+abbrev pub mains_of : Machine → List Bool
+mains_of m = map main_in (documents m.run)
+
+-- what fuel is left for what comes next, and how much there is of it behind an event of the main document
+abbrev pub fuel_of : Machine → ℕ
+fuel_of m = m.run.fuel
+
+abbrev pub fuel_limit_of : Machine → ℕ
+fuel_limit_of m = m.program.limits.fuel
+
 -- the room that it keeps for texts to come
 abbrev pub spare_of : Machine → Kept
 spare_of m = m.run.putting.spare
@@ -62,6 +76,17 @@ abbrev pub behind : Event → List ℕ → List ℕ
 behind e [] = []
 behind (event.DocumentEnd offset) (n ∷ ns) = ns
 behind e (n ∷ ns) = lists_behind e n ∷ ns
+
+-- which of the documents behind an event of the newest is the main one
+abbrev pub mains_behind : Event → List Bool → List Bool
+mains_behind e [] = []
+mains_behind (event.DocumentEnd offset) (m ∷ ms) = ms
+mains_behind e (m ∷ ms) = m ∷ ms
+
+-- an event of the main document renews the fuel
+abbrev pub fuel_at : (newest : List Bool) → (limit fuel : ℕ) → ℕ
+fuel_at (true ∷ ms) limit fuel = limit
+fuel_at ms limit fuel = fuel
 
 abbrev pub HasRoom : (depth : ℕ) → List ℕ → Type 0
 HasRoom depth [] = Unit {0}
@@ -93,6 +118,12 @@ GoesOn turn.More = Unit {0}
 GoesOn turn.Ended = Unit {0}
 GoesOn (turn.WantDocument name) = Unit {0}
 GoesOn other = ⊥
+
+-- where a run goes on no more fuel is left than this, and less where a document is wanted, which has cost some
+abbrev pub Burns : Turn → (most fuel : ℕ) → Type 0
+Burns turn.More most fuel = fuel ≤ most
+Burns (turn.WantDocument name) most fuel = fuel < most
+Burns other most fuel = Unit {0}
 
 -- a run stops for want of a document
 abbrev pub IsAbsent : Turn → Type 0

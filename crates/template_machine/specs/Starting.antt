@@ -30,3 +30,4 @@ pub record IsFresh (p : Program) (r : Run) : Type 0 where
   pub begun : r.source.begun ≡ 1
   pub outer : r.outer.items ≡ []
   pub aside : r.aside.items ≡ []
+  pub fuel : r.fuel ≡ p.limits.fuel

@@ -11,7 +11,7 @@ use Rattle.event_buffers.specs.declared.fault.BufferFault.{BufferFault}
 use Rattle.instr_code.specs.Running.{Flat, flat}
 use Rattle.instr_code.specs.Running as running
 use Rattle.instr_code.specs.Steps.{Call, Fails, Holds, Other, Steps, Stops, Verdict}
-use Rattle.node_stack.specs.Path.{Node, Document, Element, Chars}
+use Rattle.node_stack.specs.Path.{Node, Document, Element}
 use Rattle.sheet_model.specs.Parts.{place}
 use Rattle.sheet_model.specs.declared.instr.Instr.{Instr}
 use Rattle.sheet_model.specs.declared.instr.Instr.TheOpen.{Instr-F}

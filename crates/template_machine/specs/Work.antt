@@ -91,6 +91,21 @@ pub record Means : Type 0 where
 abbrev pub means_of : Run → Means
 means_of r = record { fuel = r.fuel; documents = documents r }
 
+-- the same documents are open, and no fuel comes
+pub record Stays (old new : Run) : Type 0 where
+  pub still : documents new ≡ documents old
+  pub spared : new.fuel ≤ old.fuel
+
+-- and some is spent
+pub record Costs (old new : Run) : Type 0 where
+  pub still : documents new ≡ documents old
+  pub spent : new.fuel < old.fuel
+
+-- what comes of a step wants no document
+abbrev pub AsksNone : Step → Type 0
+AsksNone step.Want = ⊥
+AsksNone s = Unit {0}
+
 module _ (p : Program) where
   -- the operations of the innermost body that cost nothing
   abbrev pub place_work : Doing → List Frame → ℕ
@@ -101,15 +116,17 @@ module _ (p : Program) where
   abbrev pub work : Run → ℕ
   work r = 2 ^ 110 * r.fuel + 2 ^ 33 * burden r + place_work r.doing (reverse r.frames.frames)
 
-  -- less is to be done, with the same documents
+  -- less is to be done, with the same documents, and no fuel comes
   pub record Lessens (old new : Run) : Type 0 where
     pub still : documents new ≡ documents old
+    pub spared : new.fuel ≤ old.fuel
     pub falls : work new < work old
 
-  -- so it is where there is more to do, and no document begins or ends elsewhere
+  -- so it is where there is more to do; elsewhere too no document begins or ends and no fuel comes, and a document that is wanted costs some
   abbrev pub Falls : (old : Run) → Step → (new : Run) → Type 0
   Falls old step.More new = Lessens old new
-  Falls old s new = documents new ≡ documents old
+  Falls old step.Want new = Costs old new
+  Falls old s new = Stays old new
 
 -- What calls within a step do to them.
 

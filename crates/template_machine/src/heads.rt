@@ -6,7 +6,7 @@ ghost use Rattle.node_stack.specs.Stack.{path};
 ghost use Rattle.template_machine.specs.Asking.{AsksOn, IsAsker};
 ghost use Rattle.template_machine.specs.Moments.{BodyIsOver, Follows, HasHead, IsAtOp, IsPass, ListIsOver, StandsAsBefore, CanPut};
 ghost use Rattle.template_machine.specs.Well.{IsSourceWell, IsSteady, IsWell, is_again};
-ghost use Rattle.template_machine.specs.Work.{Begins, Falls};
+ghost use Rattle.template_machine.specs.Work.{AsksNone, Begins, Falls};
 ghost use Rattle.template_machine.specs.Working.{Awaits, CanEnter, IsChosen, IsTemplateBody};
 
 use crate::bodies::{active, body_below, level_at, spend_children, take_off};
@@ -31,6 +31,7 @@ impl Run {
         requires head { HasHead program.now self.old }
         requires asker { IsAsker program.now asker (reverse self.old.frames.frames) }
         ensures stands { IfOk result (λ step. Follows program.now step self.new) }
+        ensures asks { IfOk result AsksNone }
         ensures works { OnOk result (Begins 5 self.old self.new) }
     {
         let base = self.base_of(program, asker);
@@ -55,6 +56,7 @@ impl Run {
         requires head { HasHead program.now self.old }
         requires base { base < length program.now.sheet.groups }
         ensures stands { IfOk result (λ step. Follows program.now step self.new) }
+        ensures asks { IfOk result AsksNone }
         ensures works { OnOk result (Begins 5 self.old self.new) }
     {
         self.pass(program, base, out)?;
@@ -183,6 +185,7 @@ impl Run {
         requires base { base < length program.now.sheet.groups }
         requires list { can_have_children (current (path self.old.source.stack)) ≡ true }
         ensures stands { IfOk result (λ step. Follows program.now step self.new) }
+        ensures asks { IfOk result AsksNone }
         ensures works { OnOk result (Begins 5 self.old self.new) }
     {
         let frame = Frame::Pass {
@@ -206,6 +209,7 @@ impl Run {
         requires over { ListIsOver program.now self.old }
         requires pass { IsPass base level (reverse self.old.frames.frames) }
         ensures stands { IfOk result (λ step. Follows program.now step self.new) }
+        ensures asks { IfOk result AsksNone }
         ensures works { OnOk result (Begins 0 self.old self.new) }
     {
         take_off(&mut self.frames);
@@ -278,6 +282,7 @@ impl Run {
     ) -> Result<Step, Stop>
         requires { BodyIsOver program.now level spent self.old }
         ensures stands { IfOk result (λ step. Follows program.now step self.new) }
+        ensures asks { IfOk result AsksNone }
         ensures works { OnOk result (Begins 4 self.old self.new) }
     {
         if self.is_asked_again(level) {
@@ -312,6 +317,7 @@ impl Run {
         requires apart { is_again level (reverse self.old.frames.frames) ≡ false }
         requires open { (can_have_children (current (path self.old.source.stack)) && not spent) ≡ true }
         ensures stands { IfOk result (λ step. Follows program.now step self.new) }
+        ensures asks { IfOk result AsksNone }
         ensures works { OnOk result (Begins 4 self.old self.new) }
     {
         self.push(Frame::Skip { depth: 0 }, at)?;

@@ -1,6 +1,6 @@
 //! Open lists: heads, ends, and nodes that are skipped.
 
-ghost use Rattle.std.specs.Prelude.{◌≡◌, ◌+◌, ◌-◌, ◌<◌, IfOk, IsSome, None, Some, true, length, reverse, slice_set, ℕ, OnOk};
+ghost use Rattle.std.specs.Prelude.{◌≡◌, ◌+◌, ◌-◌, ◌<◌, ◌≤◌, IfOk, IsSome, None, Some, true, length, reverse, slice_set, ℕ, OnOk};
 ghost use Rattle.node_stack.specs.Open.{leaf_of};
 ghost use Rattle.node_stack.specs.Path.{Element, can_end, current, is_attribute};
 ghost use Rattle.node_stack.specs.Stack.{path};
@@ -8,10 +8,11 @@ ghost use Rattle.template_machine.specs.Bodies as bodies;
 ghost use Rattle.template_machine.specs.Closing.{is_slot};
 ghost use Rattle.template_machine.specs.Documents.{documents};
 ghost use Rattle.template_machine.specs.Standing.{standing_of};
+ghost use Rattle.template_machine.specs.Steps.{fuel_ended};
 ghost use Rattle.template_machine.specs.Ways.{first_in};
 ghost use Rattle.template_machine.specs.Moments.{Follows, GoesOrWaits, HasTold, HeadIsLooked, IsBuffer, ListIsOver, NodeIsOver, PutsAside, RegionIsOver, SkipEnds, SkipsOn, TakesHead};
 ghost use Rattle.template_machine.specs.Well.{IsWell, StandOnRegion};
-ghost use Rattle.template_machine.specs.Work.{Begins, Falls, Sheds, burden, work};
+ghost use Rattle.template_machine.specs.Work.{AsksNone, Begins, Falls, Sheds, burden, work};
 
 use crate::bodies::take_off;
 use crate::program::Program;
@@ -33,6 +34,7 @@ impl Run {
         requires { HasTold program.now event self.old }
         ensures stands { IfOk result (λ _. IsWell program.now self.new × (self.new.doing ≡ Doing.List)) }
         ensures works { (id : ℕ) → IsBuffer id self.old.source.origin → OnOk result (work program.now self.new < work program.now self.old) }
+        ensures fuel { OnOk result (self.new.fuel ≤ fuel_ended program.now.limits.fuel self.old.fuel self.old.source.origin) }
         ensures documents { OnOk result (documents self.new ≡ documents self.old) }
     {
         match skipped(&self.frames) {
@@ -47,6 +49,7 @@ impl Run {
         requires taken { bodies.skipped_in (reverse self.old.frames.frames) ≡ None }
         ensures stands { IfOk result (λ _. IsWell program.now self.new × (self.new.doing ≡ Doing.List)) }
         ensures works { (id : ℕ) → IsBuffer id self.old.source.origin → OnOk result (work program.now self.new < work program.now self.old) }
+        ensures fuel { OnOk result (self.new.fuel ≤ fuel_ended program.now.limits.fuel self.old.fuel self.old.source.origin) }
         ensures documents { OnOk result (documents self.new ≡ documents self.old) }
     {
         match event {
@@ -98,6 +101,7 @@ impl Run {
         requires { TakesHead program.now (Element name attrs decls first) self.old }
         ensures stands { IfOk result (λ _. IsWell program.now self.new × (self.new.doing ≡ Doing.List)) }
         ensures works { (id : ℕ) → IsBuffer id self.old.source.origin → OnOk result (work program.now self.new < work program.now self.old) }
+        ensures fuel { OnOk result (self.new.fuel ≤ fuel_ended program.now.limits.fuel self.old.fuel self.old.source.origin) }
         ensures documents { OnOk result (documents self.new ≡ documents self.old) }
     {
         self.begin(program)?;
@@ -112,6 +116,7 @@ impl Run {
         requires { TakesHead program.now (leaf_of leaf) self.old }
         ensures stands { IfOk result (λ _. IsWell program.now self.new × (self.new.doing ≡ Doing.List)) }
         ensures works { (id : ℕ) → IsBuffer id self.old.source.origin → OnOk result (work program.now self.new < work program.now self.old) }
+        ensures fuel { OnOk result (self.new.fuel ≤ fuel_ended program.now.limits.fuel self.old.fuel self.old.source.origin) }
         ensures documents { OnOk result (documents self.new ≡ documents self.old) }
     {
         self.begin(program)?;
@@ -126,6 +131,7 @@ impl Run {
         ensures well { IsWell program.now self.new }
         ensures list { self.new.doing ≡ Doing.List }
         ensures works { (id : ℕ) → IsBuffer id self.old.source.origin → work program.now self.new < work program.now self.old }
+        ensures fuel { self.new.fuel ≤ fuel_ended program.now.limits.fuel self.old.fuel self.old.source.origin }
         ensures documents { documents self.new ≡ documents self.old }
     {
         self.end_list(program);
@@ -138,6 +144,7 @@ impl Run {
         requires skipped { bodies.skipped_in (reverse self.old.frames.frames) ≡ Some depth }
         ensures stands { IfOk result (λ _. IsWell program.now self.new × (self.new.doing ≡ Doing.List)) }
         ensures works { (id : ℕ) → IsBuffer id self.old.source.origin → OnOk result (work program.now self.new < work program.now self.old) }
+        ensures fuel { OnOk result (self.new.fuel ≤ fuel_ended program.now.limits.fuel self.old.fuel self.old.source.origin) }
         ensures documents { OnOk result (documents self.new ≡ documents self.old) }
     {
         let skipped = self.pass_over(program, depth, &event);
@@ -150,6 +157,7 @@ impl Run {
         requires skipped { bodies.skipped_in (reverse self.old.frames.frames) ≡ Some depth }
         ensures stands { IfOk result (λ _. IsWell program.now self.new × (self.new.doing ≡ Doing.List)) }
         ensures works { (id : ℕ) → IsBuffer id self.old.source.origin → OnOk result (work program.now self.new < work program.now self.old) }
+        ensures fuel { OnOk result (self.new.fuel ≤ fuel_ended program.now.limits.fuel self.old.fuel self.old.source.origin) }
         ensures documents { OnOk result (documents self.new ≡ documents self.old) }
     {
         match event {
@@ -167,6 +175,7 @@ impl Run {
         requires { SkipsOn program.now (depth + 1) self.old }
         ensures stands { IfOk result (λ _. IsWell program.now self.new × (self.new.doing ≡ Doing.List)) }
         ensures works { (id : ℕ) → IsBuffer id self.old.source.origin → OnOk result (work program.now self.new < work program.now self.old) }
+        ensures fuel { OnOk result (self.new.fuel ≤ fuel_ended program.now.limits.fuel self.old.fuel self.old.source.origin) }
         ensures documents { OnOk result (documents self.new ≡ documents self.old) }
     {
         self.begin(program)?;
@@ -178,6 +187,7 @@ impl Run {
         requires { SkipsOn program.now depth self.old }
         ensures stands { IfOk result (λ _. IsWell program.now self.new × (self.new.doing ≡ Doing.List)) }
         ensures works { (id : ℕ) → IsBuffer id self.old.source.origin → OnOk result (work program.now self.new < work program.now self.old) }
+        ensures fuel { OnOk result (self.new.fuel ≤ fuel_ended program.now.limits.fuel self.old.fuel self.old.source.origin) }
         ensures documents { OnOk result (documents self.new ≡ documents self.old) }
     {
         self.begin(program)?;
@@ -189,6 +199,7 @@ impl Run {
         requires { SkipEnds program.now depth self.old }
         ensures stands { IsWell program.now self.new × (self.new.doing ≡ Doing.List) }
         ensures works { (id : ℕ) → IsBuffer id self.old.source.origin → work program.now self.new < work program.now self.old }
+        ensures fuel { self.new.fuel ≤ fuel_ended program.now.limits.fuel self.old.fuel self.old.source.origin }
         ensures documents { documents self.new ≡ documents self.old }
     {
         match depth.checked_sub(1) {
@@ -205,6 +216,7 @@ impl Run {
         requires { SkipsOn program.now depth self.old }
         ensures stands { IsWell program.now self.new × (self.new.doing ≡ Doing.List) }
         ensures works { (d : ℕ) → bodies.skipped_in (reverse self.old.frames.frames) ≡ Some d → (self.new.fuel ≡ self.old.fuel) × (burden self.new + d ≡ burden self.old + depth) }
+        ensures fuel { self.new.fuel ≡ self.old.fuel }
         ensures documents { documents self.new ≡ documents self.old }
     {
         let top = self.frames.count() - 1;
@@ -328,6 +340,7 @@ impl Run {
     fn head<S: Sink>(&mut self, program: &Program, out: &mut S) -> Result<Step, Stop>
         requires { HeadIsLooked program.now self.old }
         ensures stands { IfOk result (λ step. Follows program.now step self.new) }
+        ensures asks { IfOk result AsksNone }
         ensures works { OnOk result (Begins 5 self.old self.new) }
     {
         let over = self.head_ends_region(program)?;
@@ -374,6 +387,7 @@ impl Run {
     fn end_region(&mut self, program: &Program) -> Result<Step, Stop>
         requires { RegionIsOver program.now self.old }
         ensures stands { IfOk result (λ step. Follows program.now step self.new) }
+        ensures asks { IfOk result AsksNone }
         ensures works { OnOk result (Sheds 2 self.old self.new) }
     {
         take_off(&mut self.frames);
@@ -388,6 +402,7 @@ impl Run {
     fn list_over<S: Sink>(&mut self, program: &Program, out: &mut S) -> Result<Step, Stop>
         requires { ListIsOver program.now self.old }
         ensures stands { IfOk result (λ step. Follows program.now step self.new) }
+        ensures asks { IfOk result AsksNone }
         ensures works { OnOk result (Begins 0 self.old self.new) }
     {
         match self.frames.top() {
@@ -418,6 +433,7 @@ impl Run {
         requires over { ListIsOver program.now self.old }
         requires body { IsSome (bodies.level_in (reverse self.old.frames.frames)) }
         ensures stands { IfOk result (λ step. Follows program.now step self.new) }
+        ensures asks { IfOk result AsksNone }
         ensures works { OnOk result (Begins 0 self.old self.new) }
     {
         self.end_process(program);
@@ -429,6 +445,7 @@ impl Run {
         requires over { ListIsOver program.now self.old }
         requires skipped { IsSome (bodies.skipped_in (reverse self.old.frames.frames)) }
         ensures stands { IfOk result (λ step. Follows program.now step self.new) }
+        ensures asks { IfOk result AsksNone }
         ensures works { OnOk result (Begins 0 self.old self.new) }
     {
         take_off(&mut self.frames);
@@ -466,6 +483,7 @@ impl Run {
     pub fn leave_node(&mut self, program: &Program) -> Result<Step, Stop>
         requires { NodeIsOver program.now self.old }
         ensures stands { IfOk result (λ step. Follows program.now step self.new) }
+        ensures asks { IfOk result AsksNone }
         ensures works { OnOk result (Begins 2 self.old self.new) }
     {
         match self.source.stack.current() {
@@ -484,6 +502,7 @@ impl Run {
         requires over { NodeIsOver program.now self.old }
         requires attribute { is_attribute (current (path self.old.source.stack)) ≡ true }
         ensures stands { Follows program.now result self.new }
+        ensures asks { AsksNone result }
         ensures works { Begins 2 self.old self.new }
     {
         self.source.stack.leave_attribute();
@@ -495,6 +514,7 @@ impl Run {
         requires over { NodeIsOver program.now self.old }
         requires end { can_end (current (path self.old.source.stack)) ≡ true }
         ensures stands { Follows program.now result self.new }
+        ensures asks { AsksNone result }
         ensures works { Begins 2 self.old self.new }
     {
         let change = self.source.close(&mut self.putting.spare);

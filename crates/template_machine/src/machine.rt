@@ -1,10 +1,10 @@
 //! A run of a sheet, event by event.
 
-ghost use Rattle.std.specs.Prelude.{◌≡◌, ◌+◌, ◌<◌, ◌^◌, [], ◌∷◌, ℕ, IfOk, OnOk, List as Items};
+ghost use Rattle.std.specs.Prelude.{◌≡◌, ◌+◌, ◌<◌, ◌^◌, [], ◌∷◌, true, false, ℕ, IfOk, OnOk, List as Items};
 ghost use Rattle.sheet_model.specs.Sound.{IsSound};
-ghost use Rattle.template_machine.specs.Between.{Continues, GoesOn, IsAbsent, IsAsking, IsAskingForDocument, IsNew, IsOf, behind, depth_of, documents_of, spare_of};
-ghost use Rattle.template_machine.specs.Documents.{documents};
+ghost use Rattle.template_machine.specs.Between.{Burns, Continues, GoesOn, IsAbsent, IsAsking, IsAskingForDocument, IsNew, IsOf, behind, depth_of, documents_of, fuel_at, fuel_limit_of, fuel_of, mains_behind, mains_of, spare_of};
 ghost use Rattle.template_machine.specs.Moments.{Follows};
+ghost use Rattle.template_machine.specs.Work.{AsksNone, means_of};
 
 use crate::program::Program;
 use crate::run::{Asker, Run, Step};
@@ -37,6 +37,8 @@ impl Machine {
         ensures new { IfOk result IsNew }
         ensures runs { IfOk result (IsOf sheet limits) }
         ensures depth { IfOk result (λ m. depth_of m ≡ limits.depth) }
+        ensures fuel { IfOk result (λ m. fuel_of m ≡ limits.fuel) }
+        ensures fuel_limit { IfOk result (λ m. fuel_limit_of m ≡ limits.fuel) }
     {
         let program = Program::new(alloc, sheet, limits)?;
         let run = Run::new(alloc, &program, params)?;
@@ -51,6 +53,9 @@ impl Machine {
         ensures ended { result ≡ Turn.Ended → documents_of self.new ≡ [] }
         ensures documents { GoesOn result → documents_of self.new ≡ 1 ∷ [] }
         ensures depth { depth_of self.new ≡ depth_of self.old }
+        ensures mains { GoesOn result → mains_of self.new ≡ true ∷ [] }
+        ensures fuel { Burns result (fuel_of self.old) (fuel_of self.new) }
+        ensures fuel_limit { fuel_limit_of self.new ≡ fuel_limit_of self.old }
     {
         match self.begin(out) {
             Ok(step) => self.run.go_on_behind(&self.program, step, out),
@@ -61,7 +66,8 @@ impl Machine {
     fn begin<S: Sink>(&mut self, out: &mut S) -> Result<Step, Stop>
         requires { IsNew self.old }
         ensures follows { IfOk result (λ step. Follows self.new.program step self.new.run) }
-        ensures documents { OnOk result (documents self.new.run ≡ documents self.old.run) }
+        ensures asks { IfOk result AsksNone }
+        ensures means { OnOk result (means_of self.new.run ≡ means_of self.old.run) }
         ensures program { self.new.program ≡ self.old.program }
     {
         self.run.make_all(&self.program)?;
@@ -78,6 +84,9 @@ impl Machine {
         ensures ended { result ≡ Turn.Ended → documents_of self.new ≡ [] }
         ensures documents { GoesOn result → documents_of self.new ≡ behind event (documents_of self.old) }
         ensures depth { depth_of self.new ≡ depth_of self.old }
+        ensures mains { GoesOn result → mains_of self.new ≡ mains_behind event (mains_of self.old) }
+        ensures fuel { Burns result (fuel_at (mains_of self.old) (fuel_limit_of self.old) (fuel_of self.old)) (fuel_of self.new) }
+        ensures fuel_limit { fuel_limit_of self.new ≡ fuel_limit_of self.old }
     {
         self.run.source.count(&event);
         match self.run.arrive(&self.program, event) {
@@ -94,6 +103,9 @@ impl Machine {
         ensures ended { result ≡ Turn.Ended → documents_of self.new ≡ [] }
         ensures documents { GoesOn result → documents_of self.new ≡ 1 ∷ documents_of self.old }
         ensures depth { depth_of self.new ≡ depth_of self.old }
+        ensures mains { GoesOn result → mains_of self.new ≡ false ∷ mains_of self.old }
+        ensures fuel { Burns result (fuel_of self.old) (fuel_of self.new) }
+        ensures fuel_limit { fuel_limit_of self.new ≡ fuel_limit_of self.old }
     {
         match self.run.begin_document(&self.program) {
             Ok(()) => self.run.go_on(&self.program, out),
@@ -118,6 +130,9 @@ impl Machine {
         ensures asking { IsAsking self.old → IsAsking self.new }
         ensures documents { documents_of self.new ≡ documents_of self.old }
         ensures depth { depth_of self.new ≡ depth_of self.old }
+        ensures mains { mains_of self.new ≡ mains_of self.old }
+        ensures fuel { fuel_of self.new ≡ fuel_of self.old }
+        ensures fuel_limit { fuel_limit_of self.new ≡ fuel_limit_of self.old }
     {
         mem::swap(&mut self.run.putting.spare, spare);
     }

@@ -1,6 +1,6 @@
 //! Instructions that process nodes.
 
-ghost use Rattle.std.specs.Prelude.{◌≡◌, ◌<◌, ◌∷◌, IfOk, OnOk, length, ◌^◌};
+ghost use Rattle.std.specs.Prelude.{◌≡◌, ◌<◌, ◌∷◌, false, IfOk, OnOk, length, ◌^◌};
 ghost use Rattle.node_stack.specs.Path.{can_end, current};
 ghost use Rattle.node_stack.specs.Stack.{path};
 ghost use Rattle.template_machine.specs.Contexts.{HasForm, Single};
@@ -271,7 +271,8 @@ impl Run {
     pub fn begin_document(&mut self, program: &Program) -> Result<(), Stop>
         requires { IsWaiting program.now self.old }
         ensures stands { IfOk result (λ _. IsWell program.now self.new) }
-        ensures documents { OnOk result (documents self.new ≡ record { limit = program.now.limits.depth; lists = 1 } ∷ documents self.old) }
+        ensures fuel { OnOk result (self.new.fuel ≡ self.old.fuel) }
+        ensures documents { OnOk result (documents self.new ≡ record { main = false; limit = program.now.limits.depth; lists = 1 } ∷ documents self.old) }
     {
         let asked = self.running().pc - 1;
         let at = place_of(program.instr_asked(asked));

@@ -8,7 +8,7 @@ ghost use Rattle.stx_base.specs.declared.node.NodeTest.TheVariants.{Document};
 ghost use Rattle.node_stack.specs.Path.{document_alone};
 ghost use Rattle.node_stack.specs.Stack.{path};
 ghost use Rattle.template_machine.specs.Asking.{HasAsker, HasBase, IsAsker, IsBodyAsking, WaitsFor};
-ghost use Rattle.template_machine.specs.Between.{GoesOn};
+ghost use Rattle.template_machine.specs.Between.{Burns, GoesOn};
 ghost use Rattle.template_machine.specs.Bodies as bodies;
 ghost use Rattle.template_machine.specs.Closing.{ClosesStream, IsOpenStream};
 ghost use Rattle.template_machine.specs.Documents.{documents};
@@ -20,7 +20,7 @@ ghost use Rattle.template_machine.specs.Steps as spec;
 ghost use Rattle.template_machine.specs.Steps.{Sees};
 ghost use Rattle.template_machine.specs.Moments.{Follows, ListIsOver, WantsEvent};
 ghost use Rattle.template_machine.specs.Well.{IsWaiting, IsWell};
-ghost use Rattle.template_machine.specs.Work.{Begins, Falls, load, means_of};
+ghost use Rattle.template_machine.specs.Work.{AsksNone, Begins, Falls, load, means_of};
 ghost use Rattle.template_machine.specs.Working.{EntersSource};
 
 use crate::bindings::Change;
@@ -141,6 +141,7 @@ impl Run {
         ensures more { result ≡ Turn.More → WantsEvent program.now self.new }
         ensures want { (name : Items ℕ) → result ≡ Turn.WantDocument name → IsWaiting program.now self.new }
         ensures ended { result ≡ Turn.Ended → documents self.new ≡ [] }
+        ensures fuel { Burns result self.old.fuel self.new.fuel }
         ensures documents { GoesOn result → documents self.new ≡ documents self.old }
     {
         loop {
@@ -157,16 +158,18 @@ impl Run {
     /// Goes on behind a step.
     pub fn go_on_behind<S: Sink>(&mut self, program: &Program, step: Step, out: &mut S) -> Turn
         requires follows { Follows program.now step self.old }
+        requires asks { AsksNone step }
         requires root { 0 < length program.now.sheet.groups }
         ensures more { result ≡ Turn.More → WantsEvent program.now self.new }
         ensures want { (name : Items ℕ) → result ≡ Turn.WantDocument name → IsWaiting program.now self.new }
         ensures ended { result ≡ Turn.Ended → documents self.new ≡ [] }
+        ensures fuel { Burns result self.old.fuel self.new.fuel }
         ensures documents { GoesOn result → documents self.new ≡ documents self.old }
     {
         match step {
             Step::More => self.go_on(program, out),
             Step::Wait => Turn::More,
-            Step::Want => self.want_document(),
+            Step::Want => unreachable!(),
             Step::Over => self.finish(program, out),
         }
     }
@@ -194,6 +197,7 @@ impl Run {
         requires { 0 < length program.now.sheet.groups }
         ensures more { result ≢ Turn.More }
         ensures want { (name : Items ℕ) → result ≢ Turn.WantDocument name }
+        ensures fuel { self.new.fuel ≡ self.old.fuel }
         ensures documents { documents self.new ≡ documents self.old }
     {
         match self.putting.finish(program.group(0).at, out) {

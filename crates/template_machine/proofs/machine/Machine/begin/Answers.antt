@@ -3,9 +3,8 @@ use Rattle.node_stack.specs.Stack.{path}
 use Rattle.template_machine.specs.declared.run.Run.{Run}
 use Rattle.template_machine.proofs.Assigned.{stores_steady}
 use Rattle.template_machine.proofs.Starting.{all_bare, first_asker, first_head, first_steady, first_told, stores_head}
-use Rattle.template_machine.specs.Documents.{documents}
-use Rattle.template_machine.proofs.Documents.{same_documents}
 use Rattle.template_machine.proofs.Operating.{on_ok}
+use Rattle.template_machine.specs.Work.{means_of}
 use Rattle.template_machine.proofs.machine.Machine.begin.Goals as goal
 
 pub make_all-requires-clause-steady : goal.make_all-requires-clause-steady
@@ -32,6 +31,6 @@ take-requires-clause-asker g c =
     first_asker p t (stores_steady p r t c.in_ok-make_all.ensures (first_steady p r c.requires.ready c.requires.fresh)) (reverse t.frames.frames)
     (ap (λ (x : Run). reverse x.frames.frames) c.in_ok-make_all.ensures.rest ∙ ap reverse c.requires.fresh.frames)
 
-pub returns-clause-documents : goal.returns-clause-documents
-returns-clause-documents g c =
-    on_ok c.take.result _ _ c.take.ensures.works (λ b. same_documents c.make_all.new.self c.take.new.self b.means ∙ ap documents c.in_ok-make_all.ensures.rest)
+pub returns-clause-means : goal.returns-clause-means
+returns-clause-means g c =
+    on_ok c.take.result _ _ c.take.ensures.works (λ b. b.means ∙ ap means_of c.in_ok-make_all.ensures.rest)

@@ -1,7 +1,8 @@
 use Rattle.std.proofs.Common.{sym, ◌∙◌, ap, map, subst}
 use Rattle.template_machine.proofs.Turning.{stop_more, stop_wants, stop_ended, stop_goes}
-use Rattle.template_machine.specs.Between.{GoesOn, lists_in}
+use Rattle.template_machine.specs.Between.{GoesOn, lists_in, Burns, main_in}
 use Rattle.template_machine.proofs.Machines.{more_depths}
+use Rattle.template_machine.proofs.Spared.{stop_burns}
 use Rattle.template_machine.proofs.machine.Machine.document_opened.Goals as goal
 
 pub returns-in-Err-clause-more : goal.returns-in-Err-clause-more
@@ -39,3 +40,16 @@ returns-in-Err-clause-ended g c = λ e. absurd (stop_ended c.in-Err.stop (sym c.
 
 pub returns-in-Err-clause-documents : goal.returns-in-Err-clause-documents
 returns-in-Err-clause-documents g c = λ goes. absurd (stop_goes c.in-Err.stop (subst GoesOn c.turn.ensures goes))
+
+pub returns-in-Ok-clause-mains : goal.returns-in-Ok-clause-mains
+returns-in-Ok-clause-mains g c = λ goes. ap (map main_in) (c.go_on.ensures.documents goes ∙ c.in-Ok.ensures.documents)
+
+pub returns-in-Ok-clause-fuel : goal.returns-in-Ok-clause-fuel
+returns-in-Ok-clause-fuel g c = subst (λ k. Burns c.go_on.result k c.go_on.new.self.fuel) c.in-Ok.ensures.fuel c.go_on.ensures.fuel
+
+pub returns-in-Err-clause-fuel : goal.returns-in-Err-clause-fuel
+returns-in-Err-clause-fuel g c =
+    subst (λ t. Burns t c.args.self.now.run.fuel c.begin_document.new.self.fuel) (sym c.turn.ensures) (stop_burns c.in-Err.stop c.args.self.now.run.fuel c.begin_document.new.self.fuel)
+
+pub returns-in-Err-clause-mains : goal.returns-in-Err-clause-mains
+returns-in-Err-clause-mains g c = λ goes. absurd (stop_goes c.in-Err.stop (subst GoesOn c.turn.ensures goes))

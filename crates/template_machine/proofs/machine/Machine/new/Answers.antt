@@ -1,5 +1,5 @@
 use Rattle.template_machine.proofs.Starting.{makes_ready}
-use Rattle.std.proofs.Common.{ap}
+use Rattle.std.proofs.Common.{ap, ◌∙◌}
 use Rattle.stx_base.specs.declared.limits.Limits.{Limits}
 use Rattle.template_machine.proofs.machine.Machine.new.Goals as goal
 
@@ -18,3 +18,9 @@ returns-clause-runs c = c.in_ok-program.ensures
 
 pub returns-clause-depth : goal.returns-clause-depth
 returns-clause-depth c = ap (λ (l : Limits). l.depth) c.in_ok-program.ensures.limits_are
+
+pub returns-clause-fuel : goal.returns-clause-fuel
+returns-clause-fuel c = c.in_ok-run.ensures.fuel ∙ ap (λ (l : Limits). l.fuel) c.in_ok-program.ensures.limits_are
+
+pub returns-clause-fuel_limit : goal.returns-clause-fuel_limit
+returns-clause-fuel_limit c = ap (λ (l : Limits). l.fuel) c.in_ok-program.ensures.limits_are

@@ -1,12 +1,14 @@
-use Rattle.std.proofs.Common.{◌<◌, ◌^◌, sym, subst, arith, ◌∙◌, ◌+◌, ap, map}
+use Rattle.std.proofs.Common.{◌<◌, ◌^◌, sym, subst, arith, ◌∙◌, ◌+◌, ap, map, ◌≤◌}
 use Rattle.node_stack.specs.Stack.{path}
 use Rattle.template_machine.specs.Moments.{HasTold}
 use Rattle.template_machine.specs.declared.source.Source.{Source}
 use Rattle.template_machine.proofs.Eventful.{event_told}
 use Rattle.template_machine.proofs.Turning.{stop_more, stop_wants, stop_ended, stop_goes}
-use Rattle.template_machine.specs.Between.{GoesOn, HasDepth, depth_of, lists_in}
-use Rattle.template_machine.proofs.Machines.{event_depths, event_fits, event_lists, text_told}
+use Rattle.template_machine.specs.Between.{GoesOn, HasDepth, depth_of, lists_in, Burns, fuel_at, fuel_limit_of, fuel_of, main_in, mains_of}
+use Rattle.template_machine.proofs.Machines.{event_depths, event_fits, event_lists, text_told, event_fuel, event_mains}
 use Rattle.std.specs.Prelude.{All}
+use Rattle.template_machine.proofs.Spared.{burns_more, stop_burns}
+use Rattle.template_machine.specs.Steps.{fuel_ended}
 use Rattle.template_machine.proofs.machine.Machine.on_event.Goals as goal
 
 pub count-requires : goal.count-requires
@@ -60,3 +62,25 @@ returns-in-Err-clause-ended g c = λ e. absurd (stop_ended c.in-Err.stop (sym c.
 
 pub returns-in-Err-clause-documents : goal.returns-in-Err-clause-documents
 returns-in-Err-clause-documents g c = λ goes. absurd (stop_goes c.in-Err.stop (subst GoesOn c.turn.ensures goes))
+
+pub returns-in-Ok-clause-mains : goal.returns-in-Ok-clause-mains
+returns-in-Ok-clause-mains g c = λ goes.
+    ap (map main_in) (c.go_on.ensures.documents goes ∙ c.in-Ok.ensures.documents)
+    ∙ event_mains c.args.self.now c.args.event c.count.new.self c.requires.asking c.requires.event c.count.ensures
+
+pub returns-in-Ok-clause-fuel : goal.returns-in-Ok-clause-fuel
+returns-in-Ok-clause-fuel g c =
+    let m = c.args.self.now in
+    let from = ap (λ (x : Source). x.origin) c.count.ensures in
+    let most : c.arrive.new.self.fuel ≤ fuel_at (mains_of m) (fuel_limit_of m) (fuel_of m) =
+    subst (λ k. c.arrive.new.self.fuel ≤ k) (ap (fuel_ended (fuel_limit_of m) (fuel_of m)) from ∙ event_fuel m c.requires.asking) c.in-Ok.ensures.fuel in
+    burns_more c.go_on.result c.arrive.new.self.fuel (fuel_at (mains_of m) (fuel_limit_of m) (fuel_of m)) c.go_on.new.self.fuel most c.go_on.ensures.fuel
+
+pub returns-in-Err-clause-fuel : goal.returns-in-Err-clause-fuel
+returns-in-Err-clause-fuel g c =
+    let m = c.args.self.now in
+    let most = fuel_at (mains_of m) (fuel_limit_of m) (fuel_of m) in
+    subst (λ t. Burns t most c.arrive.new.self.fuel) (sym c.turn.ensures) (stop_burns c.in-Err.stop most c.arrive.new.self.fuel)
+
+pub returns-in-Err-clause-mains : goal.returns-in-Err-clause-mains
+returns-in-Err-clause-mains g c = λ goes. absurd (stop_goes c.in-Err.stop (subst GoesOn c.turn.ensures goes))

@@ -2,8 +2,11 @@ use Rattle.std.proofs.Common.{◌<◌, length, sym, subst, ◌∙◌, ap, map}
 use Rattle.template_machine.specs.declared.program.Program.{Program}
 use Rattle.template_machine.proofs.Starting.{ready_root}
 use Rattle.template_machine.proofs.Turning.{stop_more, stop_wants, stop_ended, stop_goes}
-use Rattle.template_machine.specs.Between.{GoesOn, lists_in}
-use Rattle.template_machine.proofs.Machines.{fresh_depths, fresh_lists}
+use Rattle.template_machine.specs.Between.{GoesOn, lists_in, Burns}
+use Rattle.template_machine.proofs.Machines.{fresh_depths, fresh_lists, fresh_mains}
+use Rattle.template_machine.proofs.Documents.{same_documents}
+use Rattle.template_machine.proofs.Spared.{stop_burns}
+use Rattle.template_machine.specs.Work.{Means}
 use Rattle.template_machine.proofs.machine.Machine.start.Goals as goal
 
 pub go_on_behind-requires-clause-root : goal.go_on_behind-requires-clause-root
@@ -21,7 +24,7 @@ returns-in-Ok-clause-more g c = λ e.
       wants = c.go_on_behind.ensures.more e;
       depths =
           fresh_depths c.args.self.now.program c.begin.new.self.program c.args.self.now.run c.go_on_behind.new.self c.requires.fresh c.begin.ensures.program
-          (c.go_on_behind.ensures.documents (subst GoesOn (sym e) tt) ∙ c.in-Ok.ensures.documents);
+          (c.go_on_behind.ensures.documents (subst GoesOn (sym e) tt) ∙ same_documents c.args.self.now.run c.begin.new.self.run c.in-Ok.ensures.means);
     }
 
 pub returns-in-Ok-clause-want : goal.returns-in-Ok-clause-want
@@ -30,7 +33,7 @@ returns-in-Ok-clause-want g c = λ name e.
       waits = c.go_on_behind.ensures.want name e;
       depths =
           fresh_depths c.args.self.now.program c.begin.new.self.program c.args.self.now.run c.go_on_behind.new.self c.requires.fresh c.begin.ensures.program
-          (c.go_on_behind.ensures.documents (subst GoesOn (sym e) tt) ∙ c.in-Ok.ensures.documents);
+          (c.go_on_behind.ensures.documents (subst GoesOn (sym e) tt) ∙ same_documents c.args.self.now.run c.begin.new.self.run c.in-Ok.ensures.means);
     }
 
 pub returns-in-Ok-clause-ended : goal.returns-in-Ok-clause-ended
@@ -38,7 +41,7 @@ returns-in-Ok-clause-ended g c = λ e. ap (map lists_in) (c.go_on_behind.ensures
 
 pub returns-in-Ok-clause-documents : goal.returns-in-Ok-clause-documents
 returns-in-Ok-clause-documents g c = λ goes.
-    fresh_lists c.args.self.now.program c.args.self.now.run c.go_on_behind.new.self c.requires.fresh (c.go_on_behind.ensures.documents goes ∙ c.in-Ok.ensures.documents)
+    fresh_lists c.args.self.now.program c.args.self.now.run c.go_on_behind.new.self c.requires.fresh (c.go_on_behind.ensures.documents goes ∙ same_documents c.args.self.now.run c.begin.new.self.run c.in-Ok.ensures.means)
 
 pub returns-in-Ok-clause-depth : goal.returns-in-Ok-clause-depth
 returns-in-Ok-clause-depth g c = ap (λ (p : Program). p.limits.depth) c.begin.ensures.program
@@ -51,3 +54,25 @@ returns-in-Err-clause-ended g c = λ e. absurd (stop_ended c.in-Err.stop (sym c.
 
 pub returns-in-Err-clause-documents : goal.returns-in-Err-clause-documents
 returns-in-Err-clause-documents g c = λ goes. absurd (stop_goes c.in-Err.stop (subst GoesOn c.turn.ensures goes))
+
+pub returns-in-Ok-clause-mains : goal.returns-in-Ok-clause-mains
+returns-in-Ok-clause-mains g c = λ goes.
+    fresh_mains c.args.self.now.program c.args.self.now.run c.go_on_behind.new.self c.requires.fresh
+    (c.go_on_behind.ensures.documents goes ∙ same_documents c.args.self.now.run c.begin.new.self.run c.in-Ok.ensures.means)
+
+pub returns-in-Ok-clause-fuel : goal.returns-in-Ok-clause-fuel
+returns-in-Ok-clause-fuel g c =
+    subst (λ k. Burns c.go_on_behind.result k c.go_on_behind.new.self.fuel) (ap (λ (m : Means). m.fuel) c.in-Ok.ensures.means) c.go_on_behind.ensures.fuel
+
+pub returns-in-Ok-clause-fuel_limit : goal.returns-in-Ok-clause-fuel_limit
+returns-in-Ok-clause-fuel_limit g c = ap (λ (p : Program). p.limits.fuel) c.begin.ensures.program
+
+pub returns-in-Err-clause-fuel_limit : goal.returns-in-Err-clause-fuel_limit
+returns-in-Err-clause-fuel_limit g c = ap (λ (p : Program). p.limits.fuel) c.begin.ensures.program
+
+pub returns-in-Err-clause-fuel : goal.returns-in-Err-clause-fuel
+returns-in-Err-clause-fuel g c =
+    subst (λ t. Burns t c.args.self.now.run.fuel c.begin.new.self.run.fuel) (sym c.turn.ensures) (stop_burns c.in-Err.stop c.args.self.now.run.fuel c.begin.new.self.run.fuel)
+
+pub returns-in-Err-clause-mains : goal.returns-in-Err-clause-mains
+returns-in-Err-clause-mains g c = λ goes. absurd (stop_goes c.in-Err.stop (subst GoesOn c.turn.ensures goes))

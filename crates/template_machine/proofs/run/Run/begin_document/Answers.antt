@@ -1,8 +1,9 @@
-use Rattle.std.proofs.Common.{◌≡◌, suc, ◌-◌, ◌∙◌, Some, ap, arith, ◌∷◌}
+use Rattle.std.proofs.Common.{◌≡◌, suc, ◌-◌, ◌∙◌, Some, ap, arith, ◌∷◌, false}
 use Rattle.template_machine.proofs.Operating.{asked_at, waiting_pc}
 use Rattle.template_machine.proofs.Within.{document_on}
 use Rattle.template_machine.specs.Documents.{documents}
 use Rattle.template_machine.proofs.Documents.{document_before}
+use Rattle.template_machine.specs.declared.run.Run.{Run}
 use Rattle.template_machine.proofs.run.Run.begin_document.Goals as goal
 
 pub running-asked-requires : goal.running-asked-requires
@@ -25,4 +26,7 @@ returns-clause-stands c =
 pub returns-clause-documents : goal.returns-clause-documents
 returns-clause-documents c =
     document_before c.args.program.now.limits.depth _ c.push.new.self c.enter_source.new.self tt c.in_ok-enter_source.ensures
-    ∙ ap (λ l. record { limit = c.args.program.now.limits.depth; lists = 1 } ∷ l) (ap documents c.in_ok-push.ensures.ok)
+    ∙ ap (λ l. record { main = false; limit = c.args.program.now.limits.depth; lists = 1 } ∷ l) (ap documents c.in_ok-push.ensures.ok)
+
+pub returns-clause-fuel : goal.returns-clause-fuel
+returns-clause-fuel c = ap (λ (x : Run). x.fuel) c.in_ok-enter_source.ensures.rest ∙ ap (λ (x : Run). x.fuel) c.in_ok-push.ensures.ok

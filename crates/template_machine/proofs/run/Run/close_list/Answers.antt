@@ -33,4 +33,4 @@ returns-in_ok-close_copy-in-Copy-clause-works g c =
 
 pub returns-in_ok-end-in-Literal-clause-works : goal.returns-in_ok-end-in-Literal-clause-works
 returns-in_ok-end-in-Literal-clause-works g c =
-    let l = c.leave_list.ensures.works in record { still = l.still; falls = l.falls }
+    let l = c.leave_list.ensures.works in record { still = l.still; spared = l.spared; falls = l.falls }

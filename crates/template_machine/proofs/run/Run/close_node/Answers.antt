@@ -7,6 +7,7 @@ use Rattle.template_machine.proofs.Overs.{goes_or_waits, node_left, some_end}
 use Rattle.template_machine.proofs.Sourcing.{has_scopes}
 use Rattle.template_machine.proofs.Lightened.{goes_on_list, load_same}
 use Rattle.template_machine.proofs.Documents.{limit_in, means_kept}
+use Rattle.template_machine.proofs.Spared.{goes_asks}
 use Rattle.template_machine.proofs.run.Run.close_node.Goals as goal
 
 pub close-change-requires-clause-scope : goal.close-change-requires-clause-scope
@@ -30,3 +31,6 @@ returns-clause-works c =
     let m = record r { source = c.close-change.new.self; putting = c.see.new.self } in
     let st = c.close-change.ensures.closed in
     goes_on_list r m c.list_goes_on.new.self c.list_goes_on.ensures.run (means_kept r m refl st.origin_is (ap limit_in st.path_is) c.close-change.ensures.counts.0 refl) (load_same r m refl st.ahead_is refl)
+
+pub returns-clause-asks : goal.returns-clause-asks
+returns-clause-asks c = goes_asks c.list_goes_on.result _ c.list_goes_on.ensures.step

@@ -79,7 +79,7 @@ returns-then-declared-clause-works c =
     let frames = ap (λ (x : Run). reverse x.frames.frames) rest ∙ c.take_off.ensures f.frame f.frames f.on_top in
     let off = load_off r m f.frame f.frames f.on_top frames (ap (λ (x : Run). x.source.ahead) rest) (ap (λ (x : Run). x.outer.items) rest) in
     begins_ok p 5 4 r m c.leave_body.new.self c.requires.op.well.steady.places (ap means_of rest)
-    (subst (λ w. load m + w ≤ load r) (ap frame_work f.body.1.1.1) off) (omega arith) c.leave_body.result c.leave_body.ensures.works
+    (subst (λ w. load m + w ≤ load r) (ap frame_work f.body.1.1.1) off) (omega arith) c.leave_body.result c.leave_body.ensures.asks c.leave_body.ensures.works
 
 pub returns-clause-works : goal.returns-clause-works
 returns-clause-works c =
@@ -89,4 +89,4 @@ returns-clause-works c =
     let m = record r { frames = c.take_off.new.frames } in
     let off = load_off r m f.frame f.frames f.on_top (c.take_off.ensures f.frame f.frames f.on_top) refl refl in
     begins_ok p 5 4 r m c.leave_body-2.new.self c.requires.op.well.steady.places refl
-    (subst (λ w. load m + w ≤ load r) (ap frame_work f.body.1.1.1) off) (omega arith) c.leave_body-2.result c.leave_body-2.ensures.works
+    (subst (λ w. load m + w ≤ load r) (ap frame_work f.body.1.1.1) off) (omega arith) c.leave_body-2.result c.leave_body-2.ensures.asks c.leave_body-2.ensures.works

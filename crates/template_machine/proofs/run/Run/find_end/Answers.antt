@@ -1,6 +1,7 @@
 use Rattle.template_machine.proofs.Lightened.{end_found}
-use Rattle.std.proofs.Common.{ap}
+use Rattle.std.proofs.Common.{ap, arith}
 use Rattle.template_machine.specs.Documents.{documents}
+use Rattle.template_machine.specs.declared.run.Run.{Run}
 use Rattle.template_machine.proofs.run.Run.find_end.Goals as goal
 
 pub returns-clause-works : goal.returns-clause-works
@@ -11,3 +12,6 @@ returns-clause-works c = λ id buffer.
 
 pub returns-clause-documents : goal.returns-clause-documents
 returns-clause-documents c = ap documents c.end_list.ensures
+
+pub returns-clause-fuel : goal.returns-clause-fuel
+returns-clause-fuel c = omega (arith, ap (λ (x : Run). x.fuel) c.end_list.ensures)

@@ -1,12 +1,12 @@
-use Rattle.std.proofs.Common.{◌≡◌}
+use Rattle.std.proofs.Common.{◌≡◌, ◌≤◌}
 use Rattle.template_machine.specs.Documents.{documents}
 use Rattle.template_machine.specs.Well.{IsWell}
 use Rattle.template_machine.specs.Work.{work}
 use Rattle.template_machine.proofs.run.Run.go_on.Given as goal
 
--- it goes on well, in the documents that were open
+-- it goes on well, in the documents that were open, and no fuel comes
 abbrev pub invariant-loop-self : goal.invariant-loop-self
-invariant-loop-self g l = IsWell l.program l.self × (documents l.self ≡ documents l.initial.self)
+invariant-loop-self g l = IsWell l.program l.self × (documents l.self ≡ documents l.initial.self) × (l.self.fuel ≤ l.initial.self.fuel)
 
 -- and each step leaves less to do
 abbrev pub decreases-loop-self : goal.decreases-loop-self

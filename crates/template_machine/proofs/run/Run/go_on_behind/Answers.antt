@@ -1,7 +1,8 @@
-use Rattle.std.proofs.Common.{sym, subst, ◌∙◌, ap, refl}
+use Rattle.std.proofs.Common.{subst, ◌∙◌, refl, arith}
 use Rattle.template_machine.specs.Moments.{Follows}
-use Rattle.template_machine.proofs.Turning.{more_wants, wanted_waits, wants_more, more_ended, wants_ended}
-use Rattle.template_machine.specs.Documents.{documents}
+use Rattle.template_machine.proofs.Turning.{more_wants, more_ended}
+use Rattle.template_machine.proofs.Spared.{burns_not}
+use Rattle.template_machine.specs.Work.{AsksNone}
 use Rattle.template_machine.proofs.run.Run.go_on_behind.Goals as goal
 
 pub go_on-requires : goal.go_on-requires
@@ -12,14 +13,6 @@ returns-in-Wait-clause-more g c = λ e. subst (λ s. Follows c.args.program.now 
 
 pub returns-in-Wait-clause-want : goal.returns-in-Wait-clause-want
 returns-in-Wait-clause-want g c = λ name e. absurd (more_wants name e)
-
-pub returns-in-Want-clause-more : goal.returns-in-Want-clause-more
-returns-in-Want-clause-more g c = λ e. absurd (wants_more _ (sym c.want_document.ensures.name ∙ e))
-
-pub returns-in-Want-clause-want : goal.returns-in-Want-clause-want
-returns-in-Want-clause-want g c = λ name e.
-    wanted_waits c.args.program.now c.args.self.now c.want_document.new.self _ c.want_document.ensures.rest
-    (subst (λ s. Follows c.args.program.now s c.args.self.now) c.in-Want.is c.requires.follows)
 
 pub returns-in-Over-clause-more : goal.returns-in-Over-clause-more
 returns-in-Over-clause-more g c = λ e. absurd (c.finish.ensures.more e)
@@ -33,15 +26,18 @@ returns-in-Wait-clause-documents g c = λ goes. refl
 pub returns-in-Wait-clause-ended : goal.returns-in-Wait-clause-ended
 returns-in-Wait-clause-ended g c = λ e. absurd (more_ended e)
 
-pub returns-in-Want-clause-documents : goal.returns-in-Want-clause-documents
-returns-in-Want-clause-documents g c = λ goes. ap documents c.want_document.ensures.rest
-
-pub returns-in-Want-clause-ended : goal.returns-in-Want-clause-ended
-returns-in-Want-clause-ended g c = λ e. absurd (wants_ended _ (sym c.want_document.ensures.name ∙ e))
-
 pub returns-in-Over-clause-documents : goal.returns-in-Over-clause-documents
 returns-in-Over-clause-documents g c = λ goes. c.finish.ensures.documents
 
 pub returns-in-Over-clause-ended : goal.returns-in-Over-clause-ended
 returns-in-Over-clause-ended g c = λ e.
     c.finish.ensures.documents ∙ subst (λ s. Follows c.args.program.now s c.args.self.now) c.in-Over.is c.requires.follows
+
+pub unreachable-requires : goal.unreachable-requires
+unreachable-requires g c = subst AsksNone c.in-Want.is c.requires.asks
+
+pub returns-in-Wait-clause-fuel : goal.returns-in-Wait-clause-fuel
+returns-in-Wait-clause-fuel g c = omega arith
+
+pub returns-in-Over-clause-fuel : goal.returns-in-Over-clause-fuel
+returns-in-Over-clause-fuel g c = burns_not c.finish.result c.args.self.now.fuel c.finish.new.self.fuel c.finish.ensures.more c.finish.ensures.want

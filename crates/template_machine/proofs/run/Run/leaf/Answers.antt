@@ -5,6 +5,7 @@ use Rattle.template_machine.proofs.Going.{if_ok}
 use Rattle.template_machine.proofs.Lightened.{node_begun, node_here}
 use Rattle.template_machine.specs.Documents.{documents}
 use Rattle.template_machine.proofs.Documents.{limit_in, sources_same}
+use Rattle.template_machine.proofs.Spared.{begun_fuel}
 use Rattle.template_machine.proofs.run.Run.leaf.Goals as goal
 use Rattle.template_machine.proofs.Shelved.{stands_still}
 
@@ -37,3 +38,9 @@ returns-clause-documents c =
     let m = c.begin.new.self in
     if_ok c.leaf.result _ _ c.leaf.ensures.ok
     (λ u st. sources_same m (record m { source = c.leaf.new.self }) st.origin_is (ap limit_in st.path_is) c.leaf.ensures.counts.0 refl ∙ ap documents c.begin.ensures.same)
+
+pub returns-clause-fuel : goal.returns-clause-fuel
+returns-clause-fuel c =
+    let r = c.args.self.now in
+    if_ok c.leaf.result _ _ c.leaf.ensures.ok
+    (λ u st. begun_fuel c.args.program.now.limits.fuel r.fuel c.begin.new.self.fuel r.source.origin c.in_ok-begin.ensures.ok)

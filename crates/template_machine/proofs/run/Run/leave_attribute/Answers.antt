@@ -6,6 +6,7 @@ use Rattle.node_stack.specs.Stack.{path}
 use Rattle.template_machine.proofs.Overs.{goes_or_waits, node_left, some_attribute}
 use Rattle.template_machine.proofs.Lightened.{goes_on_list}
 use Rattle.template_machine.proofs.Documents.{limit_in, means_kept}
+use Rattle.template_machine.proofs.Spared.{goes_asks}
 use Rattle.template_machine.proofs.run.Run.leave_attribute.Goals as goal
 use Rattle.template_machine.proofs.Shelved.{stands_still}
 
@@ -24,3 +25,6 @@ returns-clause-works c =
     let r = c.args.self.now in
     let m = record r { source = record r.source { stack = c.leave_attribute.new.self } } in
     goes_on_list r m c.list_goes_on.new.self c.list_goes_on.ensures.run (means_kept r m refl refl (ap limit_in c.leave_attribute.ensures) refl refl) refl
+
+pub returns-clause-asks : goal.returns-clause-asks
+returns-clause-asks c = goes_asks c.list_goes_on.result _ c.list_goes_on.ensures.step

@@ -28,4 +28,4 @@ overflow_add-running c = omega (arith, next_fits c.args.program.now c.args.self.
 pub returns-clause-works : goal.returns-clause-works
 returns-clause-works c =
     let l = close_works c.args.program.now c.args.self.now c.args.running c.args.number c.requires.op c.set_pc.new.self c.set_pc.ensures in
-    record { still = l.still; falls = l.falls }
+    record { still = l.still; spared = l.spared; falls = l.falls }

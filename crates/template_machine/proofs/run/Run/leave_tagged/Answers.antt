@@ -84,4 +84,4 @@ returns-clause-works g c =
     let l =
     tagged_works c.args.program.now c.args.self.now c.args.running c.args.number (take (c.len-last.result - 1)) c.requires.op c.set_pc.new.self c.cut_locals.new.self
     c.set_pc.ensures c.cut_locals.ensures in
-    record { still = l.still; falls = l.falls }
+    record { still = l.still; spared = l.spared; falls = l.falls }

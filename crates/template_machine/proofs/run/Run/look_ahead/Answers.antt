@@ -44,7 +44,7 @@ returns-in-Here-clause-works g c =
     let r = c.args.self.now in
     let m = record r { source = record r.source { ahead = ahead.Nothing } } in
     begins_ok c.args.program.now 6 5 r m c.head.new.self c.requires.well.steady.places refl
-    (known_less r m ahead.Here ahead.Nothing 6 c.in-Here.is refl refl refl refl) (omega arith) c.head.result c.head.ensures.works
+    (known_less r m ahead.Here ahead.Nothing 6 c.in-Here.is refl refl refl refl) (omega arith) c.head.result c.head.ensures.asks c.head.ensures.works
 
 pub returns-in_ok-change-in-Held-clause-works : goal.returns-in_ok-change-in-Held-clause-works
 returns-in_ok-change-in-Held-clause-works g c =
@@ -60,4 +60,4 @@ returns-in-Ended-clause-works g c =
     let r = c.args.self.now in
     let m = record r { source = record r.source { ahead = ahead.Nothing } } in
     begins_ok c.args.program.now 1 0 r m c.list_over.new.self c.requires.well.steady.places refl
-    (known_less r m ahead.Ended ahead.Nothing 1 c.in-Ended.is refl refl refl refl) (omega arith) c.list_over.result c.list_over.ensures.works
+    (known_less r m ahead.Ended ahead.Nothing 1 c.in-Ended.is refl refl refl refl) (omega arith) c.list_over.result c.list_over.ensures.asks c.list_over.ensures.works

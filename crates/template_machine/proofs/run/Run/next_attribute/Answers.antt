@@ -63,7 +63,7 @@ returns-then-next-attributes-clause-works g c =
     let n = record r { frames = c.set_next.new.self; source = record r.source { stack = c.enter_attribute.new.self } } in
     begins_ok p 8 5 r n c.take.new.self w.steady.places (means_kept r n refl refl (ap limit_in c.in_ok-enter_attribute.ensures.ok) refl refl)
     (attribute_less r n c.args.next a.asked a.frames a.is frames refl refl small) (omega arith) c.take.result
-    c.take.ensures.works
+    c.take.ensures.asks c.take.ensures.works
 
 pub returns-clause-works : goal.returns-clause-works
 returns-clause-works g c =

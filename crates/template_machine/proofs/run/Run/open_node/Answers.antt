@@ -4,6 +4,7 @@ use Rattle.template_machine.proofs.Arriving.{arrives, takes_at, takes_list, take
 use Rattle.template_machine.proofs.Lightened.{node_begun, node_here}
 use Rattle.template_machine.specs.Documents.{documents}
 use Rattle.template_machine.proofs.Documents.{limit_in, sources_same}
+use Rattle.template_machine.proofs.Spared.{begun_fuel}
 use Rattle.template_machine.proofs.run.Run.open_node.Goals as goal
 
 pub open-requires-clause-children : goal.open-requires-clause-children
@@ -43,3 +44,7 @@ returns-clause-documents c =
     let st = c.in_ok-change.ensures.ok in
     sources_same m (record m { source = c.open.new.self; putting = c.see.new.self }) st.origin_is (ap limit_in st.path_is) c.open.ensures.counts.0 refl
     ∙ ap documents c.begin.ensures.same
+
+pub returns-clause-fuel : goal.returns-clause-fuel
+returns-clause-fuel c =
+    let r = c.args.self.now in begun_fuel c.args.program.now.limits.fuel r.fuel c.begin.new.self.fuel r.source.origin c.in_ok-begin.ensures.ok

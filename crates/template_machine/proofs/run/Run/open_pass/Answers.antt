@@ -11,6 +11,7 @@ use Rattle.template_machine.proofs.Taken.{head_passes}
 use Rattle.template_machine.proofs.Tops.{top_pushed}
 use Rattle.template_machine.proofs.Ways.{way_here, way_level}
 use Rattle.template_machine.proofs.Lightened.{pushed_list}
+use Rattle.template_machine.proofs.Spared.{goes_asks}
 use Rattle.template_machine.proofs.run.Run.open_pass.Goals as goal
 use Rattle.template_machine.proofs.Shelved.{stands_still}
 
@@ -32,3 +33,6 @@ returns-clause-stands c =
 pub returns-clause-works : goal.returns-clause-works
 returns-clause-works c =
     pushed_list 5 c.args.self.now c.push.new.self c.list_goes_on.new.self (Pass c.args.base c.level.result true) c.in_ok-push.ensures.ok c.list_goes_on.ensures.run (omega arith)
+
+pub returns-clause-asks : goal.returns-clause-asks
+returns-clause-asks c = goes_asks c.list_goes_on.result _ c.list_goes_on.ensures.step

@@ -15,3 +15,6 @@ returns-clause-works c = c.pass_over-skipped.ensures.works
 
 pub returns-clause-documents : goal.returns-clause-documents
 returns-clause-documents c = c.pass_over-skipped.ensures.documents
+
+pub returns-clause-fuel : goal.returns-clause-fuel
+returns-clause-fuel c = c.pass_over-skipped.ensures.fuel

@@ -3,6 +3,7 @@ use Rattle.template_machine.specs.Moments.{SkipsOn}
 use Rattle.template_machine.proofs.Arriving.{skip_goes_on, skip_is_over, skips_at}
 use Rattle.template_machine.proofs.Lightened.{skip_ended}
 use Rattle.template_machine.specs.Documents.{documents}
+use Rattle.template_machine.specs.declared.run.Run.{Run}
 use Rattle.template_machine.proofs.run.Run.skip_end.Goals as goal
 
 pub skip_to-requires : goal.skip_to-requires
@@ -27,3 +28,6 @@ returns-in-Some-clause-works c = λ id buffer.
 
 pub returns-in-Some-clause-documents : goal.returns-in-Some-clause-documents
 returns-in-Some-clause-documents c = c.skip_to.ensures.documents ∙ ap documents c.end_list.ensures
+
+pub returns-in-Some-clause-fuel : goal.returns-in-Some-clause-fuel
+returns-in-Some-clause-fuel c = omega (arith, c.skip_to.ensures.fuel, ap (λ (x : Run). x.fuel) c.end_list.ensures)

@@ -1,7 +1,8 @@
-use Rattle.std.proofs.Common.{◌+◌, ◌∙◌, ap}
+use Rattle.std.proofs.Common.{◌+◌, ◌∙◌, ap, arith}
 use Rattle.template_machine.proofs.Arriving.{skips_at}
 use Rattle.template_machine.proofs.Lightened.{skip_begun}
 use Rattle.template_machine.specs.Documents.{documents}
+use Rattle.template_machine.proofs.Spared.{begun_fuel}
 use Rattle.template_machine.proofs.run.Run.skip_start.Goals as goal
 
 pub skip_to-requires : goal.skip_to-requires
@@ -16,3 +17,8 @@ returns-clause-works c = λ id buffer.
 
 pub returns-clause-documents : goal.returns-clause-documents
 returns-clause-documents c = c.skip_to.ensures.documents ∙ ap documents c.begin.ensures.same
+
+pub returns-clause-fuel : goal.returns-clause-fuel
+returns-clause-fuel c =
+    let r = c.args.self.now in
+    omega (arith, c.skip_to.ensures.fuel, begun_fuel c.args.program.now.limits.fuel r.fuel c.begin.new.self.fuel r.source.origin c.in_ok-begin.ensures.ok)

@@ -1,4 +1,4 @@
-use Rattle.std.proofs.Common.{◌<◌, ap, sym, subst, ◌∙◌}
+use Rattle.std.proofs.Common.{◌<◌, ap, sym, subst, ◌∙◌, ◌≤◌}
 use Rattle.event_buffers.specs.Buffers.{read_at}
 use Rattle.event_buffers.specs.Told.{IsToldAt}
 use Rattle.xml_events.specs.declared.event.Event.TheVariants as event
@@ -7,6 +7,7 @@ use Rattle.template_machine.specs.declared.source.Source.{Source}
 use Rattle.template_machine.proofs.Buffered.{buffer_fits, buffer_next, buffer_over, tells_there}
 use Rattle.template_machine.specs.Work.{work}
 use Rattle.template_machine.proofs.Documents.{buffer_counted}
+use Rattle.template_machine.proofs.Lightened.{ended_still}
 use Rattle.template_machine.proofs.run.Run.tell.Goals as goal
 
 pub event-requires-clause-id : goal.event-requires-clause-id
@@ -36,6 +37,7 @@ returns-in_ok-arrive-in-Some-clause-works c =
     let buffer = subst (λ (x : Source). IsBuffer c.args.id x.origin) (sym c.count.ensures) c.requires.buffer in
     record {
       still = c.in_ok-arrive-in-Some.ensures.documents ∙ buffer_counted r c.count.new.self c.args.id c.requires.buffer (ap (λ (x : Source). x.origin) c.count.ensures);
+      spared = subst (λ k. c.arrive.new.self.fuel ≤ k) (ended_still p.limits.fuel r.fuel c.args.id c.count.new.self.origin buffer) c.in_ok-arrive-in-Some.ensures.fuel;
       falls = subst (λ k. work p c.arrive.new.self < k) (ap (λ (x : Source). work p (record r { source = x })) c.count.ensures) (c.in_ok-arrive-in-Some.ensures.works c.args.id buffer);
     }
 
@@ -60,6 +62,7 @@ returns-in_ok-arrive-in-None-clause-works c =
     let buffer = subst (λ (x : Source). IsBuffer c.args.id x.origin) (sym c.count-in-None.ensures) c.requires.buffer in
     record {
       still = c.in_ok-arrive-in-None.ensures.documents ∙ buffer_counted r c.count-in-None.new.self c.args.id c.requires.buffer (ap (λ (x : Source). x.origin) c.count-in-None.ensures);
+      spared = subst (λ k. c.arrive-in-None.new.self.fuel ≤ k) (ended_still p.limits.fuel r.fuel c.args.id c.count-in-None.new.self.origin buffer) c.in_ok-arrive-in-None.ensures.fuel;
       falls =
           subst (λ k. work p c.arrive-in-None.new.self < k) (ap (λ (x : Source). work p (record r { source = x })) c.count-in-None.ensures)
           (c.in_ok-arrive-in-None.ensures.works c.args.id buffer);

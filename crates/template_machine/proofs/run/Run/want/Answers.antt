@@ -1,5 +1,6 @@
 use Rattle.std.proofs.Common.{refl, sym, subst}
 use Rattle.template_machine.specs.Moments.{IsBuffer, IsDocument}
+use Rattle.template_machine.proofs.Spared.{means_stay}
 use Rattle.template_machine.proofs.run.Run.want.Goals as goal
 
 pub returns-in-Main-clause-stands : goal.returns-in-Main-clause-stands
@@ -22,3 +23,9 @@ returns-in-Document-clause-stands c = record {
 
 pub tell-requires-clause-buffer : goal.tell-requires-clause-buffer
 tell-requires-clause-buffer c = subst (IsBuffer c.in-Buffer.id) (sym c.in-Buffer.is) refl
+
+pub returns-in-Main-clause-works : goal.returns-in-Main-clause-works
+returns-in-Main-clause-works c = means_stay c.args.self.now c.args.self.now refl
+
+pub returns-in-Document-clause-works : goal.returns-in-Document-clause-works
+returns-in-Document-clause-works c = means_stay c.args.self.now c.args.self.now refl
