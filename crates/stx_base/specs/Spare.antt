@@ -7,11 +7,11 @@ pub record Kept : Type 0 where
   pub texts : List ℕ
   pub lists : List ℕ
 
--- at most 64 texts of 64 to 256 bytes each, and at most 4 lists of 16 attributes each at most
+-- at most 1024 texts of 64 to 256 bytes each, and at most 64 lists of 16 attributes each at most
 abbrev pub IsBounded : Kept → Type 0
 IsBounded kept =
-    (length kept.texts ≤ 64) × All (λ room. (64 ≤ room) × (room ≤ 256)) kept.texts
-    × (length kept.lists ≤ 4) × All (λ room. room ≤ 16) kept.lists
+    (length kept.texts ≤ 1024) × All (λ room. (64 ≤ room) × (room ≤ 256)) kept.texts
+    × (length kept.lists ≤ 64) × All (λ room. room ≤ 16) kept.lists
 
 -- all but the last
 abbrev pub without_last : List ℕ → List ℕ

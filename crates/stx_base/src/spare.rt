@@ -16,16 +16,16 @@ const ROOM: usize = 64;
 const MOST_ROOM: usize = 256;
 
 /// No more texts are kept.
-const MOST: usize = 64;
+const MOST: usize = 1024;
 
 /// A list with room for more attributes is not kept.
 const MOST_ATTRS: usize = 16;
 
 /// No more lists of attributes are kept.
-const MOST_LISTS: usize = 4;
+const MOST_LISTS: usize = 64;
 
-/// Texts that are done with, and lists of attributes, kept so that the next ones need no memory of their own: 16 KiB of texts at most,
-/// and a few short lists.
+/// Texts that are done with, and lists of attributes, kept so that the next ones need no memory of their own: 256 KiB of texts at most,
+/// and some short lists.
 ///
 /// Contracts see what room is kept, which is bounded, and not what it held: that shows in nothing.
 #[derive(Debug, Drop)]

@@ -12,7 +12,7 @@ returns-then-len-lt-MOST-clause-gains c =
 pub returns-then-len-lt-MOST-clause-bounded : goal.returns-then-len-lt-MOST-clause-bounded
 returns-then-len-lt-MOST-clause-bounded c =
     let room = c.capacity-room.ensures in
-    let p = pushed_within string_capacity (λ room. (64 ≤ room) × (room ≤ 256)) 64 (is_ok c.push.result) c.self.inside.strings.items c.push.new.self.items c.into_string-string.result c.push.ensures.items
+    let p = pushed_within string_capacity (λ room. (64 ≤ room) × (room ≤ 256)) 1024 (is_ok c.push.result) c.self.inside.strings.items c.push.new.self.items c.into_string-string.result c.push.ensures.items
     (omega (arith, room, c.if-room-ge-ROOM.true), omega (arith, room, c.if-room-le-MOST_ROOM.true))
     (omega (arith, c.len.ensures, c.self.inside.strings.ok.0, c.if-len-lt-MOST.true)) c.self.invariant.1 in
     (p.0, p.1, c.self.invariant.2, c.self.invariant.3)

@@ -12,7 +12,7 @@ returns-then-len-lt-MOST_LISTS-clause-gains c =
 pub returns-then-len-lt-MOST_LISTS-clause-bounded :
     goal.returns-then-len-lt-MOST_LISTS-clause-bounded
 returns-then-len-lt-MOST_LISTS-clause-bounded c =
-    let p = pushed_within vec_capacity (λ room. room ≤ 16) 4 (is_ok c.push.result) c.self.inside.lists.items c.push.new.self.items c.args.attrs c.push.ensures.items
+    let p = pushed_within vec_capacity (λ room. room ≤ 16) 64 (is_ok c.push.result) c.self.inside.lists.items c.push.new.self.items c.args.attrs c.push.ensures.items
     (omega (arith, c.capacity.ensures, c.if-capacity-le-MOST_ATTRS.true))
     (omega (arith, c.len.ensures, c.self.inside.lists.ok.0, c.if-len-lt-MOST_LISTS.true)) c.self.invariant.3 in
     (c.self.invariant.0, c.self.invariant.1, p.0, p.1)
