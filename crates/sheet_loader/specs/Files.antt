@@ -142,7 +142,7 @@ module _ (among : Language) (reads : Reads) (limits : Limits) (docs : Documents)
 
   -- what comes of the files so far: where another one is wanted it is opened, and all is read again; no more are opened than this
   abbrev pub load_from : (most : ℕ) → List Opened → Loads
-  load_from zero opened = no_end opened []
+  load_from zero opened = no_end opened (map (λ o. o.name) opened)
   load_from (suc most) opened = by_answer (load_from most) opened (outcome reads name (map file_of opened))
 
   -- the sheet of a name, or its first fault, and the names that are opened: each file that is read whole takes a byte of the limit at least
