@@ -19,6 +19,8 @@ pub mod Stepping
 pub mod Coded
 pub mod Executed
 pub mod RunByCode
+pub mod Stilled
+pub mod Unseen
 pub mod Stopping
 pub mod Arms
 pub mod Around

@@ -38,6 +38,7 @@ pub mod Steps
 pub mod Deep
 pub mod Sections
 pub mod Well
+pub mod Still
 pub mod Moments
 pub mod Puts
 pub mod Made

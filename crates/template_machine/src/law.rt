@@ -11,6 +11,7 @@ ghost use Rattle.template_machine.specs.Outcome.{AreNew, outcome};
 ghost use Rattle.template_machine.specs.Passed.{PassesThrough};
 ghost use Rattle.template_machine.specs.Resuming.{Resumes};
 ghost use Rattle.template_machine.specs.Rows.{Again, Assigned, Attributes, Buffered, EachItem, LastOfTwo, Nested, Sections, Twice};
+ghost use Rattle.template_machine.specs.Still.{JumpsGoOn, NamedAreSeen, OperationsGoOn};
 ghost use Rattle.template_machine.specs.Stopping.{Broken, BrokenOther, Busy, ByKinds, Categories, Crowded, EnoughSources, Full, Going, Gone, Late, LeftOpen, NoDocument, OpenCopy, OtherDocument, Outermost, Parted, PassedOver, ReadSpent, Renewed, Short, TooManySources, Unmatched, Waits};
 ghost use Rattle.xml_events.specs.Tree.{Forest};
 
@@ -62,6 +63,13 @@ pub fn by_code()
 /// Each thing that is done is done by going on with what waits.
 pub fn resuming()
     ensures { (given : Given) → Resumes given }
+{}
+
+/// An operation of a body's code goes on with what the run still does behind it.
+pub fn operating()
+    ensures operations { OperationsGoOn }
+    ensures jumps { JumpsGoOn }
+    ensures seen { NamedAreSeen }
 {}
 
 /// What small sheets make of small documents.
