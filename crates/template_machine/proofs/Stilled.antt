@@ -23,7 +23,8 @@ use Rattle.template_machine.specs.Job.{Given, Here, State}
 use Rattle.template_machine.specs.Lists.{rest_of}
 use Rattle.instr_code.specs.Running.{At, as_flat, go_on, operated, start_of}
 use Rattle.template_machine.specs.Still as still
-use Rattle.template_machine.specs.Still.{Goes, JumpsGoOn, OperationsGoOn, Runs, Scene, below_loops, first_node}
+use Rattle.template_machine.specs.Still.{Goes, Runs, Scene, below_loops, first_node}
+use Rattle.template_machine.specs.GoingOn.{JumpsGoOn, OperationsGoOn}
 use Rattle.template_machine.specs.Stepwise.{Flat_does, Working, flat_code, steps_of}
 use Rattle.template_machine.specs.Well.{is_again}
 use Rattle.template_machine.specs.declared.program.Program.{Program}

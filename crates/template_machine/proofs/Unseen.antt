@@ -6,7 +6,8 @@ use Rattle.stx_base.specs.declared.name.Name.{Name}
 use Rattle.frame_stack.specs.declared.locals.Local.{Local}
 use Rattle.result_writer.specs.Allowed.{is_empty}
 use Rattle.template_machine.specs.Seen.{bounds_of}
-use Rattle.template_machine.specs.Still.{NamedAreSeen, named_of}
+use Rattle.template_machine.specs.Still.{named_of}
+use Rattle.template_machine.specs.GoingOn.{NamedAreSeen}
 use Rattle.var_store.specs.Variables.{bound, is_called}
 use Rattle.var_store.specs.declared.bound.Bound.{Bound}
 

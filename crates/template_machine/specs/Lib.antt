@@ -39,6 +39,7 @@ pub mod Deep
 pub mod Sections
 pub mod Well
 pub mod Still
+pub mod GoingOn
 pub mod Moments
 pub mod Puts
 pub mod Made

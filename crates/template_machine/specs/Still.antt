@@ -1,15 +1,13 @@
 -- What a run still does on what is still to come: a function of its frames, of what they stand on, and of a future.
-use Rattle.std.specs.Prelude.{◌≡◌, ℕ, zero, suc, ◌+◌, ◌-◌, ◌==◌, Bool, true, false, if◌then◌else◌, ◌||◌, not, List, [], ◌∷◌, ◌++◌, Option, Some, None, filter, length, map, take, drop, reverse, slice_get, unwrap_or}
+use Rattle.std.specs.Prelude.{ℕ, zero, suc, ◌+◌, ◌-◌, ◌==◌, Bool, true, if◌then◌else◌, ◌||◌, not, List, [], ◌∷◌, ◌++◌, Option, Some, None, filter, length, map, take, drop, reverse, slice_get, unwrap_or}
 use Rattle.std.specs.Option.{option_map, option_map_or}
 use Rattle.stx_base.specs.Course.{Ret, Halt, Ask, Same, says}
-use Rattle.stx_base.specs.declared.name.Name.{Name}
 use Rattle.stx_base.specs.declared.node.NodeTest.{NodeTest}
 use Rattle.stx_base.specs.declared.node.NodeTest.TheVariants as test
 use Rattle.frame_stack.specs.declared.frame.Frame.{Frame}
 use Rattle.frame_stack.specs.declared.frame.Frame.TheVariants.{Body, Call, Attributes, Loop, Region, Source as Source_frame, Skip, Pass}
 use Rattle.frame_stack.specs.declared.locals.Local.{Local}
-use Rattle.frame_stack.specs.Change.{locals_of, with_locals, with_pc}
-use Rattle.frame_stack.specs.Stack.{FrameStack}
+use Rattle.frame_stack.specs.Change.{locals_of}
 use Rattle.instr_code.specs.Code.{code_of}
 use Rattle.instr_code.specs.Running.{At, as_flat, go_on, operated, start_of}
 use Rattle.instr_code.specs.Running as running
@@ -19,22 +17,20 @@ use Rattle.node_stack.specs.Stack.{path, path_node}
 use Rattle.result_writer.specs.Allowed.{is_empty}
 use Rattle.result_writer.specs.Target.{Left}
 use Rattle.instr_code.specs.declared.code.Op.{Op}
-use Rattle.instr_code.specs.declared.code.Op.TheVariants as op
 use Rattle.sheet_model.specs.Parts.{handed, place}
 use Rattle.sheet_model.specs.declared.instr.Instr.{Instr}
 use Rattle.sheet_model.specs.declared.instr.Instr.TheOpen.{Instr-F}
 use Rattle.sheet_model.specs.declared.instr.Instr.TheViews.{out-Instr}
 use Rattle.sheet_model.specs.declared.instr.WithParam.{WithParam}
 use Rattle.sheet_model.specs.declared.sheet.Template.{Template}
-use Rattle.var_store.specs.Copies.{Stored}
-use Rattle.var_store.specs.Variables.{bound, value_of}
+use Rattle.var_store.specs.Variables.{bound}
 use Rattle.stxpath_values.specs.declared.value.Atom.{Atom}
 use Rattle.var_store.specs.declared.bound.Bound.{Bound}
 use Rattle.xml_events.specs.Document.{inner, outer}
 use Rattle.xml_events.specs.Tree as tree
 use Rattle.xml_events.specs.Tree.{Forest, Future, End, Begun, Entered}
 use Rattle.template_machine.specs.Acting.{condition, ends_reading}
-use Rattle.template_machine.specs.Bodies.{active_in, level_of, on_body, pc_in, pc_of, spent_in}
+use Rattle.template_machine.specs.Bodies.{active_in, level_of, spent_in}
 use Rattle.template_machine.specs.Declaring.{ends_scope}
 use Rattle.template_machine.specs.Ending.{Said}
 use Rattle.template_machine.specs.Fuel as fuel
@@ -45,14 +41,13 @@ use Rattle.template_machine.specs.Meaning.{ending_of}
 use Rattle.template_machine.specs.Passing as passing
 use Rattle.template_machine.specs.Programs.{instr_at, link_at}
 use Rattle.template_machine.specs.Putting.{puts}
-use Rattle.template_machine.specs.Seen.{bounds_of, local_of}
+use Rattle.template_machine.specs.Seen.{bounds_of}
 use Rattle.template_machine.specs.Steps.{group_of, test_in}
 use Rattle.template_machine.specs.Stepwise.{Flat_does, Working, flat_code, lifted, steps_of}
 use Rattle.template_machine.specs.Trail.{Trail, stand}
 use Rattle.template_machine.specs.Well.{is_again}
 use Rattle.template_machine.specs.declared.program.Link.{Link}
 use Rattle.template_machine.specs.declared.program.Program.{Program}
-use Rattle.template_machine.specs.declared.putting.Putting.{Putting}
 use Rattle.template_machine.specs.declared.run.Doing.{Doing}
 use Rattle.template_machine.specs.declared.run.Doing.TheVariants as doing
 use Rattle.template_machine.specs.declared.run.Run.{Run}
@@ -391,31 +386,3 @@ module _ (given : Given) (p : Program) where
   -- What a method does, where it goes on: what was said before, and then what the run did still, is what has been said, and then what it does.
   pub record Goes (old : Run) (left : Left) (before : List Said) (new : Run) (left_now : Left) (after : List Said) : Type 0 where
     pub law : (f : Future) → Same (flat_code given) (says before (still old left f)) (says after (still new left_now f))
-
--- A jump in a body's code goes on with what the run still does.
-abbrev pub JumpsGoOn : Type 0
-JumpsGoOn =
-    (given : Given) (p : Program) (r : Run) (frames : FrameStack) (pc to : ℕ)
-    → r.doing ≡ doing.Body → reverse frames.frames ≡ on_body (with_pc to) (reverse r.frames.frames) → pc_in (reverse r.frames.frames) ≡ Some pc
-    → slice_get (code_of given.sheet).ops pc ≡ Some (op.Jump to)
-    → (left : Left) (said : List Said) → Goes given p r left said (record r { frames = frames }) left said
-
--- An operation of a body says something and goes on at another place of its code: so the run goes on that has the body's frame there, with
--- the locals, the loops and the state that are left.
-abbrev pub OperationsGoOn : Type 0
-OperationsGoOn =
-    (given : Given) (p : Program) (r : Run) (frames : FrameStack) (store : Stored) (putting : Putting) (units : ℕ)
-    (b : Frame) (fs : List Frame) (pc to : ℕ) (o : Op) (locals : List Local) (turns turns_now : List ℕ) (left left_now : Left) (said more : List Said)
-    → let s = record r { frames = frames; store = store; putting = putting; fuel = units } in
-    let moved = with_locals (λ l. locals) (with_pc to b) in
-    let c = scene_by given p r.source.ahead r in
-    r.doing ≡ doing.Body → reverse r.frames.frames ≡ below_loops turns (b ∷ fs) → reverse frames.frames ≡ below_loops turns_now (moved ∷ fs)
-    → pc_of b ≡ Some pc → slice_get (code_of given.sheet).ops pc ≡ Some o
-    → ((a : Here) → a.state ≡ state_of given p r left
-    → operates given p o pc (working_in given p turns b fs c a)
-    ≡ says more (go_on (steps_of given) to (working_in given p turns_now moved fs c (record a { state = state_of given p s left_now }))))
-    → Goes given p r left said s left_now (said ++ more)
-
--- Under a name that has a local part the locals with a name are seen, and no others.
-abbrev pub NamedAreSeen : Type 0
-NamedAreSeen = (name : Name) (locals : List Local) → is_empty name.local ≡ false → value_of name (named_of locals) ≡ local_of name locals

@@ -4,6 +4,7 @@ ghost use Rattle.std.specs.Prelude.{◌≡◌, ◌↔◌, List};
 ghost use Rattle.stx_base.specs.Course.{Ends, Over};
 ghost use Rattle.template_machine.specs.Copies.{CopiesAll, CopiesNothing, CopiesTexts};
 ghost use Rattle.template_machine.specs.Ending.{Said, Ending};
+ghost use Rattle.template_machine.specs.GoingOn.{JumpsGoOn, NamedAreSeen, OperationsGoOn};
 ghost use Rattle.template_machine.specs.Job.{Given};
 ghost use Rattle.template_machine.specs.Laws.{AskingIsOpen, BodiesRunByCode, GoesOnByCode, KeepsLocals, PassesAsBefore, PositionsCountEarlier, SkipsSilently};
 ghost use Rattle.template_machine.specs.Meaning.{code, meaning};
@@ -11,7 +12,6 @@ ghost use Rattle.template_machine.specs.Outcome.{AreNew, outcome};
 ghost use Rattle.template_machine.specs.Passed.{PassesThrough};
 ghost use Rattle.template_machine.specs.Resuming.{Resumes};
 ghost use Rattle.template_machine.specs.Rows.{Again, Assigned, Attributes, Buffered, EachItem, LastOfTwo, Nested, Sections, Twice};
-ghost use Rattle.template_machine.specs.Still.{JumpsGoOn, NamedAreSeen, OperationsGoOn};
 ghost use Rattle.template_machine.specs.Stopping.{Broken, BrokenOther, Busy, ByKinds, Categories, Crowded, EnoughSources, Full, Going, Gone, Late, LeftOpen, NoDocument, OpenCopy, OtherDocument, Outermost, Parted, PassedOver, ReadSpent, Renewed, Short, TooManySources, Unmatched, Waits};
 ghost use Rattle.xml_events.specs.Tree.{Forest};
 
