@@ -1,5 +1,5 @@
 -- What a run says that asks for bytes, and one that is over.
-use Rattle.std.proofs.Common.{◌≡◌, ℕ, true, false, List, [], ◌∷◌, ◌++◌, Option, Some, None, IsSome, is_none, map, reverse, refl, sym, ap, subst, ◌∙◌, append_assoc, append-nil}
+use Rattle.std.proofs.Common.{◌≡◌, ◌≤◌, suc, cond, arith, ℕ, true, false, List, [], ◌∷◌, ◌++◌, Option, Some, None, IsSome, is_none, map, reverse, refl, sym, ap, subst, ◌∙◌, append_assoc, append-nil}
 use Rattle.stx_base.specs.Course.{Begins}
 use Rattle.stx_base.specs.declared.fault.RunCode.TheVariants.{NoDocument}
 use Rattle.stx_base.specs.declared.fault.RunFault.{RunFault}
@@ -20,16 +20,17 @@ use Rattle.run_engine.specs.declared.piece.Piece.{Piece}
 use Rattle.run_engine.specs.declared.piece.Piece.TheVariants as piece
 use Rattle.run_engine.specs.declared.piece.Pumped.{Pumped}
 use Rattle.run_engine.specs.declared.piece.Pumped.TheVariants as pumped
-use Rattle.run_engine.specs.inside.Cores.{Answers, HasFault, IsFed, IsSame, Reads, Waits, documents_in, is_main, open_of, opens_of, run_of, stage_of}
+use Rattle.run_engine.specs.inside.Cores.{Answers, HasFault, IsFed, IsSame, Reads, Waits, asks_asked, asks_of, documents_in, is_main, open_of, opens_of, run_of, stage_of}
+use Rattle.run_engine.proofs.Counting.{fewer-then}
 use Rattle.run_engine.proofs.Pulled.{documents-read}
 use Rattle.run_engine.proofs.Taking.{takes-from, takes-then, took-same}
 
 -- a run reads on, whatever it says
 pub reads-at : (c : Core) (s : own.Stage) → Reads c → Reads (record c { stage = s })
 reads-at c s r = record {
-  steady = record { bare = r.steady.bare; depth = r.steady.depth };
+  steady = record { bare = r.steady.bare; depth = r.steady.depth; fuel = r.steady.fuel };
   asking = r.asking;
-  tied = record { lists = r.tied.lists; readable = r.tied.readable };
+  tied = record { lists = r.tied.lists; mains = r.tied.mains; readable = r.tied.readable };
 }
 
 main-unnamed : (name : Option (List ℕ)) → is_none name ≡ true → name ≡ None
@@ -43,7 +44,7 @@ other-named (Some n) h = refl
 pub opens-read : (c : Core) (d : Document) → c.newest ≡ Some d → map open_of (documents_in c) ≡ open_of d ∷ map open_of (reverse c.outer.items)
 opens-read c d h = ap (map open_of) (documents-read c d h)
 
-pub asks-main : (c : Core) → Reads c → IsFed c → is_main c.newest ≡ true → Answers c pumped.Main (record c { stage = stage.Main })
+pub asks-main : (c : Core) → Reads c → IsFed c → is_main c.newest ≡ true → Answers (asks_asked c) c pumped.Main (record c { stage = stage.Main })
 asks-main c r f m = record {
   says = refl;
   sound = record {
@@ -52,9 +53,10 @@ asks-main c r f m = record {
   };
   same = record { files = refl; limits = refl; strip = refl; cdata = refl };
   took = took-same (opens_of c);
+  asks = tt;
 }
 
-pub asks-other : (c : Core) → Reads c → IsFed c → is_main c.newest ≡ false → Answers c pumped.Document (record c { stage = stage.Document })
+pub asks-other : (c : Core) → Reads c → IsFed c → is_main c.newest ≡ false → Answers (asks_asked c) c pumped.Document (record c { stage = stage.Document })
 asks-other c r f m = record {
   says = refl;
   sound = record {
@@ -63,29 +65,32 @@ asks-other c r f m = record {
   };
   same = record { files = refl; limits = refl; strip = refl; cdata = refl };
   took = took-same (opens_of c);
+  asks = subst (λ b. asks_of c ≤ cond b 0 (asks_of c)) (sym m) (omega arith);
 }
 
 -- a run stops, and says why
-pub stopped-so : (old new : Core) (p : Pumped) (o : Outcome) → p ≡ pumped.Stopped → new ≡ record old { stage = stage.Over o } → CanStop o → EndsBy o old.files (opens_of old) → Answers old p new
+pub stopped-so : (old new : Core) (p : Pumped) (o : Outcome) → p ≡ pumped.Stopped → new ≡ record old { stage = stage.Over o } → CanStop o → EndsBy o old.files (opens_of old) → Answers 0 old p new
 stopped-so old new p o is becomes can ends =
-    subst (λ x. Answers old x new) (sym is)
-    (subst (Answers old pumped.Stopped) (sym becomes)
+    subst (λ x. Answers 0 old x new) (sym is)
+    (subst (Answers 0 old pumped.Stopped) (sym becomes)
     (record {
       says = (o, (refl, can));
       sound = record { sound = tt; stands = ends };
       same = record { files = refl; limits = refl; strip = refl; cdata = refl };
       took = takes-from (spec.Over o) (opens_of old) (opens_of old) (took-same (opens_of old));
+      asks = tt;
     }))
 
-pub lacks : (old new : Core) (p : Pumped) → p ≡ pumped.Stopped → new ≡ record old { stage = stage.Over ended.Memory } → Answers old p new
+pub lacks : (old new : Core) (p : Pumped) → p ≡ pumped.Stopped → new ≡ record old { stage = stage.Over ended.Memory } → Answers 0 old p new
 lacks old new p is becomes = stopped-so old new p ended.Memory is becomes tt tt
 
-pub ends : (old : Core) → documents_in old ≡ [] → Answers old pumped.Done (record old { stage = stage.Over ended.Done })
+pub ends : (old : Core) → documents_in old ≡ [] → Answers 0 old pumped.Done (record old { stage = stage.Over ended.Done })
 ends old none = record {
   says = refl;
   sound = record { sound = tt; stands = ap (map open_of) none };
   same = record { files = refl; limits = refl; strip = refl; cdata = refl };
   took = took-same (opens_of old);
+  asks = tt;
 }
 
 pub some-same : (x y : Document) → Some x ≡ Some y → x ≡ y
@@ -97,19 +102,20 @@ faults c fault file d h is named =
     subst (IsFaulty file fault) (sym (opens-read c h.0 h.1.0)) (named ∙ ap (λ (x : Document). file_of x.name) (some-same d h.0 (sym is ∙ h.1.0)), h.1.1)
 
 -- a run asks for a document
-pub wants : (c : Core) (name wanted : List ℕ) → Waits c → wanted ≡ name → Answers c (pumped.Open name) (record c { stage = stage.Wants wanted })
+pub wants : (c : Core) (name wanted : List ℕ) → Waits c → wanted ≡ name → Answers (suc (asks_of c)) c (pumped.Open name) (record c { stage = stage.Wants wanted })
 wants c name wanted w is = record {
   says = ap spec.Wants is;
   sound = record {
     sound = record {
-      steady = record { bare = w.steady.bare; depth = w.steady.depth };
+      steady = record { bare = w.steady.bare; depth = w.steady.depth; fuel = w.steady.fuel };
       asking = w.asking;
-      tied = record { lists = w.tied.lists; readable = w.tied.readable };
+      tied = record { lists = w.tied.lists; mains = w.tied.mains; readable = w.tied.readable };
     };
     stands = tt;
   };
   same = record { files = refl; limits = refl; strip = refl; cdata = refl };
   took = took-same (opens_of c);
+  asks = omega arith;
 }
 
 pub same-same : (c : Core) → IsSame c c
@@ -119,12 +125,14 @@ pub same-then : (a b c : Core) → IsSame a b → IsSame b c → IsSame a c
 same-then a b c h k = record { files = k.files ∙ h.files; limits = k.limits ∙ h.limits; strip = k.strip ∙ h.strip; cdata = k.cdata ∙ h.cdata }
 
 -- what a later state answers is an answer of the earlier one
-pub answers-then : (old mid new : Core) (p : Pumped) → IsSame old mid → Took (opens_of old) (opens_of mid) → Answers mid p new → Answers old p new
-answers-then old mid new p same took a = record {
+pub answers-then :
+    (most wider : ℕ) (old mid new : Core) (p : Pumped) → most ≤ wider → IsSame old mid → Took (opens_of old) (opens_of mid) → Answers most mid p new → Answers wider old p new
+answers-then most wider old mid new p le same took a = record {
   says = a.says;
   sound = a.sound;
   same = same-then old mid new same a.same;
   took = takes-then (stage_of new.stage) (opens_of old) (opens_of mid) (opens_of new) took a.took;
+  asks = fewer-then (stage_of new.stage) most wider (asks_of new) le a.asks;
 }
 
 same-fault : (f g : RunFault) → turn.Stopped f ≡ turn.Stopped g → f ≡ g

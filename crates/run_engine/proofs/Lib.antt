@@ -3,6 +3,7 @@ pub mod Pulled
 pub mod Turning
 pub mod Feeding
 pub mod Taking
+pub mod Counting
 pub mod Asking
 pub mod SectionForms
 pub mod Sections

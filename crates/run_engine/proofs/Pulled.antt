@@ -1,5 +1,5 @@
 -- What an answer of the newest document leaves.
-use Rattle.std.proofs.Common.{◌≡◌, ◌≢◌, ◌<◌, ℕ, Bool, false, List, [], ◌∷◌, ◌++◌, Option, Some, None, length, map, reverse, refl, sym, ap, subst, ◌∙◌, arith}
+use Rattle.std.proofs.Common.{◌≡◌, ◌≢◌, ◌<◌, ℕ, Bool, false, List, [], ◌∷◌, ◌++◌, Option, Some, None, length, map, reverse, refl, sym, ap, subst, ◌∙◌, arith, is_none}
 use Rattle.stx_base.specs.declared.limits.Limits.{Limits}
 use Rattle.stx_base.specs.declared.fault.XmlFault.{XmlFault}
 use Rattle.xml_tokens.specs.declared.lexeme.Ending.{Ending}
@@ -9,17 +9,18 @@ use Rattle.xml_events.specs.Telling.{followed, pulled}
 use Rattle.xml_events.specs.declared.event.Event.{Event}
 use Rattle.xml_events.specs.declared.event.Event.TheVariants as event
 use Rattle.xml_events.specs.declared.event.Pull.TheVariants as pull
-use Rattle.template_machine.specs.Between.{Continues, EndsInnermost, IsAsking, HasRoom, behind, depth_of, documents_of}
+use Rattle.template_machine.specs.Between.{Continues, EndsInnermost, IsAsking, HasRoom, behind, depth_of, documents_of, fuel_at, fuel_limit_of, fuel_of, mains_behind, mains_of}
 use Rattle.template_machine.specs.declared.machine.Machine.{Machine}
 use Rattle.run_engine.specs.Fitting.{Fits}
 use Rattle.run_engine.specs.declared.run.Core.{Core}
 use Rattle.run_engine.specs.declared.document.Document.{Document}
-use Rattle.run_engine.specs.inside.Cores.{AreReadable, EndsBefore, HasFault, HasTold, IsFed, IsReadable, Pulls, Reads, documents_behind, documents_in, lists_of, lists_open, open_of, opened, opens_of, work, work_in}
+use Rattle.run_engine.specs.inside.Cores.{AreReadable, EndsBefore, HasFault, HasTold, IsFed, IsReadable, Pulls, Reads, documents_behind, documents_in, lists_of, lists_open, open_of, opened, opens_of, work, work_in, mains_in}
 use Rattle.xml_events.specs.declared.event.Pull.{Pull}
 use Rattle.run_engine.specs.Run.{IsHungry, Open}
 use Rattle.run_engine.specs.Taking.{AreEnded, AreReadOn, IsReadOn, Took}
 use Rattle.run_engine.proofs.Taking.{all-same}
 use Rattle.run_engine.proofs.Telling.{fits-few, told-ends, told-fits, told-room, told-text}
+use Rattle.run_engine.proofs.Counting.{fuel-front}
 
 pub none-some : {A : Type 0} (x : Option A) (a : A) → x ≡ Some a → x ≡ None → ⊥
 none-some x a h k = absurd cc
@@ -79,18 +80,37 @@ module _ (old new : Core) (e : Event) (r : Reads old) (p : Pulls old (pull.Event
       continues new.machine old.limits.depth e p.before.reader p.after.reader (lists_of (reverse old.outer.items)) (p.depth ∙ r.steady.depth) machine-lists were.0 p.answer p.leaves
       (rest-room old.limits.depth (reverse old.outer.items) were.1)
 
+  machine-mains : mains_of new.machine ≡ is_none p.before.name ∷ mains_in (reverse old.outer.items)
+  machine-mains = p.mains ∙ r.tied.mains ∙ ap mains_in before-list
+
+  fuel-is : fuel_limit_of new.machine ≡ new.limits.fuel
+  fuel-is = p.fuel_limit ∙ r.steady.fuel ∙ sym (ap (λ (l : Limits). l.fuel) p.own.limits)
+
+  renewed : fuel_at (mains_of new.machine) new.limits.fuel (fuel_of new.machine) ≡ fuel_at (mains_in (opened new.newest)) new.limits.fuel (fuel_of new.machine)
+  renewed =
+      ap (λ ms. fuel_at ms new.limits.fuel (fuel_of new.machine)) machine-mains
+      ∙ fuel-front (is_none p.before.name) (mains_in (reverse old.outer.items)) new.limits.fuel (fuel_of new.machine)
+      ∙ ap (λ n. fuel_at (is_none n ∷ []) new.limits.fuel (fuel_of new.machine)) (sym p.name)
+      ∙ sym (ap (λ o. fuel_at (mains_in (opened o)) new.limits.fuel (fuel_of new.machine)) p.is)
+
   depth-is : depth_of new.machine ≡ new.limits.depth
   depth-is = p.depth ∙ r.steady.depth ∙ sym (ap (λ (l : Limits). l.depth) p.own.limits)
 
   goes-on :
       documents_behind e new ≡ documents_in new
       → ((n : ℕ) (ns : List ℕ) → behind e (n ∷ ns) ≡ lists_behind e n ∷ ns)
+      → ((m : Bool) (ms : List Bool) → mains_behind e (m ∷ ms) ≡ m ∷ ms)
       → ((o : Option Ending) → OverBehind e o → o ≡ None)
       → EndsBefore e new
       → HasTold e new
-  goes-on db bh ov w = record {
+  goes-on db bh mh ov w = record {
     bare = λ h. absurd (none-some new.newest p.after p.is h);
     depth = depth-is;
+    fuel = fuel-is;
+    renews = renewed;
+    mains =
+        ap (mains_behind e) machine-mains ∙ mh (is_none p.before.name) (mains_in (reverse old.outer.items))
+        ∙ ap (λ n. is_none n ∷ mains_in (reverse old.outer.items)) (sym p.name) ∙ sym (ap mains_in (db ∙ after-list));
     asking = p.asking;
     continues = may-continue;
     whole = w;
@@ -103,10 +123,15 @@ module _ (old new : Core) (e : Event) (r : Reads old) (p : Pulls old (pull.Event
   }
 
   -- where the newest document has ended, those around it are left
-  ends : documents_behind e new ≡ reverse new.outer.items → ((n : ℕ) (ns : List ℕ) → behind e (n ∷ ns) ≡ ns) → EndsBefore e new → HasTold e new
-  ends db bh w = record {
+  ends : documents_behind e new ≡ reverse new.outer.items → ((n : ℕ) (ns : List ℕ) → behind e (n ∷ ns) ≡ ns) → ((m : Bool) (ms : List Bool) → mains_behind e (m ∷ ms) ≡ ms) → EndsBefore e new → HasTold e new
+  ends db bh mh w = record {
     bare = λ h. absurd (none-some new.newest p.after p.is h);
     depth = depth-is;
+    fuel = fuel-is;
+    renews = renewed;
+    mains =
+        ap (mains_behind e) machine-mains ∙ mh (is_none p.before.name) (mains_in (reverse old.outer.items))
+        ∙ sym (ap mains_in (db ∙ ap reverse p.outer));
     asking = p.asking;
     continues = may-continue;
     whole = w;
@@ -124,13 +149,13 @@ module _ (old new : Core) (e : Event) (r : Reads old) (p : Pulls old (pull.Event
 
 -- an event of the newest document may be handed on
 pub told : (old new : Core) (e : Event) → Reads old → Pulls old (pull.Event e) new → HasTold e new
-told old new (event.Start offset name attrs decls first) r p = goes-on old new (event.Start offset name attrs decls first) r p refl (λ n ns. refl) (λ o h. h) tt
-told old new (event.End offset) r p = goes-on old new (event.End offset) r p refl (λ n ns. refl) (λ o h. h) tt
-told old new (event.Chars offset text) r p = goes-on old new (event.Chars offset text) r p refl (λ n ns. refl) (λ o h. h) tt
-told old new (event.CData offset text) r p = goes-on old new (event.CData offset text) r p refl (λ n ns. refl) (λ o h. h) tt
-told old new (event.Comment offset text) r p = goes-on old new (event.Comment offset text) r p refl (λ n ns. refl) (λ o h. h) tt
-told old new (event.Pi offset target text) r p = goes-on old new (event.Pi offset target text) r p refl (λ n ns. refl) (λ o h. h) tt
-told old new (event.DocumentEnd offset) r p = ends old new (event.DocumentEnd offset) r p refl (λ n ns. refl) (subst (λ o. AreEnded (map open_of (opened o))) (sym p.is) (p.ended ∙ p.whole, tt))
+told old new (event.Start offset name attrs decls first) r p = goes-on old new (event.Start offset name attrs decls first) r p refl (λ n ns. refl) (λ m ms. refl) (λ o h. h) tt
+told old new (event.End offset) r p = goes-on old new (event.End offset) r p refl (λ n ns. refl) (λ m ms. refl) (λ o h. h) tt
+told old new (event.Chars offset text) r p = goes-on old new (event.Chars offset text) r p refl (λ n ns. refl) (λ m ms. refl) (λ o h. h) tt
+told old new (event.CData offset text) r p = goes-on old new (event.CData offset text) r p refl (λ n ns. refl) (λ m ms. refl) (λ o h. h) tt
+told old new (event.Comment offset text) r p = goes-on old new (event.Comment offset text) r p refl (λ n ns. refl) (λ m ms. refl) (λ o h. h) tt
+told old new (event.Pi offset target text) r p = goes-on old new (event.Pi offset target text) r p refl (λ n ns. refl) (λ m ms. refl) (λ o h. h) tt
+told old new (event.DocumentEnd offset) r p = ends old new (event.DocumentEnd offset) r p refl (λ n ns. refl) (λ m ms. refl) (subst (λ o. AreEnded (map open_of (opened o))) (sym p.is) (p.ended ∙ p.whole, tt))
 
 -- where more bytes are wanted, the newest document has none that settle a node
 pub hungry : (old new : Core) → Pulls old pull.Need new → IsFed new
@@ -157,9 +182,12 @@ reads-still old new r p =
       steady = record {
         bare = λ h. absurd (none-some new.newest p.after p.is h);
         depth = p.depth ∙ r.steady.depth ∙ sym (ap (λ (l : Limits). l.depth) p.own.limits);
+        fuel = p.fuel_limit ∙ r.steady.fuel ∙ sym (ap (λ (l : Limits). l.fuel) p.own.limits);
       };
       asking = p.asking;
       tied = record {
+        mains =
+            p.mains ∙ r.tied.mains ∙ ap mains_in before-list ∙ ap (λ n. is_none n ∷ mains_in (reverse old.outer.items)) (sym p.name) ∙ sym (ap mains_in after-list);
         lists =
             p.documents ∙ r.tied.lists ∙ ap lists_of before-list
             ∙ ap (λ n. n ∷ lists_of (reverse old.outer.items)) (sym (ap length (p.leaves [] false))) ∙ sym (ap lists_of after-list);

@@ -1,11 +1,11 @@
 -- What holds of a run by its stage.
-use Rattle.std.proofs.Common.{◌≡◌, ℕ, false, List, [], ◌∷◌, ◌++◌, Bool, Option, Some, None, Result, Ok, Err, OnOk, map, reverse, refl, sym, ap, subst, ◌∙◌}
+use Rattle.std.proofs.Common.{◌≡◌, ℕ, false, List, [], ◌∷◌, ◌++◌, Bool, Option, Some, None, Result, Ok, Err, OnOk, map, reverse, refl, sym, ap, subst, ◌∙◌, is_none}
 use Rattle.std.proofs.lemmas.List.{reverse-append}
 use Rattle.stx_base.specs.declared.limits.Limits.{Limits}
 use Rattle.xml_events.specs.Document.{doc_for}
 use Rattle.xml_events.specs.Source.{Source, ended_there, fed_with, future, source_for}
 use Rattle.sheet_model.specs.declared.sheet.Sheet.{Sheet}
-use Rattle.template_machine.specs.Between.{IsNew, depth_of}
+use Rattle.template_machine.specs.Between.{IsNew, depth_of, fuel_limit_of, fuel_of}
 use Rattle.template_machine.specs.declared.output.Output.{Output}
 use Rattle.run_engine.specs.Fitting.{DocumentsFit}
 use Rattle.run_engine.proofs.Feeding.{begun-lists, begun-readable}
@@ -17,7 +17,7 @@ use Rattle.run_engine.specs.declared.run.Stage as own
 use Rattle.run_engine.specs.declared.run.Stage.TheVariants as stage
 use Rattle.run_engine.specs.declared.document.Document.{Document}
 use Rattle.run_engine.specs.declared.piece.Piece.TheVariants as piece
-use Rattle.run_engine.specs.inside.Cores.{Adds, AreReadable, IsBegun, IsFresh, IsKept, IsSoundAt, Opens, IsUnended, IsWanting, Reads, Waits, documents_in, open_of, lists_of, opened, opens_of, run_of, stage_of}
+use Rattle.run_engine.specs.inside.Cores.{Adds, AreReadable, IsBegun, IsFresh, IsKept, IsSoundAt, Opens, IsUnended, IsWanting, Reads, Waits, documents_in, open_of, lists_of, opened, opens_of, run_of, stage_of, mains_in}
 use Rattle.run_engine.proofs.Asking.{opens-read, some-same}
 use Rattle.run_engine.proofs.Pulled.{documents-read, none-some}
 
@@ -142,42 +142,43 @@ adds-alone old new d was none is =
 -- what is settled is no part of how a run stands
 reads-out : (c : Core) (o : Output) → Reads c → Reads (record c { out = o })
 reads-out c o h = record {
-  steady = record { bare = h.steady.bare; depth = h.steady.depth };
+  steady = record { bare = h.steady.bare; depth = h.steady.depth; fuel = h.steady.fuel };
   asking = h.asking;
-  tied = record { lists = h.tied.lists; readable = h.tied.readable };
+  tied = record { lists = h.tied.lists; mains = h.tied.mains; readable = h.tied.readable };
 }
 
 pub kept-out : (c : Core) (o : Output) → IsKept c → IsKept (record c { out = o })
 kept-out c o k = record { sound = by c.stage k.sound; stands = k.stands } where
   by : (s : own.Stage) → IsSoundAt s c → IsSoundAt s (record c { out = o })
   by stage.New h = record {
-    steady = record { bare = h.steady.bare; depth = h.steady.depth };
+    steady = record { bare = h.steady.bare; depth = h.steady.depth; fuel = h.steady.fuel };
     machine = h.machine;
     lists = h.lists;
+    mains = h.mains;
     readable = h.readable;
   }
   by stage.Main h = reads-out c o h
   by stage.Document h = reads-out c o h
   by (stage.Wants name) h = record {
-    steady = record { bare = h.steady.bare; depth = h.steady.depth };
+    steady = record { bare = h.steady.bare; depth = h.steady.depth; fuel = h.steady.fuel };
     asking = h.asking;
-    tied = record { lists = h.tied.lists; readable = h.tied.readable };
+    tied = record { lists = h.tied.lists; mains = h.tied.mains; readable = h.tied.readable };
   }
   by (stage.Over outcome) h = tt
 
 -- a run that hasn't begun
-pub run-same : (a b : Run) → a.stage ≡ b.stage → a.files ≡ b.files → a.limits ≡ b.limits → a.strip ≡ b.strip → a.cdata ≡ b.cdata → a.documents ≡ b.documents → a ≡ b
-run-same a b s f l t d o =
+pub run-same : (a b : Run) → a.stage ≡ b.stage → a.files ≡ b.files → a.limits ≡ b.limits → a.strip ≡ b.strip → a.cdata ≡ b.cdata → a.documents ≡ b.documents → a.fuel ≡ b.fuel → a ≡ b
+run-same a b s f l t d o u =
     ap (λ x. record a { stage = x }) s ∙ ap (λ x. record a { stage = b.stage; files = x }) f ∙ ap (λ x. record a { stage = b.stage; files = b.files; limits = x }) l
-    ∙ ap (λ x. record b { strip = x; cdata = a.cdata; documents = a.documents }) t ∙ ap (λ x. record b { cdata = x; documents = a.documents }) d ∙ ap (λ x. record b { documents = x }) o
+    ∙ ap (λ x. record b { strip = x; cdata = a.cdata; documents = a.documents; fuel = a.fuel }) t ∙ ap (λ x. record b { cdata = x; documents = a.documents; fuel = a.fuel }) d ∙ ap (λ x. record b { documents = x; fuel = a.fuel }) o ∙ ap (λ x. record b { fuel = x }) u
 
 pub begun-so :
-    (sheet : Sheet) (limits : Limits) (c : Core) (s : Source) → c.stage ≡ stage.New → IsNew c.machine → depth_of c.machine ≡ limits.depth
+    (sheet : Sheet) (limits : Limits) (c : Core) (s : Source) → c.stage ≡ stage.New → IsNew c.machine → depth_of c.machine ≡ limits.depth → fuel_of c.machine ≡ limits.fuel → fuel_limit_of c.machine ≡ limits.fuel
     → c.limits ≡ limits → c.strip ≡ sheet.strip → c.cdata ≡ sheet.cdata → c.files ≡ sheet.files
     → c.newest ≡ Some (record { name = None; reader = s }) → c.outer.items ≡ [] → s ≡ source_for limits sheet.strip sheet.cdata
     → ((bytes : List ℕ) (ended : Bool) → future s bytes ended ≡ doc_for limits sheet.strip sheet.cdata bytes ended ∷ []) → DocumentsFit
     → IsBegun sheet limits c
-begun-so sheet limits c s new machine depth l t d f newest outer begun is fit =
+begun-so sheet limits c s new machine depth fuel fuel_limit l t d f newest outer begun is fit =
     let main : Document = record { name = None; reader = s } in
     let documents : documents_in c ≡ main ∷ [] = documents-read c main newest ∙ ap (λ os. main ∷ reverse os) outer in
     let over : s.over ≡ None = ap (λ (x : Source). x.over) begun in
@@ -185,9 +186,11 @@ begun-so sheet limits c s new machine depth l t d f newest outer begun is fit =
       steady = record {
         bare = λ h. absurd (none-some c.newest main newest h);
         depth = depth ∙ sym (ap (λ (x : Limits). x.depth) l);
+        fuel = fuel_limit ∙ sym (ap (λ (x : Limits). x.fuel) l);
       };
       machine = machine;
       lists = ap lists_of documents ∙ ap (λ n. n ∷ []) (begun-lists limits sheet.strip sheet.cdata s over is fit);
+      mains = ap mains_in documents;
       readable =
           subst (λ (x : Limits). AreReadable x.depth (documents_in c)) (sym l)
           (subst (AreReadable limits.depth) (sym documents) (begun-readable limits sheet.strip sheet.cdata s over is fit, tt));
@@ -199,7 +202,7 @@ begun-so sheet limits c s new machine depth l t d f newest outer begun is fit =
       };
       run =
           run-same (run_of c) (at_start sheet limits) (ap stage_of new) f l t d
-          (ap (map open_of) documents ∙ ap (λ (x : Source). record { name = None; source = x } ∷ []) begun);
+          (ap (map open_of) documents ∙ ap (λ (x : Source). record { name = None; source = x } ∷ []) begun) fuel;
     }
 
 -- the wanted document is the newest
@@ -218,6 +221,7 @@ opens-so old mid new name d wants taken adds named begun is fit =
           ∙ ap (λ (x : Source). record { name = Some name; source = x } ∷ opens_of old) begun ∙ sym (ap (opened_first (run_of old)) wants);
       readable = begun-readable old.limits old.strip old.cdata d.reader over is fit;
       lists = begun-lists old.limits old.strip old.cdata d.reader over is fit;
+      named = ap is_none named;
       documents = documents;
       bare = adds.bare;
       others = stages new (adds.others ∙ ap (λ (c : Core). record c { newest = new.newest; outer = new.outer }) taken);

@@ -1,4 +1,5 @@
 pub mod Run
 pub mod Taking
+pub mod Asks
 pub mod Fitting
 pub mod inside

@@ -34,7 +34,7 @@ pub record Open : Type 0 where
   pub source : Source
 
 -- A run: how far it is, the names of the sheet's files, the limits, whether texts of white space alone are no nodes and whether CDATA
--- sections are, and the documents that are open, the newest first.
+-- sections are, the documents that are open, the newest first, and the fuel that is left until the main document's next event.
 pub record Run : Type 0 where
   pub stage : Stage
   pub files : List (List ℕ)
@@ -42,6 +42,7 @@ pub record Run : Type 0 where
   pub strip : Bool
   pub cdata : Bool
   pub documents : List Open
+  pub fuel : ℕ
 
 -- the same sheet is run under the same limits
 pub record IsSameRun (old new : Run) : Type 0 where
@@ -59,6 +60,7 @@ at_start sheet limits = record {
   strip = sheet.strip;
   cdata = sheet.cdata;
   documents = record { name = None; source = source_for limits sheet.strip sheet.cdata } ∷ [];
+  fuel = limits.fuel;
 }
 
 -- which piece may come: the start once and first, and then what was asked for; none once the run is over

@@ -5,6 +5,7 @@ ghost use Rattle.std.specs.Option.{option_copied};
 ghost use Rattle.sheet_model.specs.Sound.{IsSound};
 ghost use Rattle.stx_base.specs.Course.{Begins};
 ghost use Rattle.run_engine.specs.Run.{Absents, HasHead, IsSameRun, MayCome, Says, Stands, at_start, outcome_in};
+ghost use Rattle.run_engine.specs.Asks.{AsksFewer, asks_handed, asks_left};
 ghost use Rattle.run_engine.specs.Taking.{Takes, handed};
 
 use crate::growing::append_both;
@@ -84,6 +85,8 @@ impl Engine {
         ensures same { IsSameRun self.old self.new }
         // The piece goes to the document that was asked for, and documents that were read to their end are gone.
         ensures took { Takes self.new.stage (handed self.old piece.entry) self.new.documents }
+        // There is an end to the documents that it asks for before more of the main document comes.
+        ensures asks { AsksFewer self.new.stage (asks_handed self.old piece.entry) (asks_left self.new) }
         // Where no wanted document is, the run stops for that at an instruction.
         ensures absent { Absents piece.entry self.new.stage }
         ensures out { Begins out.old.items out.new.items }

@@ -1,13 +1,14 @@
 //! What an engine does with a piece.
 
-ghost use Rattle.std.specs.Prelude.{◌≡◌, ◌+◌, ◌<◌, ◌^◌, [], None, Some, IsSome, IfOk, OnOk, OnErr};
+ghost use Rattle.std.specs.Prelude.{◌≡◌, suc, ◌+◌, ◌<◌, ◌^◌, [], None, Some, IsSome, IfOk, OnOk, OnErr};
 ghost use Rattle.std.specs.Option.{option_copied};
 ghost use Rattle.stx_base.specs.declared.fault.RunCode.TheVariants.{NoDocument};
 ghost use Rattle.sheet_model.specs.Sound.{IsSound};
 ghost use Rattle.run_engine.specs.Run as spec;
 ghost use Rattle.run_engine.specs.Run.{Absents, HasBegun, Says, begun_with, StopsWith, file_at, file_of, outcome_in};
+ghost use Rattle.run_engine.specs.Asks.{AsksFewer, asks_handed};
 ghost use Rattle.run_engine.specs.Taking.{Takes, ended_first, fed_first, handed};
-ghost use Rattle.run_engine.specs.inside.Cores.{Adds, Advances, Answers, Closes, Hands, HasFault, HasTold, IsBegun, IsFed, IsSame, IsKept, IsTurned, IsUnended, IsWanting, MayTake, Opens, Pulls, Reads, Settles, Waits, documents_in, is_main, opens_of, run_of, stage_of};
+ghost use Rattle.run_engine.specs.inside.Cores.{Adds, Advances, Answers, Closes, Hands, HasFault, HasTold, IsBegun, IsFed, IsSame, IsKept, IsTurned, IsUnended, IsWanting, MayTake, Opens, Pulls, Reads, Settles, Waits, asks_asked, asks_of, documents_in, is_main, most_at, opens_of, run_of, stage_of};
 ghost use Rattle.run_engine.specs.declared.run.Stage.TheVariants as stage;
 ghost use Rattle.run_engine.specs.declared.document.Document.{Document};
 ghost use Rattle.run_engine.specs.declared.piece.Pumped.TheVariants as pumped;
@@ -153,6 +154,7 @@ impl Core {
         ensures sound { IsKept self.new }
         ensures same { IsSame self.old self.new }
         ensures took { Takes (stage_of self.new.stage) (handed (run_of self.old) piece.entry) (opens_of self.new) }
+        ensures asks { AsksFewer (stage_of self.new.stage) (asks_handed (run_of self.old) piece.entry) (asks_of self.new) }
         ensures absent { Absents piece.entry (stage_of self.new.stage) }
         ensures out { HasBegun piece.entry out.old.items (stage_of self.new.stage) out.new.items }
     {
@@ -168,6 +170,7 @@ impl Core {
         ensures sound { IsKept self.new }
         ensures same { IsSame self.old self.new }
         ensures took { Takes (stage_of self.new.stage) (handed (run_of self.old) piece.entry) (opens_of self.new) }
+        ensures asks { AsksFewer (stage_of self.new.stage) (asks_handed (run_of self.old) piece.entry) (asks_of self.new) }
         ensures absent { Absents piece.entry (stage_of self.new.stage) }
     {
         match piece {
@@ -201,6 +204,7 @@ impl Core {
         ensures reads { OnOk result (Reads self.new) }
         ensures given { OnOk result (opens_of self.new ≡ fed_first piece.now (opens_of self.old)) }
         ensures same { IsSame self.old self.new }
+        ensures machine { self.new.machine ≡ self.old.machine }
     {
         match &mut self.newest {
             Some(document) => document.reader.feed(piece),
@@ -215,6 +219,7 @@ impl Core {
         ensures reads { Reads self.new }
         ensures given { opens_of self.new ≡ ended_first (opens_of self.old) }
         ensures same { IsSame self.old self.new }
+        ensures machine { self.new.machine ≡ self.old.machine }
     {
         match &mut self.newest {
             Some(document) => document.reader.finish(),
@@ -265,7 +270,7 @@ impl Core {
     // There is no wanted document.
     fn miss(&mut self) -> Pumped
         requires { Waits self.old }
-        ensures answers { Answers self.old result self.new }
+        ensures answers { Answers 0 self.old result self.new }
         ensures code { StopsWith NoDocument (stage_of self.new.stage) }
     {
         match self.machine.document_absent() {
@@ -276,7 +281,7 @@ impl Core {
 
     fn go_from(&mut self, turn: Turn) -> Pumped
         requires { IsTurned turn self.old }
-        ensures { Answers self.old result self.new }
+        ensures { Answers (most_at turn (asks_of self.old)) self.old result self.new }
     {
         match self.settle(turn) {
             Some(pumped) => pumped,
@@ -287,7 +292,7 @@ impl Core {
     // Takes all events that are ready.
     fn go_on(&mut self) -> Pumped
         requires { Reads self.old }
-        ensures { Answers self.old result self.new }
+        ensures { Answers (asks_of self.old) self.old result self.new }
     {
         loop {
             if let Some(pumped) = self.advance() {
@@ -347,7 +352,7 @@ impl Core {
     fn ask(&mut self) -> Pumped
         requires reads { Reads self.old }
         requires hungry { IsFed self.old }
-        ensures { Answers self.old result self.new }
+        ensures { Answers (asks_asked self.old) self.old result self.new }
     {
         if self.reads_main() {
             self.stage = Stage::Main;
@@ -367,7 +372,7 @@ impl Core {
     // How the run goes on behind an answer of the machine, where not with the next event.
     fn settle(&mut self, turn: Turn) -> Option<Pumped>
         requires { IsTurned turn self.old }
-        ensures { Settles self.old result self.new }
+        ensures { Settles turn self.old result self.new }
     {
         match turn {
             Turn::More => None,
@@ -381,7 +386,7 @@ impl Core {
 
     fn want(&mut self, name: Text) -> Pumped
         requires { Waits self.old }
-        ensures { Answers self.old result self.new }
+        ensures { Answers (suc (asks_of self.old)) self.old result self.new }
     {
         match name.copy(self.alloc) {
             Ok(wanted) => {
@@ -394,7 +399,7 @@ impl Core {
 
     // An instruction has a fault.
     fn stop(&mut self, fault: RunFault) -> Pumped
-        ensures answers { Answers self.old result self.new }
+        ensures answers { Answers 0 self.old result self.new }
         ensures code { StopsWith fault.code (stage_of self.new.stage) }
     {
         let RunFault { code, at } = fault;
@@ -410,7 +415,7 @@ impl Core {
 
     // An instruction needs more fuel than there is.
     fn spend(&mut self, at: Place) -> Pumped
-        ensures { Answers self.old result self.new }
+        ensures { Answers 0 self.old result self.new }
     {
         match self.file(at) {
             Ok(file) => self.end(Outcome::Fuel {
@@ -434,7 +439,7 @@ impl Core {
     // The newest document has a fault.
     fn fail(&mut self, fault: XmlFault) -> Pumped
         requires { HasFault fault self.old }
-        ensures { Answers self.old result self.new }
+        ensures { Answers 0 self.old result self.new }
     {
         match self.newest_file() {
             Ok(file) => self.end(Outcome::Xml { file, fault }),
@@ -463,7 +468,7 @@ impl Core {
 
     fn done(&mut self) -> Pumped
         requires { documents_in self.old ≡ [] }
-        ensures { Answers self.old result self.new }
+        ensures { Answers 0 self.old result self.new }
     {
         self.stage = Stage::Over(Outcome::Done);
         Pumped::Done

@@ -1,5 +1,5 @@
 -- What holds of a run and its open documents.
-use Rattle.std.specs.Prelude.{◌≡◌, ◌≤◌, ◌<◌, ◌+◌, ℕ, false, Bool, List, [], ◌∷◌, ◌++◌, map, reverse, length, Option, Some, None, is_none}
+use Rattle.std.specs.Prelude.{◌≡◌, ◌≤◌, ◌<◌, ◌+◌, ◌*◌, ℕ, suc, cond, true, false, Bool, List, [], ◌∷◌, ◌++◌, map, reverse, length, Option, Some, None, is_none}
 use Rattle.stx_base.specs.declared.fault.XmlFault.{XmlFault}
 use Rattle.stx_base.specs.declared.limits.Limits.{Limits}
 use Rattle.xml_tokens.specs.Reader.{fed}
@@ -11,9 +11,10 @@ use Rattle.xml_events.specs.declared.event.Event.TheVariants as event
 use Rattle.xml_events.specs.declared.event.Pull.{Pull}
 use Rattle.xml_events.specs.declared.event.Pull.TheVariants as pull
 use Rattle.sheet_model.specs.declared.sheet.Sheet.{Sheet}
-use Rattle.template_machine.specs.Between.{Continues, IsAsking, IsAskingForDocument, IsNew, behind, depth_of, documents_of}
+use Rattle.template_machine.specs.Between.{Continues, IsAsking, IsAskingForDocument, IsNew, behind, depth_of, documents_of, fuel_at, fuel_limit_of, fuel_of, mains_behind, mains_of}
 use Rattle.template_machine.specs.declared.turn.Turn.{Turn}
 use Rattle.template_machine.specs.declared.turn.Turn.TheVariants as turn
+use Rattle.run_engine.specs.Asks.{AsksFewer, asks_left, main_events}
 use Rattle.run_engine.specs.Fitting.{Fits}
 use Rattle.run_engine.specs.Run as spec
 use Rattle.run_engine.specs.Run.{IsHungry, MayCome, Open, Run, Says, Stands, at_start}
@@ -54,6 +55,7 @@ run_of c = record {
   strip = c.strip;
   cdata = c.cdata;
   documents = opens_of c;
+  fuel = fuel_of c.machine;
 }
 
 -- the same sheet is run under the same limits
@@ -71,6 +73,10 @@ lists_open s = length (future s [] false)
 abbrev pub lists_of : List Document → List ℕ
 lists_of ds = map (λ (d : Document). lists_open d.reader) ds
 
+-- which of these is the main document
+abbrev pub mains_in : List Document → List Bool
+mains_in ds = map (λ (d : Document). is_none d.name) ds
+
 -- a document that goes on: as many lists are open whatever bytes follow, and a run can take what is to come
 pub record IsReadable (depth : ℕ) (s : Source) : Type 0 where
   pub going : s.over ≡ None
@@ -81,15 +87,18 @@ abbrev pub AreReadable : (depth : ℕ) → List Document → Type 0
 AreReadable depth [] = Unit {0}
 AreReadable depth (d ∷ ds) = IsReadable depth d.reader × AreReadable depth ds
 
--- the machine knows of these documents how many lists are open in each
+-- the machine knows of these documents how many lists are open in each, and which is the main one
 pub record AreTied (ds : List Document) (c : Core) : Type 0 where
   pub lists : documents_of c.machine ≡ lists_of ds
+  pub mains : mains_of c.machine ≡ mains_in ds
   pub readable : AreReadable c.limits.depth ds
 
--- what holds of each run: no document waits where none is read, and at most as many elements are open as the limit says
+-- what holds of each run: no document waits where none is read, at most as many elements are open as the limit says, and there is as
+-- much fuel
 pub record IsSteady (c : Core) : Type 0 where
   pub bare : c.newest ≡ None → c.outer.items ≡ []
   pub depth : depth_of c.machine ≡ c.limits.depth
+  pub fuel : fuel_limit_of c.machine ≡ c.limits.fuel
 
 -- the machine asks for the next event
 pub record Reads (c : Core) : Type 0 where
@@ -108,6 +117,7 @@ pub record IsFresh (c : Core) : Type 0 where
   pub steady : IsSteady c
   pub machine : IsNew c.machine
   pub lists : lists_of (documents_in c) ≡ 1 ∷ []
+  pub mains : mains_in (documents_in c) ≡ true ∷ []
   pub readable : AreReadable c.limits.depth (documents_in c)
 
 abbrev pub IsSoundAt : Stage → Core → Type 0
@@ -130,12 +140,21 @@ pub record MayTake (c : Core) (p : Piece) : Type 0 where
   pub sound : IsKept c
   pub may : MayCome (stage_of c.stage) p
 
--- an answer to a piece
-pub record Answers (old : Core) (p : Pumped) (new : Core) : Type 0 where
+-- how many documents a run may still ask for
+abbrev pub asks_of : Core → ℕ
+asks_of c = asks_left (run_of c)
+
+-- so it is once an event of the newest document, which was read, has come to the machine
+abbrev pub asks_told : Core → ℕ
+asks_told c = main_events (opens_of c) * (c.limits.fuel + 1) + fuel_at (mains_in (opened c.newest)) c.limits.fuel (fuel_of c.machine)
+
+-- an answer to a piece, where so many documents may be asked for
+pub record Answers (most : ℕ) (old : Core) (p : Pumped) (new : Core) : Type 0 where
   pub says : Says p (stage_of new.stage)
   pub sound : IsKept new
   pub same : IsSame old new
   pub took : Takes (stage_of new.stage) (opens_of old) (opens_of new)
+  pub asks : AsksFewer (stage_of new.stage) most (asks_of new)
 
 -- how many events come at most of what was fed
 abbrev pub work_in : List Document → ℕ
@@ -147,8 +166,8 @@ work c = work_in (documents_in c)
 
 -- a run goes on by itself, or answers
 abbrev pub Advances : (old : Core) → Option Pumped → (new : Core) → Type 0
-Advances old None new = Reads new × (work new < work old) × IsSame old new × Took (opens_of old) (opens_of new)
-Advances old (Some p) new = Answers old p new
+Advances old None new = Reads new × (work new < work old) × IsSame old new × Took (opens_of old) (opens_of new) × (asks_of new ≤ asks_of old)
+Advances old (Some p) new = Answers (asks_of old) old p new
 
 -- what the machine answered, and how the documents stand then
 abbrev pub IsTurned : Turn → Core → Type 0
@@ -157,10 +176,16 @@ IsTurned (turn.WantDocument name) c = Waits c
 IsTurned turn.Ended c = documents_in c ≡ []
 IsTurned other c = Unit {0}
 
+-- where a document is wanted it is one of those that may be asked for
+abbrev pub most_at : Turn → ℕ → ℕ
+most_at turn.More n = n
+most_at (turn.WantDocument name) n = suc n
+most_at other n = 0
+
 -- a run goes on as it is, or answers
-abbrev pub Settles : (old : Core) → Option Pumped → (new : Core) → Type 0
-Settles old None new = (new ≡ old) × Reads new
-Settles old (Some p) new = Answers old p new
+abbrev pub Settles : Turn → (old : Core) → Option Pumped → (new : Core) → Type 0
+Settles t old None new = (new ≡ old) × Reads new × (t ≡ turn.More)
+Settles t old (Some p) new = Answers (most_at t (asks_of old)) old p new
 
 -- The newest document goes on.
 abbrev pub NewestIs : (Document → Type 0) → Core → Type 0
@@ -189,6 +214,9 @@ pub record Pulls (old : Core) (p : Pull) (new : Core) : Type 0 where
   pub asking : IsAsking new.machine
   pub documents : documents_of new.machine ≡ documents_of old.machine
   pub depth : depth_of new.machine ≡ depth_of old.machine
+  pub mains : mains_of new.machine ≡ mains_of old.machine
+  pub fuel : fuel_of new.machine ≡ fuel_of old.machine
+  pub fuel_limit : fuel_limit_of new.machine ≡ fuel_limit_of old.machine
   pub outer : new.outer.items ≡ old.outer.items
   pub own : IsSame old new
 
@@ -206,10 +234,13 @@ EndsBefore e c = Unit {0}
 pub record HasTold (e : Event) (c : Core) : Type 0 where
   pub bare : c.newest ≡ None → c.outer.items ≡ []
   pub depth : depth_of c.machine ≡ c.limits.depth
+  pub fuel : fuel_limit_of c.machine ≡ c.limits.fuel
   pub asking : IsAsking c.machine
   pub continues : Continues c.machine e
   pub whole : EndsBefore e c
   pub lists : behind e (documents_of c.machine) ≡ lists_of (documents_behind e c)
+  pub mains : mains_behind e (mains_of c.machine) ≡ mains_in (documents_behind e c)
+  pub renews : fuel_at (mains_of c.machine) c.limits.fuel (fuel_of c.machine) ≡ fuel_at (mains_in (opened c.newest)) c.limits.fuel (fuel_of c.machine)
   pub readable : AreReadable c.limits.depth (documents_behind e c)
 
 -- a document that has ended is gone
@@ -220,8 +251,8 @@ pub record Closes (e : Event) (old new : Core) : Type 0 where
 
 -- an event was handed on
 abbrev pub Hands : (old : Core) → Option Pumped → (new : Core) → Type 0
-Hands old None new = Reads new × (work new ≤ work old) × IsSame old new × Took (opens_of old) (opens_of new)
-Hands old (Some p) new = Answers old p new
+Hands old None new = Reads new × (work new ≤ work old) × IsSame old new × Took (opens_of old) (opens_of new) × (asks_of new ≤ asks_told old)
+Hands old (Some p) new = Answers (asks_told old) old p new
 
 -- a document of the wanted name is the newest
 pub record Opens (old new : Core) : Type 0 where
@@ -229,6 +260,7 @@ pub record Opens (old new : Core) : Type 0 where
   pub given : opens_of new ≡ opened_first (run_of old) (stage_of old.stage)
   pub readable : IsReadable old.limits.depth document.reader
   pub lists : lists_open document.reader ≡ 1
+  pub named : is_none document.name ≡ false
   pub documents : documents_in new ≡ document ∷ documents_in old
   pub bare : new.newest ≡ None → new.outer.items ≡ []
   pub others : new ≡ record old { newest = new.newest; outer = new.outer; stage = new.stage }
@@ -255,3 +287,7 @@ IsWanting c = (name : List ℕ) × (stage_of c.stage ≡ spec.Wants name)
 abbrev pub is_main : Option Document → Bool
 is_main None = false
 is_main (Some d) = is_none d.name
+
+-- where the main document needs more, nothing is said of what may be asked for
+abbrev pub asks_asked : Core → ℕ
+asks_asked c = cond (is_main c.newest) 0 (asks_of c)

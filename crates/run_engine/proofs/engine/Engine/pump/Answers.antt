@@ -1,7 +1,8 @@
+use Rattle.run_engine.specs.Asks.{AsksFewer, asks_handed}
 use Rattle.std.proofs.Common.{refl, subst, sym}
 use Rattle.run_engine.specs.Run.{Absents, HasHead, MayCome, Run}
 use Rattle.run_engine.specs.Taking.{Takes, handed}
-use Rattle.run_engine.specs.inside.Cores.{IsKept, IsSame, opens_of, stage_of}
+use Rattle.run_engine.specs.inside.Cores.{IsKept, IsSame, opens_of, stage_of, asks_of}
 use Rattle.run_engine.specs.declared.run.Core.{Core}
 use Rattle.run_engine.proofs.Asking.{absents-memory, grows, heads, lacks, same-run, same-then}
 use Rattle.run_engine.proofs.Standing.{kept-out}
@@ -63,3 +64,10 @@ returns-in-Err-clause-out c =
 pub returns-in-Err-clause-head : goal.returns-in-Err-clause-head
 returns-in-Err-clause-head c =
     subst (λ (x : Core). HasHead c.args.piece c.args.out.now.items (stage_of x.stage) c.append_both.new.bytes.items) (sym c.lack.ensures.over) tt
+
+pub returns-in-Ok-clause-asks : goal.returns-in-Ok-clause-asks
+returns-in-Ok-clause-asks c =
+    subst (λ (r : Run). AsksFewer (stage_of c.step-pumped.new.self.stage) (asks_handed r c.args.piece) (asks_of c.step-pumped.new.self)) c.self.view_is c.step-pumped.ensures.asks
+
+pub returns-in-Err-clause-asks : goal.returns-in-Err-clause-asks
+returns-in-Err-clause-asks c = subst (λ (x : Core). AsksFewer (stage_of x.stage) (asks_handed c.args.self.now c.args.piece) (asks_of x)) (sym c.lack.ensures.over) tt

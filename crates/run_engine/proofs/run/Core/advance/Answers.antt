@@ -1,3 +1,6 @@
+use Rattle.run_engine.proofs.Counting.{need-asks}
+use Rattle.run_engine.specs.inside.Cores.{asks_asked, asks_of}
+use Rattle.std.proofs.Common.{arith}
 use Rattle.xml_events.specs.declared.event.Pull.TheVariants as pull
 use Rattle.run_engine.proofs.Asking.{answers-then, lacks}
 use Rattle.run_engine.proofs.Going.{advances-so}
@@ -18,7 +21,7 @@ ask-requires-clause-hungry c = hungry c.args.self.now c.pull.new.self c.in-Need.
 
 pub returns-in-Need : goal.returns-in-Need
 returns-in-Need c =
-    answers-then c.args.self.now c.pull.new.self c.ask.new.self c.ask.result c.in-Need.ensures.own (pull-took c.args.self.now c.pull.new.self pull.Need c.in-Need.ensures) c.ask.ensures
+    answers-then (asks_asked c.pull.new.self) (asks_of c.args.self.now) c.args.self.now c.pull.new.self c.ask.new.self c.ask.result (need-asks c.args.self.now c.pull.new.self c.in-Need.ensures) c.in-Need.ensures.own (pull-took c.args.self.now c.pull.new.self pull.Need c.in-Need.ensures) c.ask.ensures
 
 pub unreachable-requires : goal.unreachable-requires
 unreachable-requires c = never-ends c.args.self.now c.pull.new.self c.requires c.in-End.ensures
@@ -28,11 +31,11 @@ fail-requires c = faulty c.args.self.now c.pull.new.self c.in-Bad.fault c.in-Bad
 
 pub returns-in-Bad : goal.returns-in-Bad
 returns-in-Bad c =
-    answers-then c.args.self.now c.pull.new.self c.fail.new.self c.fail.result c.in-Bad.ensures.own
+    answers-then 0 (asks_of c.args.self.now) c.args.self.now c.pull.new.self c.fail.new.self c.fail.result (omega arith) c.in-Bad.ensures.own
     (pull-took c.args.self.now c.pull.new.self (pull.Bad c.in-Bad.fault) c.in-Bad.ensures) c.fail.ensures
 
 pub returns-in-Memory : goal.returns-in-Memory
 returns-in-Memory c =
-    answers-then c.args.self.now c.pull.new.self c.lack.new.self c.lack.result c.in-Memory.ensures.own
+    answers-then 0 (asks_of c.args.self.now) c.args.self.now c.pull.new.self c.lack.new.self c.lack.result (omega arith) c.in-Memory.ensures.own
     (pull-took c.args.self.now c.pull.new.self pull.Memory c.in-Memory.ensures)
     (lacks c.pull.new.self c.lack.new.self c.lack.result c.lack.ensures.answer c.lack.ensures.over)

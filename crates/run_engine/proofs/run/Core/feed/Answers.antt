@@ -16,7 +16,7 @@ returns-clause-reads c =
     let s = c.args.self.now in
     let d : Document = record c.in-Some.document { reader = c.feed.new.self } in
     let t : Core = record s { newest = Some d } in
-    on-ok-both c.feed.result _ _ _ (λ fed leads. fed-reads s t c.in-Some.document d c.args.piece.now c.requires.reads c.in-Some.is refl fed leads refl refl refl) c.feed.ensures.ok c.feed.ensures.future
+    on-ok-both c.feed.result _ _ _ (λ fed leads. fed-reads s t c.in-Some.document d c.args.piece.now c.requires.reads c.in-Some.is refl refl fed leads refl refl refl) c.feed.ensures.ok c.feed.ensures.future
 
 pub returns-clause-given : goal.returns-clause-given
 returns-clause-given c =

@@ -13,7 +13,7 @@ returns-clause-reads c =
     let s = c.args.self.now in
     let d : Document = record c.in-Some.document { reader = c.finish.new.self } in
     let t : Core = record s { newest = Some d } in
-    ended-reads s t c.in-Some.document d c.requires.reads c.in-Some.is refl c.finish.ensures.source
+    ended-reads s t c.in-Some.document d c.requires.reads c.in-Some.is refl refl c.finish.ensures.source
     (c.finish.ensures.future (unended-so s c.in-Some.document c.requires.unended c.in-Some.is)) refl refl refl
 
 pub returns-clause-given : goal.returns-clause-given

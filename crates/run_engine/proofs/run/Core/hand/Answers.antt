@@ -13,11 +13,11 @@ on_event-turn-requires-clause-event c = closed-continues c.args.event c.args.sel
 pub settle-requires : goal.settle-requires
 settle-requires c =
     let next : Core = record c.close.new.self { machine = c.on_event-turn.new.self; out = c.on_event-turn.new.out } in
-    turned c.args.event c.args.self.now c.close.new.self c.requires c.close.ensures next refl refl refl c.on_event-turn.ensures.depth c.on_event-turn.result c.on_event-turn.ensures.more
-    c.on_event-turn.ensures.want c.on_event-turn.ensures.ended c.on_event-turn.ensures.documents
+    turned c.args.event c.args.self.now c.close.new.self c.requires c.close.ensures next refl refl refl c.on_event-turn.ensures.depth c.on_event-turn.ensures.fuel_limit c.on_event-turn.result c.on_event-turn.ensures.more
+    c.on_event-turn.ensures.want c.on_event-turn.ensures.ended c.on_event-turn.ensures.documents c.on_event-turn.ensures.mains
 
 pub returns : goal.returns
 returns c =
     let next : Core = record c.close.new.self { machine = c.on_event-turn.new.self; out = c.on_event-turn.new.out } in
-    hands-so c.args.event c.args.self.now c.close.new.self c.close.ensures next c.settle.new.self c.settle.result refl
-    (record { files = refl; limits = refl; strip = refl; cdata = refl }) c.requires.whole c.settle.ensures
+    hands-so c.args.event c.args.self.now c.close.new.self c.close.ensures next c.settle.new.self c.on_event-turn.result c.settle.result refl
+    (record { files = refl; limits = refl; strip = refl; cdata = refl }) c.requires c.on_event-turn.ensures.fuel c.settle.ensures

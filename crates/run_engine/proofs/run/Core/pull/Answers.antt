@@ -28,6 +28,9 @@ returns c =
       asking = c.exchange_spare.ensures.asking c.requires.asking;
       documents = c.exchange_spare.ensures.documents;
       depth = c.exchange_spare.ensures.depth;
+      mains = c.exchange_spare.ensures.mains;
+      fuel = c.exchange_spare.ensures.fuel;
+      fuel_limit = c.exchange_spare.ensures.fuel_limit;
       outer = refl;
       own = record { files = refl; limits = refl; strip = refl; cdata = refl };
     }

@@ -1,5 +1,6 @@
+use Rattle.run_engine.specs.Asks.{AsksFewer, asks_handed}
 use Rattle.run_engine.specs.Run.{Absents, HasBegun}
-use Rattle.run_engine.specs.inside.Cores.{stage_of}
+use Rattle.run_engine.specs.inside.Cores.{stage_of, asks_of, run_of}
 use Rattle.run_engine.specs.declared.run.Core.{Core}
 use Rattle.run_engine.proofs.Asking.{absents-memory, begins-same, has-begun-so}
 use Rattle.std.proofs.Common.{subst, sym}
@@ -16,3 +17,6 @@ pub returns-in-Err-clause-out : goal.returns-in-Err-clause-out
 returns-in-Err-clause-out c =
     subst (λ (x : Core). HasBegun c.args.piece c.args.out.now.items (stage_of x.stage) c.begin.new.out.items) (sym c.lack.ensures.over)
     (subst (Begins c.args.out.now.items) (sym c.in-Err.ensures.err) (begins-same c.args.out.now.items))
+
+pub returns-in-Err-clause-asks : goal.returns-in-Err-clause-asks
+returns-in-Err-clause-asks c = subst (λ (x : Core). AsksFewer (stage_of x.stage) (asks_handed (run_of c.args.self.now) c.args.piece) (asks_of x)) (sym c.lack.ensures.over) tt

@@ -1,8 +1,11 @@
-use Rattle.std.proofs.Common.{refl, sym, ap, subst}
-use Rattle.template_machine.specs.Between.{IsAskingForDocument}
+use Rattle.run_engine.specs.declared.piece.Piece.TheVariants as piece
+use Rattle.run_engine.proofs.Counting.{asks-handed, burned, fewer-then}
+use Rattle.run_engine.specs.Asks.{AsksFewer, asks_handed, main_events}
+use Rattle.std.proofs.Common.{refl, sym, ap, subst, arith}
+use Rattle.template_machine.specs.Between.{IsAskingForDocument, fuel_of}
 use Rattle.run_engine.specs.Run.{Absents}
 use Rattle.run_engine.specs.Taking.{Takes, handed}
-use Rattle.run_engine.specs.inside.Cores.{MayTake, opens_of, run_of, stage_of}
+use Rattle.run_engine.specs.inside.Cores.{MayTake, opens_of, run_of, stage_of, asks_of, most_at}
 use Rattle.run_engine.specs.declared.run.Core.{Core}
 use Rattle.run_engine.proofs.Asking.{lacks, same-then}
 use Rattle.run_engine.proofs.Feeding.{opened-turned, started}
@@ -19,7 +22,7 @@ pub go_from-requires : goal.go_from-requires
 go_from-requires c =
     let s = c.args.self.now in
     let m = subst (MayTake s) c.in-Start.is c.requires in
-    started s (record s { machine = c.start-turn.new.self; out = c.start-turn.new.out }) (fresh-at s s.stage m.may m.sound.sound) refl refl refl c.start-turn.ensures.depth c.start-turn.result c.start-turn.ensures.more c.start-turn.ensures.want c.start-turn.ensures.ended c.start-turn.ensures.documents
+    started s (record s { machine = c.start-turn.new.self; out = c.start-turn.new.out }) (fresh-at s s.stage m.may m.sound.sound) refl refl refl c.start-turn.ensures.depth c.start-turn.ensures.fuel_limit c.start-turn.result c.start-turn.ensures.more c.start-turn.ensures.want c.start-turn.ensures.ended c.start-turn.ensures.documents c.start-turn.ensures.mains
 
 pub feed-requires-clause-reads : goal.feed-requires-clause-reads
 feed-requires-clause-reads c =
@@ -81,7 +84,7 @@ go_from-requires-in-Ok-open c =
     let m = subst (MayTake s) c.in-Opened.is c.requires in
     let w : Core = c.open.new.self in
     opened-turned s w (record w { machine = c.document_opened-turn.new.self; out = c.document_opened-turn.new.out }) (waits-by s s.stage m.may m.sound.sound) c.in-Ok-open.ensures.opens refl refl refl
-    c.document_opened-turn.ensures.depth c.document_opened-turn.result c.document_opened-turn.ensures.more c.document_opened-turn.ensures.want c.document_opened-turn.ensures.ended c.document_opened-turn.ensures.documents
+    c.document_opened-turn.ensures.depth c.document_opened-turn.ensures.fuel_limit c.document_opened-turn.result c.document_opened-turn.ensures.more c.document_opened-turn.ensures.want c.document_opened-turn.ensures.ended c.document_opened-turn.ensures.documents c.document_opened-turn.ensures.mains
 
 pub returns-in-Start-clause-absent : goal.returns-in-Start-clause-absent
 returns-in-Start-clause-absent c = subst (λ p. Absents p (stage_of c.go_from.new.self.stage)) (sym c.in-Start.is) tt
@@ -156,3 +159,52 @@ returns-in-Absent-clause-took c =
 
 pub returns-in-Absent-clause-absent : goal.returns-in-Absent-clause-absent
 returns-in-Absent-clause-absent c = subst (λ p. Absents p (stage_of c.miss.new.self.stage)) (sym c.in-Absent.is) c.miss.ensures.code
+
+pub returns-in-Start-clause-asks : goal.returns-in-Start-clause-asks
+returns-in-Start-clause-asks c =
+    let s = c.args.self.now in
+    let w : Core = record s { machine = c.start-turn.new.self; out = c.start-turn.new.out } in
+    let t = c.go_from.new.self in
+    subst (λ p. AsksFewer (stage_of t.stage) (asks_handed (run_of s) p) (asks_of t)) (sym c.in-Start.is)
+    (fewer-then (stage_of t.stage) (most_at c.start-turn.result (asks_of w)) (asks_of s) (asks_of t)
+    (burned c.start-turn.result (main_events (opens_of s)) (main_events (opens_of s)) s.limits.fuel (fuel_of s.machine) (fuel_of w.machine) (omega arith) c.start-turn.ensures.fuel) c.go_from.ensures.asks)
+
+pub returns-in-Ok-clause-asks : goal.returns-in-Ok-clause-asks
+returns-in-Ok-clause-asks c =
+    let s = c.args.self.now in
+    let t = c.go_on.new.self in
+    subst (λ p. AsksFewer (stage_of t.stage) (asks_handed (run_of s) p) (asks_of t)) (sym c.in-Bytes.is)
+    (subst (λ n. AsksFewer (stage_of t.stage) n (asks_of t)) (asks-handed s c.feed.new.self (handed (run_of s) (piece.Bytes c.in-Bytes.bytes)) c.in-Ok.ensures.given c.feed.ensures.same.limits (ap fuel_of c.feed.ensures.machine)) c.go_on.ensures.asks)
+
+pub returns-in-Err-clause-asks : goal.returns-in-Err-clause-asks
+returns-in-Err-clause-asks c = subst (λ (x : Core). AsksFewer (stage_of x.stage) (asks_handed (run_of c.args.self.now) c.args.piece) (asks_of x)) (sym c.lack.ensures.over) tt
+
+pub returns-in-End-clause-asks : goal.returns-in-End-clause-asks
+returns-in-End-clause-asks c =
+    let s = c.args.self.now in
+    let t = c.go_on-in-End.new.self in
+    subst (λ p. AsksFewer (stage_of t.stage) (asks_handed (run_of s) p) (asks_of t)) (sym c.in-End.is)
+    (subst (λ n. AsksFewer (stage_of t.stage) n (asks_of t)) (asks-handed s c.finish.new.self (handed (run_of s) piece.End) c.finish.ensures.given c.finish.ensures.same.limits (ap fuel_of c.finish.ensures.machine)) c.go_on-in-End.ensures.asks)
+
+pub returns-in-Ok-open-clause-asks : goal.returns-in-Ok-open-clause-asks
+returns-in-Ok-open-clause-asks c =
+    let s = c.args.self.now in
+    let o : Core = c.open.new.self in
+    let w : Core = record o { machine = c.document_opened-turn.new.self; out = c.document_opened-turn.new.out } in
+    let t = c.go_from-in-Ok-open.new.self in
+    let same = c.in-Ok-open.ensures.opens.others in
+    subst (λ p. AsksFewer (stage_of t.stage) (asks_handed (run_of s) p) (asks_of t)) (sym c.in-Opened.is)
+    (subst (λ n. AsksFewer (stage_of t.stage) n (asks_of t))
+    (asks-handed s o (handed (run_of s) piece.Opened) c.in-Ok-open.ensures.opens.given c.open.ensures.same.limits (ap (λ (x : Core). fuel_of x.machine) same))
+    (fewer-then (stage_of t.stage) (most_at c.document_opened-turn.result (asks_of w)) (asks_of o) (asks_of t)
+    (burned c.document_opened-turn.result (main_events (opens_of o)) (main_events (opens_of o)) o.limits.fuel (fuel_of o.machine) (fuel_of w.machine) (omega arith) c.document_opened-turn.ensures.fuel)
+    c.go_from-in-Ok-open.ensures.asks))
+
+pub returns-in-Err-open-clause-asks : goal.returns-in-Err-open-clause-asks
+returns-in-Err-open-clause-asks c =
+    subst (λ (x : Core). AsksFewer (stage_of x.stage) (asks_handed (run_of c.args.self.now) c.args.piece) (asks_of x)) (sym c.lack-in-Err-open.ensures.over) tt
+
+pub returns-in-Absent-clause-asks : goal.returns-in-Absent-clause-asks
+returns-in-Absent-clause-asks c =
+    let t = c.miss.new.self in
+    fewer-then (stage_of t.stage) 0 (asks_handed (run_of c.args.self.now) c.args.piece) (asks_of t) (omega arith) c.miss.ensures.answers.asks

@@ -1,8 +1,14 @@
-use Rattle.run_engine.proofs.Asking.{lacks, wants}
+use Rattle.std.proofs.Common.{suc, arith}
+use Rattle.run_engine.specs.inside.Cores.{asks_of, opens_of}
+use Rattle.run_engine.proofs.Asking.{answers-then, lacks, same-same, wants}
+use Rattle.run_engine.proofs.Taking.{took-same}
 use Rattle.run_engine.proofs.run.Core.want.Goals as goal
 
 pub returns-in-Ok : goal.returns-in-Ok
 returns-in-Ok c = wants c.args.self.now c.args.name c.in-Ok.wanted c.requires c.in-Ok.ensures
 
 pub returns-in-Err : goal.returns-in-Err
-returns-in-Err c = lacks c.args.self.now c.lack.new.self c.lack.result c.lack.ensures.answer c.lack.ensures.over
+returns-in-Err c =
+    let s = c.args.self.now in
+    answers-then 0 (suc (asks_of s)) s s c.lack.new.self c.lack.result (omega arith) (same-same s) (took-same (opens_of s))
+    (lacks s c.lack.new.self c.lack.result c.lack.ensures.answer c.lack.ensures.over)
