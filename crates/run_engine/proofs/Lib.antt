@@ -4,6 +4,7 @@ pub mod Turning
 pub mod Feeding
 pub mod Taking
 pub mod Counting
+pub mod Fewer
 pub mod Asking
 pub mod SectionForms
 pub mod Sections

@@ -1,5 +1,6 @@
 pub mod Run
 pub mod Taking
 pub mod Asks
+pub mod Pieces
 pub mod Fitting
 pub mod inside

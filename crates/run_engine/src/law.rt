@@ -1,5 +1,6 @@
 //! Laws of the definitions, as contracts.
 ghost use Rattle.run_engine.specs.Fitting.{DocumentsFit, SectionsHold};
+ghost use Rattle.run_engine.specs.Pieces.{AsksStay, PiecesFall, PiecesOpen, PiecesStay};
 
 use xml_events::laws as event_laws;
 use xml_tokens::laws as token_laws;
@@ -19,3 +20,15 @@ pub fn documents()
 {
     sections();
 }
+
+/// There is an end to the pieces that documents wait for.
+pub fn pieces()
+    // Each piece is one fewer of the document that was asked for.
+    ensures fall { PiecesFall }
+    // Reading on needs no more.
+    ensures stay { PiecesStay }
+    // A document that is opened waits for as many as the limits say.
+    ensures opened { PiecesOpen }
+    // Only pieces of the main document change which documents may be asked for.
+    ensures asks { AsksStay }
+{}
