@@ -1,14 +1,15 @@
 -- How many pieces may still come.
-use Rattle.std.proofs.Common.{◌≡◌, ◌≢◌, ◌≤◌, ◌<◌, ◌+◌, ◌-◌, ◌*◌, ℕ, suc, false, cond, List, [], ◌∷◌, ◌++◌, Option, Some, None, IsSome, refl, ap, ◌∙◌, arith, length-append}
+use Rattle.std.proofs.Common.{◌≡◌, ◌≢◌, ◌≤◌, ◌<◌, ◌+◌, ◌-◌, ◌*◌, ℕ, suc, false, cond, List, [], ◌∷◌, ◌++◌, Option, Some, None, IsSome, refl, ap, subst, ◌∙◌, arith, length-append}
+use Rattle.std.proofs.Math.Nat.{mul-le-mul_left}
 use Rattle.xml_tokens.specs.Reader.{fed}
 use Rattle.xml_events.specs.Source.{Source, ended_there, events_left, fed_with}
 use Rattle.run_engine.specs.declared.piece.Piece.{Piece}
 use Rattle.run_engine.specs.declared.piece.Piece.TheVariants as piece
-use Rattle.run_engine.specs.Asks.{main_events, of_main}
-use Rattle.run_engine.specs.Pieces.{AreOthers, AsksStay, Falls, IsRead, PiecesFall, PiecesOpen, PiecesStay, main_pieces, of_other, other_pieces, pieces_of}
+use Rattle.run_engine.specs.Asks.{AsksFewer, asks_left, main_events, of_main}
+use Rattle.run_engine.specs.Pieces.{AreOthers, AsksStay, Falls, IsRead, PiecesFall, PiecesOpen, PiecesStay, main_pieces, of_other, other_pieces, pieces_of, HasBytes, IsGoing, WaitsFall, opening}
 use Rattle.run_engine.specs.Run as spec
 use Rattle.run_engine.specs.Run.{IsHungry, MainIsHungry, MayCome, Open, OtherIsHungry, Run, Stage, StandsAt}
-use Rattle.run_engine.specs.Taking.{AreReadOn, IsReadOn, ended_first, fed_first, handed, opened_first}
+use Rattle.run_engine.specs.Taking.{AreReadOn, IsReadOn, ended_first, fed_first, handed, opened_first, Takes}
 
 unended : (s : Source) → s.lexer.ended ≡ false → pieces_of s ≡ suc (suc s.lexer.limits.input - fed s.lexer)
 unended s h = ap (λ b. cond b 0 (suc (suc s.lexer.limits.input - fed s.lexer))) h
@@ -145,3 +146,54 @@ asks-at r (spec.Over outcome) p h o m = absurd m
 
 pub asks-stay : AsksStay
 asks-stay = λ r p h o m. ap (λ n. n * (r.limits.fuel + 1) + r.fuel) (asks-at r r.stage p h o m)
+
+num-document : (a a' o o' oh w i i' : ℕ) → i' ≡ i → a' ≤ a → o' ≤ oh → oh < o + w → a' * (i' + 4) + o' + 0 < a * (i + 4) + o + w
+num-document a a' o o' oh w i i' e h k l = omega (arith, ap (λ n. a' * (n + 4)) e, mul-le-mul_left (i + 4) h, k, l)
+
+num-wants : (a a' o o' oh w i i' : ℕ) → i' ≡ i → a' < a → o' ≤ oh → oh < o + w → a' * (i' + 4) + o' + (i' + 3) < a * (i + 4) + o + w
+num-wants a a' o o' oh w i i' e h k l =
+    let more : a' + 1 ≤ a = omega (arith, h) in
+    omega (arith, e, ap (λ n. a' * (n + 4)) e, mul-le-mul_left (i + 4) more, k, l)
+
+-- what a piece leaves of the others' pieces
+handed-others :
+    (r : Run) (s : Stage) (p : Piece) → r.stage ≡ s → StandsAt s r.files r.documents → IsGoing s → MayCome s p → HasBytes p
+    → other_pieces (handed r p) < other_pieces r.documents + opening s r.limits.input
+handed-others r spec.New p e h g m b = absurd g
+handed-others r spec.Main p e h g m b = absurd g
+handed-others r (spec.Over outcome) p e h g m b = absurd g
+handed-others r spec.Document (piece.Bytes bytes) e h g m b = omega (arith, (other-fed r.documents bytes.now h b).1)
+handed-others r spec.Document piece.End e h g m b = omega (arith, (other-ended r.documents h).1)
+handed-others r spec.Document piece.Start e h g m b = absurd m
+handed-others r spec.Document piece.Opened e h g m b = absurd m
+handed-others r spec.Document piece.Absent e h g m b = absurd m
+handed-others r (spec.Wants name) piece.Opened e h g m b = omega (arith, (pieces-open r name e).1)
+handed-others r (spec.Wants name) piece.Absent e h g m b = omega arith
+handed-others r (spec.Wants name) piece.Start e h g m b = absurd m
+handed-others r (spec.Wants name) (piece.Bytes bytes) e h g m b = absurd m
+handed-others r (spec.Wants name) piece.End e h g m b = absurd m
+
+others-of : (s : Stage) → IsGoing s → AreOthers s
+others-of spec.New g = tt
+others-of spec.Main g = g
+others-of spec.Document g = tt
+others-of (spec.Wants name) g = tt
+others-of (spec.Over outcome) g = tt
+
+waits-at :
+    (t : Stage) (a a' oh w i i' o : ℕ) (before after : List Open) → i' ≡ i → oh ≡ other_pieces before → Takes t before after → AsksFewer t a a' → IsGoing t → oh < o + w
+    → a' * (i' + 4) + other_pieces after + opening t i' < a * (i + 4) + o + w
+waits-at spec.New a a' oh w i i' o before after e q k f g l = absurd g
+waits-at spec.Main a a' oh w i i' o before after e q k f g l = absurd g
+waits-at (spec.Over outcome) a a' oh w i i' o before after e q k f g l = absurd g
+waits-at spec.Document a a' oh w i i' o before after e q k f g l =
+    num-document a a' o (other_pieces after) oh w i i' e f (omega (arith, q, (pieces-stay before after k).1)) l
+waits-at (spec.Wants name) a a' oh w i i' o before after e q k f g l =
+    num-wants a a' o (other_pieces after) oh w i i' e f (omega (arith, q, (pieces-stay before after k).1)) l
+
+pub waits-fall : WaitsFall
+waits-fall = λ old new p h g m b same k f going.
+    waits-at new.stage (asks_left old) (asks_left new) (other_pieces (handed old p)) (opening old.stage old.limits.input) old.limits.input new.limits.input (other_pieces old.documents)
+    (handed old p) new.documents (ap (λ l. l.input) same.limits) refl k
+    (subst (λ n. AsksFewer new.stage n (asks_left new)) (asks-stay old p h (others-of old.stage g) m) f) going
+    (handed-others old old.stage p refl h g m b)

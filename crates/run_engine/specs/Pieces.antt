@@ -1,12 +1,12 @@
 -- How many pieces may still come to the documents that are open.
-use Rattle.std.specs.Prelude.{◌≡◌, ◌≢◌, ◌≤◌, ◌<◌, ℕ, suc, ◌+◌, ◌-◌, if◌then◌else◌, List, [], ◌∷◌, Option, Some, None}
+use Rattle.std.specs.Prelude.{◌≡◌, ◌≢◌, ◌≤◌, ◌<◌, ℕ, suc, ◌+◌, ◌-◌, ◌*◌, if◌then◌else◌, List, [], ◌∷◌, Option, Some, None}
 use Rattle.xml_tokens.specs.Reader.{fed}
 use Rattle.xml_events.specs.Source.{Source}
 use Rattle.run_engine.specs.declared.piece.Piece.{Piece}
 use Rattle.run_engine.specs.declared.piece.Piece.TheVariants as piece
-use Rattle.run_engine.specs.Asks.{asks_handed, asks_left, of_main}
-use Rattle.run_engine.specs.Run.{Document, Main, MayCome, Open, Run, Stage, Stands, Wants}
-use Rattle.run_engine.specs.Taking.{Took, handed}
+use Rattle.run_engine.specs.Asks.{AsksFewer, asks_handed, asks_left, of_main}
+use Rattle.run_engine.specs.Run.{Document, IsSameRun, Main, MayCome, Open, Run, Stage, Stands, Wants}
+use Rattle.run_engine.specs.Taking.{Takes, Took, handed}
 
 -- what is another document's than the main one
 abbrev pub of_other : (name : Option (List ℕ)) → ℕ → ℕ
@@ -59,3 +59,29 @@ AreOthers stage = Unit {0}
 
 abbrev pub AsksStay : Type 0
 AsksStay = (r : Run) (p : Piece) → Stands r → AreOthers r.stage → MayCome r.stage p → asks_handed r p ≡ asks_left r
+
+-- a run waits for another document, or for its pieces
+abbrev pub IsGoing : Stage → Type 0
+IsGoing Document = Unit {0}
+IsGoing (Wants name) = Unit {0}
+IsGoing stage = ⊥
+
+-- bytes that come are some
+abbrev pub HasBytes : Piece → Type 0
+HasBytes (piece.Bytes bytes) = bytes.now ≢ []
+HasBytes other = Unit {0}
+
+abbrev pub opening : Stage → (limit : ℕ) → ℕ
+opening (Wants name) limit = limit + 3
+opening stage limit = 0
+
+-- so many answers come at most before the main document goes on, or the run is over
+abbrev pub waits_left : Run → ℕ
+waits_left r = asks_left r * (r.limits.input + 4) + other_pieces r.documents + opening r.stage r.limits.input
+
+-- each answer to a piece that doesn't come to the main document is one of these
+abbrev pub WaitsFall : Type 0
+WaitsFall =
+    (old new : Run) (p : Piece) → Stands old → IsGoing old.stage → MayCome old.stage p → HasBytes p → IsSameRun old new
+    → Takes new.stage (handed old p) new.documents → AsksFewer new.stage (asks_handed old p) (asks_left new) → IsGoing new.stage
+    → waits_left new < waits_left old

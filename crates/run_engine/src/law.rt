@@ -1,6 +1,6 @@
 //! Laws of the definitions, as contracts.
 ghost use Rattle.run_engine.specs.Fitting.{DocumentsFit, SectionsHold};
-ghost use Rattle.run_engine.specs.Pieces.{AsksStay, PiecesFall, PiecesOpen, PiecesStay};
+ghost use Rattle.run_engine.specs.Pieces.{AsksStay, PiecesFall, PiecesOpen, PiecesStay, WaitsFall};
 
 use xml_events::laws as event_laws;
 use xml_tokens::laws as token_laws;
@@ -31,4 +31,6 @@ pub fn pieces()
     ensures opened { PiecesOpen }
     // Only pieces of the main document change which documents may be asked for.
     ensures asks { AsksStay }
+    // So there is an end to what is read before the main document goes on.
+    ensures waits { WaitsFall }
 {}
