@@ -15,6 +15,9 @@ pub fn append_both(
 ) -> Result<(), Memory>
     ensures bytes { Begins bytes.old.items bytes.new.items }
     ensures notes { Begins notes.old.items notes.new.items }
+    // All of them are.
+    ensures all_bytes { OnOk result (bytes.new.items ≡ bytes.old.items ++ more.old.items) }
+    ensures all_notes { OnOk result (notes.new.items ≡ notes.old.items ++ others.old.items) }
 {
     match append(bytes, more) {
         Ok(()) => append(notes, others),
