@@ -302,6 +302,7 @@ impl Core {
     }
 
     // Takes the next event, if one is ready.
+    #[inline(always)]
     fn advance(&mut self) -> Option<Pumped>
         requires { Reads self.old }
         ensures { Advances self.old result self.new }
@@ -316,6 +317,7 @@ impl Core {
     }
 
     // Hands an event of the newest document to the machine.
+    #[inline(always)]
     fn hand(&mut self, event: Event) -> Option<Pumped>
         requires { HasTold event self.old }
         ensures { Hands self.old result self.new }
@@ -336,6 +338,7 @@ impl Core {
     }
 
     // The next event of the newest document.
+    #[inline(always)]
     fn pull(&mut self) -> Pull
         requires { Reads self.old }
         ensures { Pulls self.old result self.new }
