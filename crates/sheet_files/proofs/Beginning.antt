@@ -1,7 +1,7 @@
 -- What is so where the sheet's own file was opened, or is absent.
 use Rattle.std.proofs.Common.{◌≡◌, ℕ, suc, ◌+◌, Bool, false, List, [], ◌∷◌, ◌++◌, length, Option, Some, None, Err, refl, sym, ap, subst, ◌∙◌, arith}
 use Rattle.std.proofs.lemmas.Bool.{false≢true}
-use Rattle.stx_base.specs.Course.{Over, Say, says}
+use Rattle.stx_base.specs.Course.{Say, says}
 use Rattle.stx_base.specs.declared.fault.SheetCode.TheVariants as code
 use Rattle.stx_base.specs.declared.limits.Limits.{Limits}
 use Rattle.xml_events.specs.Document.{doc}
@@ -11,38 +11,30 @@ use Rattle.xml_events.specs.Tree.{Future}
 use Rattle.xml_events.specs.declared.event.Event.{Event}
 use Rattle.xml_events.specs.declared.event.Pull.TheVariants as pull
 use Rattle.sheet_loader.specs.Files.{Documents, load, load_from, loads}
-use Rattle.sheet_loader.specs.Load.{outcome, sheet_of}
+use Rattle.sheet_loader.specs.Laws.{ComesToOne}
+use Rattle.sheet_loader.specs.Load.{sheet_of}
 use Rattle.sheet_loader.specs.Lists.{FilesAre, lists_of}
 use Rattle.sheet_loader.specs.Loaders.{Standing, is_over}
-use Rattle.sheet_loader.specs.Reading.{File, Wants}
+use Rattle.sheet_loader.specs.Reading.{File}
 use Rattle.sheet_loader.specs.Remaining.{beginning, remaining}
 use Rattle.sheet_loader.specs.Values.{Reads}
 use Rattle.sheet_loader.specs.Versions.{language, version_of}
 use Rattle.sheet_files.specs.Following.{Comes, Follows, IsGoing}
 use Rattle.sheet_files.specs.Frames.{Frame, GoesOn, cut_file, lists_cut}
+use Rattle.sheet_files.proofs.Begins.{opens_own, own_begins}
 use Rattle.sheet_files.proofs.Courses.{equal_answer}
 use Rattle.sheet_files.proofs.Cuts.{begun}
 use Rattle.sheet_files.proofs.Entering.{fresh}
 use Rattle.sheet_files.proofs.Following.{not_both}
 
--- before anything is opened the sheet's own file is wanted
 module _ (reads : Reads) (limits : Limits) (docs : Documents) (name : List ℕ) where
-  wants_own : outcome reads name [] ≡ Over (name ∷ []) (Wants [] name)
-  wants_own = refl
-
-  three : (n : ℕ) → n + 3 ≡ suc (suc (n + 1))
-  three n = omega arith
-
-  pub opens_own : load reads limits docs name ≡ load_from language reads limits docs name (suc (limits.sheet + 1)) (record { name = name; bytes = docs name; before = 0; inside = 0; known = 0 } ∷ [])
-  opens_own = ap (λ (n : ℕ). load_from language reads limits docs name n []) (three limits.sheet)
-
   -- it is absent
   pub own_absent : docs name ≡ None → load reads limits docs name ≡ loads (name ∷ []) (Err (record { file = name; code = code.NoDocument; offset = 0 }))
   own_absent none =
-      opens_own ∙ ap (λ (b : Option (List ℕ)). load_from language reads limits docs name (suc (limits.sheet + 1)) (record { name = name; bytes = b; before = 0; inside = 0; known = 0 } ∷ [])) none
+      opens_own reads limits docs name ∙ ap (λ (b : Option (List ℕ)). load_from language reads limits docs name (suc (limits.sheet + 1)) (record { name = name; bytes = b; before = 0; inside = 0; known = 0 } ∷ [])) none
 
 -- it is there, and is read next
-module _ (limits : Limits) (docs : Documents) (name bytes : List ℕ) (t : Source)
+module _ (limits : Limits) (docs : Documents) (name : List ℕ) (one : ComesToOne) (bytes : List ℕ) (t : Source)
     (begins : (bytes : List ℕ) (ended : Bool) → future t bytes ended ≡ doc limits false bytes ended ∷ []) (not_over : t.over ≡ None) (not_ended : t.lexer.ended ≡ false)
     (nothing : (ended : Bool) (e : Event) → pulled (doc limits false [] ended ∷ []) ≡ pull.Event e → ⊥)
     (x : Standing) (names : x.names ≡ name ∷ []) (progress : x.progress ≡ beginning name)
@@ -85,9 +77,13 @@ module _ (limits : Limits) (docs : Documents) (name bytes : List ℕ) (t : Sourc
     spent = 0;
     all = omega arith;
     adds = (refl, tt);
+    read = refl;
     few = omega arith;
     busy = λ some. absurd (omega (arith, some));
     most = suc (limits.sheet + 1);
     more = omega arith;
+    chain = λ are reads. ap (λ (b : Option (List ℕ)). record { name = name; bytes = b; before = 0; inside = 0; known = 0 } ∷ []) are.0;
     loads = λ are reads. opens_own reads limits docs name ∙ ap (λ (b : Option (List ℕ)). load_from language reads limits docs name (suc (limits.sheet + 1)) (record { name = name; bytes = b; before = 0; inside = 0; known = 0 } ∷ [])) are.0;
+    short = (omega arith, tt);
+    begins = λ are reads. own_begins reads limits docs name one;
   }

@@ -20,7 +20,9 @@ use Rattle.sheet_files.specs.declared.going.Going.{Going}
 use Rattle.sheet_files.proofs.Acting.{given_more, opens_more, read_more}
 use Rattle.sheet_files.proofs.Coming.{left_files}
 use Rattle.sheet_files.proofs.Doing.{HasClosed, closes_give_none, closes_open_none, closes_read_none, counts_closed, counts_then, done_open, done_then, has_closed}
+use Rattle.sheet_files.proofs.Ends.{once_entered, once_front, once_quiet, quiet_closes, quiet_open}
 use Rattle.sheet_files.proofs.Holding.{AllApart, apart_in, apart_last, ids_front, ids_snoc, limited_front}
+use Rattle.sheet_files.proofs.Numbering.{apart_zero, closes_give_no_number, numbers_apart, numbers_entered, numbers_in_front, numbers_still}
 use Rattle.sheet_files.proofs.Opening.{append_none, length_map, map_append}
 use Rattle.sheet_files.proofs.Resting.{name_there}
 use Rattle.sheet_files.proofs.Seeing.{are_joined, as_came, changed_apart, changed_map, numbered_front, numbered_le, seen_there, unchanged_map, with_snoc}
@@ -90,6 +92,8 @@ module _ (start o : Outside) (limits : Limits) (front : List Going) (g : Going) 
       ids = ids_front o p limits front g (length files) held closes start.open_ids within.ids;
       told = if_told start.open_ids start.documents left_told;
       given = if_at start.open_ids left_given;
+      once = if_at start.open_ids (λ s e. once_quiet acts closed_acts.acts front (once_front acts front g (some_at _ start.open_ids s e within.once)) (quiet_closes closed_acts.acts closed_acts.closes));
+      numbers = if_at start.open_ids (λ s e. numbers_still acts closed_acts.acts front (closes_give_no_number closed_acts.acts closed_acts.closes) (numbers_in_front acts front g (some_at _ start.open_ids s e within.numbers)).0);
       counts = counts_then start o p within.counts (counts_closed o p g.id closes);
     }
 
@@ -100,6 +104,11 @@ open_other doc id k apart =
 
 names_one : (files : List Doc) (own : Doc) → names_of (files ++ own ∷ []) ≡ names_of files ++ own.name ∷ []
 names_one files own = map_append (λ (d : Doc). d.name) files (own ∷ [])
+
+-- as many documents were opened as there are files
+pub opens_counted : (start o : Outside) (going : List Going) (files : List Doc) (acts : List Act) → IsWithin start o going files [] acts → length (opens acts) ≡ length files
+opens_counted start o going files acts within =
+    ap length (within.opened ∙ ap (places start) (append_none (names_of files))) ∙ length_map (place_told start) (names_of files) ∙ length_map (λ (d : Doc). d.name) files
 
 module _ (start o : Outside) (limits : Limits) (going : List Going) (files : List Doc) (acts : List Act) (within : IsWithin start o going files [] acts) (held : AreHeld o limits going (length files)) where
   documents_same : o.documents ≡ start.documents
@@ -171,6 +180,8 @@ module _ (start o : Outside) (limits : Limits) (going : List Going) (files : Lis
       ids = ap (λ (q : Outside). q.open_ids) does ∙ ap (λ (t : Option (List ℕ)). and_more t (h.id ∷ [])) within.ids ∙ more_twice start.open_ids (ids_of going) (h.id ∷ []) ∙ ap (and_more start.open_ids) (sym (ids_snoc going h));
       told = if_told start.open_ids start.documents entered_told;
       given = if_at start.open_ids entered_given;
+      once = if_at start.open_ids (λ s e. once_entered acts doc going h (some_at _ start.open_ids s e within.once));
+      numbers = if_at start.open_ids (λ s e. numbers_entered acts doc going h (ids_now s e) (number ∙ sym (opens_counted start o going files acts within)) (some_at _ start.open_ids s e within.numbers));
       counts = counts_then start o p within.counts (subst (SameCounts o) (sym does) (record { doc = refl; main = refl; out = refl; note = refl }));
     } where
       more_twice : (t : Option (List ℕ)) (a b : List ℕ) → and_more (and_more t a) b ≡ and_more t (a ++ b)
@@ -215,5 +226,7 @@ module _ (start o : Outside) (limits : Limits) (going : List Going) (files : Lis
       ids = ap (λ (q : Outside). q.open_ids) does ∙ within.ids;
       told = if_told start.open_ids start.documents absent_told;
       given = if_at start.open_ids (λ s e. spared (names_of files) going held.limited (some_at _ start.open_ids s e within.given));
+      once = if_at start.open_ids (λ s e. once_quiet acts (Open None 0 ∷ []) going (some_at _ start.open_ids s e within.once) (quiet_open None 0));
+      numbers = if_at start.open_ids (λ s e. numbers_apart acts None 0 going (apart_zero limits going held.limited) (some_at _ start.open_ids s e within.numbers));
       counts = counts_then start o p within.counts (subst (SameCounts o) (sym does) (record { doc = refl; main = refl; out = refl; note = refl }));
     }

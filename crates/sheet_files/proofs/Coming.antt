@@ -1,7 +1,7 @@
 -- What stays so of a sheet, by what the program keeps of it, where a file is left, where another one comes, and where one is missing.
 use Rattle.std.proofs.Common.{◌≡◌, ℕ, ◌+◌, ◌<◌, Bool, true, false, List, [], ◌∷◌, ◌++◌, map, length, Option, Some, None, refl, sym, ap, subst, ◌∙◌, arith, append_assoc, length-append}
 use Rattle.std.proofs.lemmas.Bool.{false≢true}
-use Rattle.stx_base.specs.Course.{Say}
+use Rattle.stx_base.specs.Course.{Begins, Say}
 use Rattle.stx_base.specs.declared.limits.Limits.{Limits}
 use Rattle.stx_host.specs.declared.act.Doc.{Doc}
 use Rattle.xml_events.specs.Answering.{Goes}
@@ -9,7 +9,7 @@ use Rattle.xml_events.specs.Document.{doc}
 use Rattle.xml_events.specs.Source.{IsAnswer, Source, future}
 use Rattle.xml_events.specs.declared.event.Pull.TheVariants as pull
 use Rattle.sheet_model.specs.declared.sheet.Sheet.{Sheet}
-use Rattle.sheet_loader.specs.Files.{Documents, changed}
+use Rattle.sheet_loader.specs.Files.{Documents, changed, load}
 use Rattle.sheet_loader.specs.Laws.{ComesToOne}
 use Rattle.sheet_loader.specs.Lists.{IsInElement, IsReading, OpensList}
 use Rattle.sheet_loader.specs.Load.{sheet_of}
@@ -18,13 +18,14 @@ use Rattle.sheet_loader.specs.Reading.{File}
 use Rattle.sheet_loader.specs.Remaining.{Ended, Progress, Reads_on, Refused_at, Spent, Stage, Wants_file, beginning, remaining}
 use Rattle.sheet_loader.specs.Values.{Reads}
 use Rattle.sheet_loader.specs.Versions.{language, version_of}
-use Rattle.sheet_files.specs.Following.{Decides, Follows}
+use Rattle.sheet_files.specs.Following.{AreParts, Decides, Follows}
 use Rattle.sheet_files.specs.Frames.{Frame, Part, grow, include_known, lists_onto, parts_of}
 use Rattle.sheet_files.specs.Held.{names_of, seen_of}
 use Rattle.sheet_files.specs.Opened.{Absent, AreOf, Seen, names_in}
-use Rattle.sheet_files.specs.Reading.{AllEnded, AreRests, InElement, IsReadBy, Shows, ShowsFiles, Stands, doc_of}
+use Rattle.sheet_files.specs.Reading.{AreRests, InElement, IsReadBy, Shows, ShowsFiles, Stands, doc_of}
 use Rattle.sheet_files.specs.declared.going.Going.{Going}
 use Rattle.sheet_files.proofs.Beginning.{own_follows}
+use Rattle.sheet_files.proofs.Begins.{next_begins}
 use Rattle.sheet_files.proofs.Entering.{enter_follows, fresh}
 use Rattle.sheet_files.proofs.Including.{count_grown}
 use Rattle.sheet_files.proofs.Leaving.{leave_follows, none_open}
@@ -130,6 +131,26 @@ module _ (limits : Limits) (name : List ℕ) (one : ComesToOne) (front : List Go
   lists_some : (docs : Documents) (rest : ℕ → List ℕ) (l : Last limits docs name front g files y left rest) → 0 < l.lists
   lists_some docs rest l = let e = (l.follows.going on).0.lists [] false in omega (arith, e, some)
 
+  -- where documents have the files
+  last_known : (docs : Documents) → AreOf docs (seen_of (front ++ g ∷ []) files)
+      → (rest : ℕ → List ℕ) × (l : Last limits docs name front g files y left rest) × AreParts docs (parts_of (shown_by g l.part l.lists l.done ∷ l.outer)) × (y.names ≡ names_of files)
+  last_known docs seen =
+      let s = read.follows on docs (λ n. []) (no_rests (front ++ g ∷ [])) in
+      let numbers = shown_numbers (λ n. []) (front ++ g ∷ []) files s.frames s.shows s.in_files in
+      let rests = rests_known docs (names_of files) 0 (front ++ g ∷ []) (length files) numbers (known_of docs (front ++ g ∷ []) files numbers seen) in
+      let l = last_for docs rests.0 rests.1 in
+      let f = shown_by g l.part l.lists l.done in
+      let shown : Shows rests.0 (front ++ g ∷ []) (f ∷ l.outer) = (front, g, refl, record { number = l.number; source = refl; taken = refl; bytes = l.bytes }, l.around) in
+      (rests.0, l, parts_are docs rests.0 (front ++ g ∷ []) files (f ∷ l.outer) shown l.in_files seen rests.2, sym l.follows.names ∙ sym (names_shown files (f ∷ l.outer) l.in_files))
+
+  -- the file that is wanted is opened next
+  pub wanted_begins : (docs : Documents) → AreOf docs (seen_of (front ++ g ∷ []) files) → (reads : Reads) → Begins (names_of files ++ href ∷ []) (load reads limits docs name).opened
+  wanted_begins docs seen reads =
+      let k = last_known docs seen in
+      let l = k.1 in
+      subst (λ (ns : List (List ℕ)). Begins (ns ++ href ∷ []) (load reads limits docs name).opened) k.3
+      (next_begins limits docs name one (shown_by g l.part l.lists l.done) l.outer y left l.follows href stage.0 stage.1 stage.2 (lists_some docs k.0 l) taken k.2 reads)
+
   -- The file was opened.
   module _ (h : Going) (z : Standing) (number : h.number ≡ length files) (empty : h.bytes.items ≡ []) (none_taken : h.taken ≡ 0)
       (begins : (bytes : List ℕ) (ended : Bool) → future h.reader bytes ended ≡ doc limits false bytes ended ∷ []) (not_over : h.reader.over ≡ None) (not_ended : h.reader.lexer.ended ≡ false)
@@ -184,24 +205,25 @@ module _ (limits : Limits) (name : List ℕ) (one : ComesToOne) (front : List Go
     absent_by docs are =
         let seen = are_front docs (seen_of (front ++ g ∷ []) files) missed are in
         let gone : docs href ≡ None = (are_back docs (seen_of (front ++ g ∷ []) files) missed are).0 in
-        let s = read.follows on docs (λ n. []) (no_rests (front ++ g ∷ [])) in
-        let numbers = shown_numbers (λ n. []) (front ++ g ∷ []) files s.frames s.shows s.in_files in
-        let rests = rests_known docs (names_of files) 0 (front ++ g ∷ []) (length files) numbers (known_of docs (front ++ g ∷ []) files numbers seen) in
-        let l = last_for docs rests.0 rests.1 in
-        let f = shown_by g l.part l.lists l.done in
-        let shown : Shows rests.0 (front ++ g ∷ []) (f ∷ l.outer) = (front, g, refl, record { number = l.number; source = refl; taken = refl; bytes = l.bytes }, l.around) in
-        let parts = parts_are docs rests.0 (front ++ g ∷ []) files (f ∷ l.outer) shown l.in_files seen rests.2 in
-        let names_are : y.names ++ href ∷ [] ≡ names_of files ++ href ∷ [] = ap (λ (ns : List (List ℕ)). ns ++ href ∷ []) (sym l.follows.names ∙ sym (names_shown files (f ∷ l.outer) l.in_files)) in
-        subst (λ (ns : List (List ℕ)). Decides limits docs name ns z) names_are
-        (missing_decides limits docs name one f l.outer y left l.follows href stage.0 stage.1 stage.2 (lists_some docs rests.0 l) taken z misses names parts gone)
+        let k = last_known docs seen in
+        let l = k.1 in
+        subst (λ (ns : List (List ℕ)). Decides limits docs name ns z) (ap (λ (ns : List (List ℕ)). ns ++ href ∷ []) k.3)
+        (missing_decides limits docs name one (shown_by g l.part l.lists l.done) l.outer y left l.follows href stage.0 stage.1 stage.2 (lists_some docs k.0 l) taken z misses names k.2 gone)
 
-    absent_whole : is_over z.progress ≡ true → Reads → (sheet : Sheet) → GivesSheet z sheet → AllEnded (front ++ g ∷ []) × (missed ≡ [])
-    absent_whole is_so reads sheet gives =
+    no_sheet_so : Reads → (sheet : Sheet) → GivesSheet z sheet → ⊥
+    no_sheet_so reads sheet gives =
         let l = last_for no_documents (λ n. []) (no_rests (front ++ g ∷ [])) in
-        absurd (no_sheet limits no_documents name one (shown_by g l.part l.lists l.done) l.outer y left l.follows href stage.0 stage.1 stage.2 (lists_some no_documents (λ n. []) l) taken z misses names sheet gives reads)
+        no_sheet limits no_documents name one (shown_by g l.part l.lists l.done) l.outer y left l.follows href stage.0 stage.1 stage.2 (lists_some no_documents (λ n. []) l) taken z misses names sheet gives reads
 
     pub absent_read : IsReadBy limits name (front ++ g ∷ []) files z left missed
-    absent_read = record { follows = λ on_z. absurd (false≢true (sym on_z ∙ over)); decides = λ is_so. absent_by; whole = absent_whole; none = λ on_z. absurd (false≢true (sym on_z ∙ over)) }
+    absent_read = record {
+      follows = λ on_z. absurd (false≢true (sym on_z ∙ over));
+      decides = λ is_so. absent_by;
+      whole = λ is_so reads sheet gives. absurd (no_sheet_so reads sheet gives);
+      sound = λ is_so reads sheet gives. absurd (no_sheet_so reads sheet gives);
+      none = λ on_z. absurd (false≢true (sym on_z ∙ over));
+      begins = λ docs are reads. wanted_begins docs (are_front docs (seen_of (front ++ g ∷ []) files) missed are) reads;
+    }
 
 -- The sheet's own file was opened.
 module _ (limits : Limits) (name : List ℕ) (one : ComesToOne) (h : Going) (x : Standing) (number : h.number ≡ 0) (empty : h.bytes.items ≡ []) (none_taken : h.taken ≡ 0)
@@ -215,7 +237,7 @@ module _ (limits : Limits) (name : List ℕ) (one : ComesToOne) (h : Going) (x :
         frames = fresh name bytes 0 h.reader ∷ [];
         shows = ([], h, refl, record { number = number; source = refl; taken = sym none_taken; bytes = ap (λ (b : List ℕ). b ++ rest h.number) (sym empty) }, refl);
         in_files = ([], record { name = name; bytes = [] }, refl, refl, refl);
-        follows = own_follows limits docs name bytes h.reader begins not_over not_ended (nothing limits) x names progress sheet;
+        follows = own_follows limits docs name one bytes h.reader begins not_over not_ended (nothing limits) x names progress sheet;
       }
 
   pub own_read : IsReadBy limits name (h ∷ []) (record { name = name; bytes = [] } ∷ []) x limits.sheet []

@@ -17,7 +17,7 @@ module _ {R O E : Type 0} where
 
 module _ {Q R O E : Type 0} {code : Q → Course Q R O E} where
   -- a result after os was said is a result of what follows
-  said_gives : (os : List O) (x : Course Q R O E) {ps : List O} {r : R} → Gives code (says os x) ps r → (rs : List O) × Gives code x rs r × (os ++ rs ≡ ps)
+  pub said_gives : (os : List O) (x : Course Q R O E) {ps : List O} {r : R} → Gives code (says os x) ps r → (rs : List O) × Gives code x rs r × (os ++ rs ≡ ps)
   said_gives os x {ps} {r} a =
       let c = after_given os ps _ r (sym (value_says (run code a.depth) os x) ∙ a.comes) in
       (c.0, record { depth = a.depth; comes = c.1 }, c.2)

@@ -1,10 +1,10 @@
 -- What a sheet is where nothing more of it is read.
-use Rattle.std.proofs.Common.{◌≡◌, ℕ, zero, suc, ◌<◌, Bool, true, List, [], ◌∷◌, ◌++◌, map, Option, Ok, Err, refl, sym, ap, subst, ◌∙◌, arith}
+use Rattle.std.proofs.Common.{◌≡◌, ℕ, zero, suc, ◌<◌, Bool, true, length, List, [], ◌∷◌, ◌++◌, map, Option, Ok, Err, refl, sym, ap, subst, ◌∙◌, arith}
 use Rattle.stx_base.specs.Course.{Given, Over}
 use Rattle.stx_base.specs.declared.fault.SheetFault.{SheetFault}
 use Rattle.stx_base.specs.declared.limits.Limits.{Limits}
 use Rattle.sheet_model.specs.declared.sheet.Sheet.{Sheet}
-use Rattle.sheet_loader.specs.Files.{Documents, Opened, by_answer, fault_at, file_of, load, load_from, loads, name_of}
+use Rattle.sheet_loader.specs.Files.{Documents, Opened, by_answer, fault_at, file_of, load, load_from, loads, name_of, share}
 use Rattle.sheet_loader.specs.Laws.{ComesToOne}
 use Rattle.sheet_loader.specs.Levels.{name_at}
 use Rattle.sheet_loader.specs.Load.{outcome}
@@ -15,9 +15,11 @@ use Rattle.sheet_loader.specs.Values.{Reads}
 use Rattle.sheet_loader.specs.Versions.{language}
 use Rattle.sheet_files.specs.Following.{AreParts, Comes, Decides, Follows}
 use Rattle.sheet_files.specs.Frames.{ComesTo, Frame, Part, as_opened, files_cut, lists_cut, opened_of, parts_of, shares}
+use Rattle.sheet_files.specs.Reading.{IsSoundWithin}
 use Rattle.sheet_files.proofs.Courses.{ends_so, gives_so}
 use Rattle.sheet_files.proofs.Including.{one_more}
 use Rattle.sheet_files.proofs.Opening.{append_none, files_shared}
+use Rattle.sheet_files.proofs.Sounding.{gives_sound}
 
 pub name_by : (opened : List Opened) (number : ℕ) → name_of opened number ≡ name_at (map (λ (o : Opened). o.name) opened) number
 name_by [] number = refl
@@ -74,3 +76,11 @@ module _ (limits : Limits) (docs : Documents) (name : List ℕ) (one : ComesToOn
 
   pub decides : Decides limits docs name x.names x
   decides = record { sheet = sheet_loads; fault = fault_loads }
+
+-- it is sound, where its own file was read to its end, and is the only one that is being read
+pub over_sound : (limits : Limits) (docs : Documents) (name : List ℕ) (f : Frame) (x : Standing) (left : ℕ) → Follows limits docs name (f ∷ []) x left → is_over x.progress ≡ true → f.taken ≡ length f.part.bytes
+    → Reads → (sheet : Sheet) → GivesSheet x sheet → IsSoundWithin limits sheet
+over_sound limits docs name f x left follows over whole =
+    let all = follows.all in
+    let read = follows.read in
+    gives_sound limits name f (share limits (as_opened f.part)) x (subst (λ (b : Bool). Comes limits name (f ∷ []) x b) over follows.comes) whole (omega (arith, all, read))

@@ -1,7 +1,7 @@
 -- What is so where a wanted file was opened and is read next.
 use Rattle.std.proofs.Common.{◌≡◌, ℕ, zero, suc, ◌+◌, ◌<◌, Bool, false, List, [], ◌∷◌, ◌++◌, map, length, slice_get, Option, Some, None, refl, sym, ap, subst, ◌∙◌, arith, append_assoc, length-append}
 use Rattle.std.proofs.lemmas.Bool.{false≢true}
-use Rattle.stx_base.specs.Course.{Say, says}
+use Rattle.stx_base.specs.Course.{Begins, Say, says}
 use Rattle.stx_base.proofs.Course.{says_says}
 use Rattle.stx_base.specs.declared.limits.Limits.{Limits}
 use Rattle.xml_events.specs.Document.{doc}
@@ -10,7 +10,7 @@ use Rattle.xml_events.specs.Telling.{pulled}
 use Rattle.xml_events.specs.Tree.{Future}
 use Rattle.xml_events.specs.declared.event.Event.{Event}
 use Rattle.xml_events.specs.declared.event.Pull.TheVariants as pull
-use Rattle.sheet_loader.specs.Files.{Documents, load_from, size_of}
+use Rattle.sheet_loader.specs.Files.{Documents, Opened, load, load_from, size_of}
 use Rattle.sheet_loader.specs.Laws.{ComesToOne}
 use Rattle.sheet_loader.specs.Lists.{Of, Element, FilesAre, Included, IsInElement, IsReading, OpensList, lists_of}
 use Rattle.sheet_loader.specs.Load.{sheet_of}
@@ -19,14 +19,17 @@ use Rattle.sheet_loader.specs.Reading.{File}
 use Rattle.sheet_loader.specs.Remaining.{Ended, Progress, Reads_on, Refused_at, Spent, Stage, Wants_file, remaining}
 use Rattle.sheet_loader.specs.Resuming.{SameAnswer}
 use Rattle.sheet_loader.specs.Versions.{language}
-use Rattle.sheet_files.specs.Following.{Adds, AreParts, Comes, Follows, IsGoing}
+use Rattle.sheet_files.specs.Following.{Adds, AreParts, Comes, Follows, IsGoing, bytes_read}
 use Rattle.sheet_files.specs.Frames.{AreCut, Frame, GoesOn, Part, as_opened, cut_file, files_cut, grow, include_known, lists_at, lists_cut, list_of, lists_onto, lists_open, opened_of, parts_of}
+use Rattle.sheet_files.specs.Undecided.{files_at}
+use Rattle.sheet_files.proofs.Begins.{next_begins, taken_grown}
 use Rattle.sheet_files.proofs.Counting.{length_cut}
 use Rattle.sheet_files.proofs.Courses.{answer_said, answer_then, equal_answer}
 use Rattle.sheet_files.proofs.Cuts.{begun}
 use Rattle.sheet_files.proofs.Following.{not_both}
-use Rattle.sheet_files.proofs.Including.{adds_grown, are_by, are_first, are_last, count, count_grown, cut_grown, files_grown, fewer_grown, fit_grown, going_grown, goes, include_grown, lists_grown, on, one_more, opens_too, pair_of, parts_grown, enough}
+use Rattle.sheet_files.proofs.Including.{adds_grown, are_by, are_first, are_last, count, count_grown, cut_grown, files_grown, fewer_grown, fit_grown, going_grown, chain_too, goes, include_grown, lists_grown, on, one_more, opened_too, opens_too, pair_of, parts_grown, enough}
 use Rattle.sheet_files.proofs.Opening.{map_append, slice_at}
+use Rattle.sheet_files.proofs.Sounding.{read_fresh, read_grown}
 
 reading_on : (p : Progress) → IsReading p → is_over p ≡ false
 reading_on (Reads_on s) r = refl
@@ -127,6 +130,23 @@ module _ (limits : Limits) (docs : Documents) (name : List ℕ) (one : ComesToOn
   count_around : length (parts_of around) ≡ length y.names
   count_around = count_grown (length bytes) (include_known f ∷ outer) ∙ count_known f outer ∙ count limits docs name one f outer y left follows href s wants_it in_element some taken
 
+  own_there : AreParts docs (parts_of entered) → docs href ≡ Some bytes
+  own_there are = (are_last docs (parts_of around) ((fresh href bytes (f.part.before + f.part.inside + f.taken) t).part ∷ []) are).0
+
+  parts_before : AreParts docs (parts_of entered) → AreParts docs (parts_of (f ∷ outer))
+  parts_before are =
+      are_by docs (parts_of around) (parts_of (f ∷ outer)) (parts_grown pair_of (λ p n. refl) (length bytes) (include_known f ∷ outer) ∙ same_known pair_of (λ p n. refl) f outer)
+      (are_first docs (parts_of around) ((fresh href bytes (f.part.before + f.part.inside + f.taken) t).part ∷ []) are)
+
+  -- the files that are opened then
+  opened_entered : docs href ≡ Some bytes → opened_too limits docs name one f outer y left follows href s wants_it in_element some taken ≡ opened_of entered
+  opened_entered there =
+      let own : Option (List ℕ) → Opened = λ b. record { name = href; bytes = b; before = f.part.before + f.part.inside + f.taken; inside = 0; known = 0 } in
+      let new = (fresh href bytes (f.part.before + f.part.inside + f.taken) t).part in
+      ap (λ (n : ℕ). opened_of (grow n (include_known f ∷ outer)) ++ own (docs href) ∷ []) (ap size_of there)
+      ∙ ap (λ (b : Option (List ℕ)). opened_of around ++ own b ∷ []) there
+      ∙ sym (map_append as_opened (parts_of around) (new ∷ []))
+
   -- and it goes on
   pub enter_follows : Follows limits docs name entered z left
   enter_follows =
@@ -137,15 +157,16 @@ module _ (limits : Limits) (docs : Documents) (name : List ℕ) (one : ComesToOn
       let name_in : Part → List ℕ = λ p. p.name in
       let sum = follows.adds.0 in
       let known_adds : Adds (include_known f ∷ outer) follows.spent = follows.adds in
+      let names_now : map name_in (parts_of (fresh href bytes (f.part.before + f.part.inside + f.taken) t ∷ around)) ≡ y.names ++ href ∷ [] =
+      map_append name_in (parts_of around) (new ∷ [])
+      ∙ ap (λ (l : List (List ℕ)). l ++ href ∷ []) (parts_grown name_in (λ p n. refl) size (include_known f ∷ outer) ∙ same_known name_in (λ p n. refl) f outer ∙ follows.names) in
       record {
         comes = subst (λ (b : Bool). Comes limits name entered z b) (sym (reading_on z.progress opens_list.0)) entered_goes;
         fewer = (λ m lt. absurd (omega (arith, lt)), fewer_grown limits name size (include_known f ∷ outer) follows.fewer);
         going = λ on_z. (fresh_going, going_grown size (include_known f ∷ outer) (known_going, (follows.going on_y).1));
         include = include_grown size (include_known f ∷ outer) (some, taken, refl, follows.include);
         fit = (tt, fit_grown limits size (include_known f ∷ outer) follows.fit);
-        names = map_append name_in (parts_of around) (new ∷ [])
-            ∙ ap (λ (l : List (List ℕ)). l ++ href ∷ []) (parts_grown name_in (λ p n. refl) size (include_known f ∷ outer) ∙ same_known name_in (λ p n. refl) f outer ∙ follows.names)
-            ∙ sym names;
+        names = names_now ∙ sym names;
         lists = λ on_z. opens_list.1
             ∙ ap (λ (n : ℕ). Included n ∷ lists_of y.progress) (sym count_around)
             ∙ ap (λ (l : List Of). Included (length (parts_of around)) ∷ l) (follows.lists on_y ∙ sym (open_grown size (include_known f ∷ outer)));
@@ -153,16 +174,23 @@ module _ (limits : Limits) (docs : Documents) (name : List ℕ) (one : ComesToOn
         spent = follows.spent;
         all = follows.all;
         adds = (omega (arith, sum), subst (Adds around) (ap (λ (n : ℕ). n + size) (sym sum ∙ omega arith)) (adds_grown size (include_known f ∷ outer) follows.spent known_adds));
+        read = read_fresh (bytes_read around) ∙ read_grown size (include_known f ∷ outer) ∙ follows.read;
         few = let h = follows.busy taken in let a = length-append (parts_of around) (new ∷ []) in let b = count_grown size (include_known f ∷ outer) in let c = count_known f outer in omega (arith, h, a, b, c);
         busy = λ none. absurd (omega (arith, none));
         most = (one_more follows.most more).0;
         more = let a = length-append (parts_of around) (new ∷ []) in let b = count_grown size (include_known f ∷ outer) in let c = count_known f outer in let d = follows.more in let e = (one_more follows.most more).1 in omega (arith, a, b, c, d, e);
+        chain = λ are reads.
+            let a = length-append (parts_of around) (new ∷ []) in
+            let b = count_grown size (include_known f ∷ outer) in
+            let c = count_known f outer in
+            let count : length (parts_of entered) ≡ suc (length (parts_of (f ∷ outer))) = omega (arith, a, b, c) in
+            ap (files_at reads limits docs name) count
+            ∙ chain_too limits docs name one f outer y left follows href s wants_it in_element some taken (parts_before are) reads
+            ∙ opened_entered (own_there are);
         loads = λ are reads.
-            let there : docs href ≡ Some bytes = (are_last docs (parts_of around) (new ∷ []) are).0 in
-            let before : AreParts docs (parts_of (f ∷ outer)) =
-            are_by docs (parts_of around) (parts_of (f ∷ outer)) (parts_grown pair_of (λ p n. refl) size (include_known f ∷ outer) ∙ same_known pair_of (λ p n. refl) f outer) (are_first docs (parts_of around) (new ∷ []) are) in
-            opens_too limits docs name one f outer y left follows href s wants_it in_element some taken before reads
-            ∙ ap (λ (n : ℕ). load_from language reads limits docs name (one_more follows.most more).0 (opened_of (grow n (include_known f ∷ outer)) ++ record { name = href; bytes = docs href; before = f.part.before + f.part.inside + f.taken; inside = 0; known = 0 } ∷ [])) (ap size_of there)
-            ∙ ap (λ (b : Option (List ℕ)). load_from language reads limits docs name (one_more follows.most more).0 (opened_of around ++ record { name = href; bytes = b; before = f.part.before + f.part.inside + f.taken; inside = 0; known = 0 } ∷ [])) there
-            ∙ ap (load_from language reads limits docs name (one_more follows.most more).0) (sym (map_append as_opened (parts_of around) (new ∷ [])));
+            opens_too limits docs name one f outer y left follows href s wants_it in_element some taken (parts_before are) reads
+            ∙ ap (load_from language reads limits docs name (one_more follows.most more).0) (opened_entered (own_there are));
+        short = (omega arith, taken_grown limits size (include_known f ∷ outer) follows.short);
+        begins = λ are reads. subst (λ (ns : List (List ℕ)). Begins ns (load reads limits docs name).opened) (sym names_now)
+            (next_begins limits docs name one f outer y left follows href s wants_it in_element some taken (parts_before are) reads);
       }

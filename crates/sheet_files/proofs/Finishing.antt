@@ -19,7 +19,8 @@ use Rattle.sheet_loader.specs.Loaders.{EndsInFault, GivesSheet, Standing, is_ove
 use Rattle.sheet_files.specs.Held.{AreNumbered, IsHeld, IsWithin, SameCounts, ids_of, names_of}
 use Rattle.sheet_files.specs.Loading.{LoadsTo}
 use Rattle.sheet_files.specs.Reading.{IsRead, IsReadBy}
-use Rattle.sheet_files.specs.Steps.{Enters, FailsAs, Finishes, IsEmpty, IsFresh, IsHalted, IsLastOpen, KeepsFiles, LeavesAll, OpensOwn, StepsTo}
+use Rattle.sheet_files.specs.Steps.{Enters, FailsAs, Finishes, IsEmpty, IsFresh, IsHalted, IsLastOpen, KeepsFiles, LeavesAll, OpensFirst, OpensOwn, StepsTo, names_to}
+use Rattle.sheet_files.specs.Undecided.{IsUndecided}
 use Rattle.sheet_files.specs.declared.going.Going.{Going}
 use Rattle.sheet_files.specs.declared.load.Loaded.{Loaded}
 use Rattle.sheet_files.specs.declared.reading.Halt.{Halt}
@@ -27,12 +28,16 @@ use Rattle.sheet_files.specs.declared.reading.Halt.TheVariants as halt
 use Rattle.sheet_files.specs.declared.reading.Reading.{Reading}
 use Rattle.sheet_files.proofs.Coming.{own_read}
 use Rattle.sheet_files.proofs.Doing.{closes_open_none, counts_closed, counts_none, counts_then, done_nothing, done_open, done_then, has_closed}
-use Rattle.sheet_files.proofs.Holding.{closed_ids}
+use Rattle.sheet_files.proofs.Ends.{quiet_closes}
+use Rattle.sheet_files.proofs.Halting.{first_like, first_none, first_own, first_told}
+use Rattle.sheet_files.proofs.Holding.{closed_ids, if_some}
 use Rattle.sheet_files.proofs.Opening.{length_map}
 use Rattle.sheet_files.proofs.Outcomes.{fault_loads_to, memory_loads_to, sheet_loads_to, short_loads_to, unopened_loads_to, unread_loads_to}
 use Rattle.sheet_files.proofs.Owning.{own_held, own_within}
 use Rattle.sheet_files.proofs.Seeing.{no_snoc, numbered_front, snoc_same}
+use Rattle.sheet_files.proofs.Staying.{begins_undecided, opened_undecided, stays_closed}
 use Rattle.sheet_files.proofs.Stepping.{held_like, read_like, within_like}
+use Rattle.sheet_files.proofs.Within.{if_at}
 
 -- the id that was given is the last one
 given_last : (told : Option (List ℕ)) (id : ℕ) → IfSome told (λ ids. is_among ids id ≡ false) → IfSome (and_more told (id ∷ [])) (λ ids. (before : List ℕ) × (ids ≡ before ++ id ∷ []) × (is_among before id ≡ false))
@@ -95,66 +100,77 @@ module _ (o : Outside) (old new : Reading) (file : List ℕ) (id : ℕ) (empty :
       within_like start o (own ∷ []) new.going.items (record { name = file; bytes = [] } ∷ []) new.files.items [] (Open (option_and_then (λ docs. place docs file) start.documents) own.id ∷ []) going_is files_is
       (own_within start o old.limits file own (subst (OpensOwn start o file) (sym fresh.given) opens) number fresh.nothing ended)
 
+  pub begun_asked : (start : Outside) → IsUndecided start new.limits file (Open (option_and_then (λ docs. place docs file) start.documents) own.id ∷ [])
+  begun_asked start = opened_undecided new.limits file start (option_and_then (λ docs. place docs file) start.documents) own.id
+
 -- memory was wanting before anything was read
 pub own_short : (start o p : Outside) (limits : Limits) (file : List ℕ) (id : ℕ) → OpensOwn start o file id → Closes o id p → LoadsTo start p limits file (Err outcome.Memory)
 own_short start o p limits file id opens closes =
     let doc = option_and_then (λ docs. place docs file) start.documents in
     let closed = has_closed o p id opens.may.above_zero closes in
     short_loads_to start p limits file (Open doc id ∷ closed.acts) (file ∷ []) (done_then start o p (Open doc id ∷ []) closed.acts (done_open start o file (Id id) opens.may opens.opens) closed.done)
-    (ap (λ (l : List (Option ℕ)). doc ∷ l) (closes_open_none closed.acts closed.closes))
+    (ap (λ (l : List (Option ℕ)). doc ∷ l) (closes_open_none closed.acts closed.closes)) (first_own start limits file) (if_at start.open_ids (λ s e. (quiet_closes closed.acts closed.closes).none_behind))
+    (stays_closed limits file start (Open doc id ∷ []) closed.acts closed.closes (opened_undecided limits file start doc id))
     (counts_then start o p (subst (SameCounts start) (sym opens.opens) (record { doc = refl; main = refl; out = refl; note = refl })) (counts_closed o p id closes))
     (closed_ids o p start.open_ids id opens.may.above_zero opens.may.not_open (ap (λ (x : Outside). x.open_ids) opens.opens) closes)
 
 pub nothing_loads_to : (start : Outside) (limits : Limits) (name : List ℕ) → LoadsTo start start limits name (Err outcome.Memory)
-nothing_loads_to start limits name = short_loads_to start start limits name [] [] (done_nothing start) refl (counts_none start) refl
+nothing_loads_to start limits name = short_loads_to start start limits name [] [] (done_nothing start) refl (first_none start limits name) (if_at start.open_ids (λ s e. tt)) (begins_undecided limits name start) (counts_none start) refl
 
 -- all was read
-module _ (start o q p : Outside) (limits : Limits) (name : List ℕ) (first mid new : Reading) (acts : List Act) (within : IsWithin start o first.going.items first.files.items [] acts)
+module _ (start o q p : Outside) (limits : Limits) (name : List ℕ) (first mid new : Reading) (acts : List Act) (within : IsWithin start o first.going.items first.files.items [] acts) (asked : IsUndecided start first.limits name acts)
     (steps : StepsTo name o q first mid (Ok tt)) (same_limits : mid.limits ≡ limits) (over : is_over mid.loader.progress ≡ true) (held : IsHeld q mid) (leaves : LeavesAll q p mid new) where
   pub finished_to : (result : Result Loaded Outcome) → Finishes new result → LoadsTo start p limits name result
   finished_to result finishes =
       let w = steps.3 start acts within in
       let read = subst (λ (l : Limits). IsReadBy l name mid.going.items mid.files.items mid.loader mid.left steps.0) same_limits steps.1 in
       let ids = leaves.ids start.open_ids w.1.ids in
-      by result finishes read w.0 w.1 ids where
-        by : (result : Result Loaded Outcome) → Finishes new result → IsReadBy limits name mid.going.items mid.files.items mid.loader mid.left steps.0 → (acts : List Act) → IsWithin start q mid.going.items mid.files.items steps.0 acts → p.open_ids ≡ start.open_ids → LoadsTo start p limits name result
-        by (Ok loaded) finishes read acts w ids =
-            sheet_loads_to start q p limits name mid.going.items mid.files.items mid.loader mid.left steps.0 read over held.numbered acts w leaves.acts leaves.closes leaves.done leaves.counts ids in_one_way.0 loaded
+      let undecided = subst (λ (l : Limits). IsUndecided start l name w.0) (sym steps.4 ∙ same_limits) (w.2 asked) in
+      by result finishes read w.0 w.1 undecided ids where
+        by : (result : Result Loaded Outcome) → Finishes new result → IsReadBy limits name mid.going.items mid.files.items mid.loader mid.left steps.0 → (acts : List Act) → IsWithin start q mid.going.items mid.files.items steps.0 acts → IsUndecided start limits name acts → p.open_ids ≡ start.open_ids → LoadsTo start p limits name result
+        by (Ok loaded) finishes read acts w undecided ids =
+            sheet_loads_to start q p limits name mid.going.items mid.files.items mid.loader mid.left steps.0 read over held.numbered acts w undecided leaves.acts leaves.closes leaves.done leaves.counts ids in_one_way.0 loaded
             (subst (λ (x : Standing). GivesSheet x loaded.sheet) leaves.loader finishes.0) (finishes.1 ∙ leaves.files)
-        by (Err (outcome.Sheet fault)) finishes read acts w ids =
-            fault_loads_to start q p limits name mid.going.items mid.files.items mid.loader mid.left steps.0 read over held.numbered acts w leaves.acts leaves.closes leaves.done leaves.counts ids fault
+        by (Err (outcome.Sheet fault)) finishes read acts w undecided ids =
+            fault_loads_to start q p limits name mid.going.items mid.files.items mid.loader mid.left steps.0 read over held.numbered acts w undecided leaves.acts leaves.closes leaves.done leaves.counts ids fault
             (subst (λ (x : Standing). EndsInFault x fault) leaves.loader finishes)
-        by (Err outcome.Memory) finishes read acts w ids = memory_loads_to start q p limits name acts leaves.acts (names_of mid.files.items ++ _) w.done w.opened leaves.closes leaves.done ids leaves.counts w.counts
-        by (Err outcome.Done) finishes read acts w ids = absurd finishes
-        by (Err (outcome.Run file code offset)) finishes read acts w ids = absurd finishes
-        by (Err outcome.Usage) finishes read acts w ids = absurd finishes
-        by (Err (outcome.Xml file fault)) finishes read acts w ids = absurd finishes
-        by (Err (outcome.Host file fault offset)) finishes read acts w ids = absurd finishes
-        by (Err (outcome.Fuel file offset)) finishes read acts w ids = absurd finishes
+        by (Err outcome.Memory) finishes read acts w undecided ids = memory_loads_to start q p limits name acts leaves.acts (names_of mid.files.items ++ _) w.done w.opened (if_some start.open_ids (λ ids once. once.none_behind) w.once) undecided leaves.closes leaves.done ids leaves.counts
+            (first_told start q limits name mid.going.items mid.files.items mid.loader mid.left steps.0 acts read w) w.counts
+        by (Err outcome.Done) finishes read acts w undecided ids = absurd finishes
+        by (Err (outcome.Run file code offset)) finishes read acts w undecided ids = absurd finishes
+        by (Err outcome.Usage) finishes read acts w undecided ids = absurd finishes
+        by (Err (outcome.Xml file fault)) finishes read acts w undecided ids = absurd finishes
+        by (Err (outcome.Host file fault offset)) finishes read acts w undecided ids = absurd finishes
+        by (Err (outcome.Fuel file offset)) finishes read acts w undecided ids = absurd finishes
 
 -- reading halted
-module _ (start o q p : Outside) (limits : Limits) (name : List ℕ) (first mid kept new : Reading) (acts : List Act) (within : IsWithin start o first.going.items first.files.items [] acts)
-    (held : IsHeld q mid) (keeps : KeepsFiles mid kept) (leaves : LeavesAll q p kept new) where
+module _ (start o q p : Outside) (limits : Limits) (name : List ℕ) (first mid kept new : Reading) (acts : List Act) (within : IsWithin start o first.going.items first.files.items [] acts) (asked : IsUndecided start first.limits name acts) (begun_limits : first.limits ≡ limits)
+    (same_limits : mid.limits ≡ limits) (held : IsHeld q mid) (keeps : KeepsFiles mid kept) (leaves : LeavesAll q p kept new) where
   pub kept_held : IsHeld q kept
   kept_held = held_like q mid.limits kept.limits mid.going.items kept.going.items (length mid.files.items) (length kept.files.items) (ap (λ v. v.items) keeps.0) keeps.1 keeps.2 held
 
   pub halted_to : (why : Halt) (told : Outcome) → StepsTo name o q first mid (Err why) → FailsAs why mid told → LoadsTo start p limits name (Err told)
-  halted_to why told steps fails = by why (steps start acts within) fails where
-    by : (why : Halt) → IsHalted start q mid why → FailsAs why mid told → LoadsTo start p limits name (Err told)
-    by (halt.Unopened file) h fails =
-        subst (λ (t : Outcome). LoadsTo start p limits name (Err t)) (sym fails)
-        (unopened_loads_to start q p limits name h.acts leaves.acts h.names h.done h.opened leaves.closes leaves.done (leaves.ids start.open_ids (h.ids ∙ ap (λ (l : List Going). and_more start.open_ids (ids_of l)) (sym (ap (λ v. v.items) keeps.0)))) leaves.counts file h.counts)
-    by halt.Memory h fails =
-        subst (λ (t : Outcome). LoadsTo start p limits name (Err t)) (sym fails)
-        (memory_loads_to start q p limits name h.acts leaves.acts h.names h.done h.opened leaves.closes leaves.done (leaves.ids start.open_ids (h.ids ∙ ap (λ (l : List Going). and_more start.open_ids (ids_of l)) (sym (ap (λ v. v.items) keeps.0)))) leaves.counts h.counts)
-    by halt.Unread h fails =
-        elim fails [
-          | inl none ↦ absurd (no_snoc h.at.0 h.at.1 (sym h.at.2 ∙ none.1))
-          | inr some ↦ let same = (snoc_same h.at.0 some.0 h.at.1 some.1 (sym h.at.2 ∙ some.2)).1 in
-              let number = (numbered_front 0 h.at.0 h.at.1 (length mid.files.items) (subst (λ (l : List Going). AreNumbered 0 l (length mid.files.items)) h.at.2 held.numbered)).1 in
-              let count = length_map (λ (d : Doc). d.name) mid.files.items in
-              let names = ap length h.at.3 in
-              let told_is = some.3 ∙ ap (λ (g : Going). outcome.Host (name_at (names_of mid.files.items) g.number) host_fault.Doc (length g.bytes.items)) (sym same) ∙ ap (λ (ns : List (List ℕ)). outcome.Host (name_at ns h.at.1.number) host_fault.Doc (length h.at.1.bytes.items)) (sym h.at.3) in
-              subst (λ (t : Outcome). LoadsTo start p limits name (Err t)) (sym told_is)
-              (unread_loads_to start q p limits name h.acts leaves.acts h.names h.done h.opened leaves.closes leaves.done (leaves.ids start.open_ids (h.ids ∙ ap (λ (l : List Going). and_more start.open_ids (ids_of l)) (sym (ap (λ v. v.items) keeps.0)))) leaves.counts h.at.1.id h.at.1.number (length h.at.1.bytes.items) (omega (arith, number, count, names)) h.counts h.at.4)
-        ]
+  halted_to why told steps fails =
+      let halts = steps start acts within in
+      by why halts.0 (subst (λ (l : Limits). IsUndecided start l name halts.0.acts) begun_limits (halts.1 asked)) fails where
+        first_by : (why : Halt) (h : IsHalted name start q mid why) → OpensFirst start limits name (names_to h.names why)
+        first_by why h = first_like start mid.limits limits name (names_to h.names why) (names_to h.names why) (sym same_limits) refl h.first
+
+        by : (why : Halt) (h : IsHalted name start q mid why) → IsUndecided start limits name h.acts → FailsAs why mid told → LoadsTo start p limits name (Err told)
+        by (halt.Unopened file) h undecided fails =
+            subst (λ (t : Outcome). LoadsTo start p limits name (Err t)) (sym fails)
+            (unopened_loads_to start q p limits name h.acts leaves.acts h.names h.done h.opened h.once undecided leaves.closes leaves.done (leaves.ids start.open_ids (h.ids ∙ ap (λ (l : List Going). and_more start.open_ids (ids_of l)) (sym (ap (λ v. v.items) keeps.0)))) leaves.counts file (first_by (halt.Unopened file) h) h.counts)
+        by halt.Memory h undecided fails =
+            subst (λ (t : Outcome). LoadsTo start p limits name (Err t)) (sym fails)
+            (memory_loads_to start q p limits name h.acts leaves.acts h.names h.done h.opened h.once undecided leaves.closes leaves.done (leaves.ids start.open_ids (h.ids ∙ ap (λ (l : List Going). and_more start.open_ids (ids_of l)) (sym (ap (λ v. v.items) keeps.0)))) leaves.counts (first_by halt.Memory h) h.counts)
+        by halt.Unread h undecided fails =
+            elim fails [
+              | inl none ↦ absurd (no_snoc h.at.0 h.at.1 (sym h.at.2 ∙ none.1))
+              | inr some ↦ let same = (snoc_same h.at.0 some.0 h.at.1 some.1 (sym h.at.2 ∙ some.2)).1 in
+                  let number = (numbered_front 0 h.at.0 h.at.1 (length mid.files.items) (subst (λ (l : List Going). AreNumbered 0 l (length mid.files.items)) h.at.2 held.numbered)).1 in
+                  let count = length_map (λ (d : Doc). d.name) mid.files.items in
+                  let names = ap length h.at.3 in
+                  let told_is = some.3 ∙ ap (λ (g : Going). outcome.Host (name_at (names_of mid.files.items) g.number) host_fault.Doc (length g.bytes.items)) (sym same) ∙ ap (λ (ns : List (List ℕ)). outcome.Host (name_at ns h.at.1.number) host_fault.Doc (length h.at.1.bytes.items)) (sym h.at.3) in
+                  subst (λ (t : Outcome). LoadsTo start p limits name (Err t)) (sym told_is)
+                  (unread_loads_to start q p limits name h.acts leaves.acts h.names h.done h.opened h.once undecided leaves.closes leaves.done (leaves.ids start.open_ids (h.ids ∙ ap (λ (l : List Going). and_more start.open_ids (ids_of l)) (sym (ap (λ v. v.items) keeps.0)))) leaves.counts h.at.1.id h.at.1.number (length h.at.1.bytes.items) (omega (arith, number, count, names)) (first_by halt.Unread h) h.counts h.at.4)
+            ]

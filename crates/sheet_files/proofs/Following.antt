@@ -136,9 +136,13 @@ module _ (limits : Limits) (docs : Documents) (name : List ℕ) where
         spent = follows.spent;
         all = follows.all;
         adds = follows.adds;
+        read = follows.read;
         few = follows.few;
         busy = follows.busy;
         most = follows.most;
         more = follows.more;
         loads = follows.loads;
+        chain = follows.chain;
+        short = follows.short;
+        begins = follows.begins;
       }

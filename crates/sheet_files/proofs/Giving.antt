@@ -15,7 +15,7 @@ use Rattle.sheet_loader.specs.Loaders.{EndsAtLimit, GivesSheet, Standing, is_ove
 use Rattle.sheet_loader.specs.Reading.{File}
 use Rattle.sheet_loader.specs.Resuming.{CutsList, TakesElement}
 use Rattle.sheet_loader.specs.Values.{Reads}
-use Rattle.sheet_files.specs.Reading.{AllEnded, AreRests, IsReadBy, Shows}
+use Rattle.sheet_files.specs.Reading.{AllEnded, AreRests, IsReadBy, IsSoundWithin, Shows}
 use Rattle.sheet_files.specs.declared.going.Going.{Going}
 use Rattle.sheet_files.proofs.Handing.{byte_follows, end_follows, limit_follows, none_at_limit}
 use Rattle.sheet_files.proofs.Opening.{append_none}
@@ -42,10 +42,10 @@ module _ (limits : Limits) (name : List ℕ) (one : ComesToOne) (cuts_end : (rea
 
   -- its file with a piece more before what is still to come
   module _ (piece : List ℕ) (docs : Documents) (rest : ℕ → List ℕ) (h : Going) (number : h.number ≡ g.number) (rests : AreRests rest (front ++ h ∷ [])) where
-    abbrev old : ℕ → List ℕ
+    abbrev pub old : ℕ → List ℕ
     old = with_rest g.number (piece ++ rest g.number) rest
 
-    before : Last limits docs name front g files x left old
+    pub before : Last limits docs name front g files x left old
     before =
         let r = rests_front rest front h rests in
         let some = some_last limits name one front g files x left read on none in
@@ -56,12 +56,12 @@ module _ (limits : Limits) (name : List ℕ) (one : ComesToOne) (cuts_end : (rea
         last_with limits name one front g files x left read on none docs old
         (rests_snoc old front g (rests_like rest old 0 front (length some.in_files.0) numbers other r.0) (λ e. absurd (false≢true (sym not_ended ∙ e))))
 
-    around : Shows rest front before.outer
+    pub around : Shows rest front before.outer
     around =
         let n = before.number in
         shows_like old rest front before.outer g.number (omega (arith, n)) (λ k lt. rest_other g.number k (piece ++ rest g.number) rest (λ e. absurd (omega (arith, e, lt)))) before.around
 
-    bytes : before.part.bytes ≡ (g.bytes.items ++ piece) ++ rest g.number
+    pub bytes : before.part.bytes ≡ (g.bytes.items ++ piece) ++ rest g.number
     bytes = before.bytes ∙ ap (λ (l : List ℕ). g.bytes.items ++ l) (rest_here g.number g.number (piece ++ rest g.number) rest refl) ∙ sym (append_assoc g.bytes.items piece (rest g.number))
 
   -- It is given a byte.
@@ -120,7 +120,7 @@ module _ (limits : Limits) (name : List ℕ) (one : ComesToOne) (cuts_end : (rea
         (all ∙ ap (λ (n : ℕ). h.bytes.items ++ rest n) (sym number)) (around piece docs rest h number rests) l.in_files
         (limit_follows limits docs name cuts_end elements f l.outer x left l.follows on none g.reader answer leaves goes refl y nothing_left in_all at_limit names over files_are)
 
-    limit_whole : is_over y.progress ≡ true → Reads → (sheet : Sheet) → GivesSheet y sheet → AllEnded (front ++ h ∷ [])
+    limit_whole : is_over y.progress ≡ true → Reads → (sheet : Sheet) → GivesSheet y sheet → AllEnded (front ++ h ∷ []) × IsSoundWithin limits sheet
     limit_whole is_so reads sheet gives =
         let rests = no_rests (front ++ h ∷ []) in
         let l = before piece no_documents (λ n. []) h number rests in

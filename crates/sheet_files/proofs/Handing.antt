@@ -2,7 +2,7 @@
 use Rattle.std.proofs.Common.{◌≡◌, ℕ, suc, ◌<◌, ◌≤◌, Bool, true, false, List, [], ◌∷◌, ◌++◌, length, get_or, Option, Some, None, refl, sym, ap, subst, ◌∙◌, arith}
 use Rattle.std.proofs.lemmas.Bool.{false≢true, leb-true, leb-false}
 use Rattle.std.specs.Prelude.{nat_le}
-use Rattle.stx_base.specs.Course.{says}
+use Rattle.stx_base.specs.Course.{Ends, says}
 use Rattle.stx_base.specs.declared.fault.SheetCode.TheVariants as code
 use Rattle.stx_base.specs.declared.fault.XmlFault.{XmlFault}
 use Rattle.stx_base.specs.declared.limits.Limits.{Limits}
@@ -17,6 +17,7 @@ use Rattle.sheet_loader.specs.Levels.{limit_at}
 use Rattle.sheet_loader.specs.Lists.{FilesAre, lists_in, lists_of}
 use Rattle.sheet_loader.specs.Load.{sheet_of}
 use Rattle.sheet_loader.specs.Loaders.{EndsAtLimit, EndsBad, GivesSheet, Standing, is_over, wanted_in}
+use Rattle.sheet_loader.specs.Read.{code_of_job}
 use Rattle.sheet_loader.specs.Reading.{File, Refused}
 use Rattle.sheet_loader.specs.Remaining.{Ended, Progress, Reads_on, Refused_at, Spent, Stage, Wants_file, place_of, remaining, version_by}
 use Rattle.sheet_loader.specs.Resuming.{CutsList, SameAnswer, TakesElement}
@@ -98,16 +99,21 @@ module _ (limits : Limits) (docs : Documents) (name : List ℕ) (cuts_end : (rea
         spent = follows.spent;
         all = follows.all;
         adds = follows.adds;
+        read = follows.read;
         few = follows.few;
         busy = follows.busy;
         most = follows.most;
         more = follows.more;
         loads = follows.loads;
+        chain = follows.chain;
+        short = follows.short;
+        begins = follows.begins;
       }
 
       -- the limit would come where it is
-      short : f.taken < length f.part.bytes → (reads : Reads) (cuts : List ℕ) → AreCut outer cuts → EndsShort reads name (files_cut limits (f ∷ outer) (f.taken ∷ cuts))
-      short within reads cuts cut others =
+      pub short_ends : f.taken < length f.part.bytes → (reads : Reads) (cuts : List ℕ) → AreCut outer cuts → (others : List (Option File))
+          → let files = files_cut limits (f ∷ outer) (f.taken ∷ cuts) ++ others in Ends (code_of_job reads files) (sheet_of reads name files) x.names (Refused (record { file = length (parts_of outer); offset = f.taken }) code.SheetTooLarge)
+      short_ends within reads cuts cut others =
           let n = length (parts_of outer) in
           let files = files_cut limits (f ∷ outer) (f.taken ∷ cuts) ++ others in
           let y = lists_cut outer cuts in
@@ -119,7 +125,10 @@ module _ (limits : Limits) (docs : Documents) (name : List ℕ) (cuts_end : (rea
           (answer_said reads files x.names
           (answer_then reads files (equal_answer reads files (ap (remaining reads files (Reads_on stage)) lists))
           (limited_there reads files (cuts_end reads files) (elements reads files) stage (future f.source [] false ++ y) n f.taken (stopped_with Need (future f.source [] false) y stopped_here) (number some) limit))) in
-          (x.names, record { file = n; offset = f.taken }, code.SheetTooLarge, ends.ends.from x.names _ (stopped _ x.names _))
+          ends.ends.from x.names _ (stopped _ x.names _)
+
+      short : f.taken < length f.part.bytes → (reads : Reads) (cuts : List ℕ) → AreCut outer cuts → EndsShort reads name (files_cut limits (f ∷ outer) (f.taken ∷ cuts))
+      short within reads cuts cut others = (x.names, record { file = length (parts_of outer); offset = f.taken }, code.SheetTooLarge, short_ends within reads cuts cut others)
 
       -- it is given one
       module _ (t : Source) (byte : ℕ) (less : ℕ) (within : f.taken < length f.part.bytes) (is_byte : byte ≡ get_or f.part.bytes f.taken 0) (is_fed : t ≡ fed_with s (byte ∷ []))
@@ -166,11 +175,15 @@ module _ (limits : Limits) (docs : Documents) (name : List ℕ) (cuts_end : (rea
           spent = suc follows.spent;
           all = let h = follows.all in omega (arith, h, one);
           adds = ((let h = follows.adds.0 in omega (arith, h)), follows.adds.1);
+          read = let h = follows.read in omega (arith, h);
           few = let h = follows.few in omega (arith, h);
           busy = λ some. let h = follows.few in omega (arith, h);
           most = follows.most;
           more = follows.more;
           loads = follows.loads;
+          chain = follows.chain;
+          short = (let h = follows.adds.0 in let a = follows.all in omega (arith, h, a, one), follows.short.1);
+          begins = follows.begins;
         }
 
       -- it is told that there is none
@@ -207,11 +220,15 @@ module _ (limits : Limits) (docs : Documents) (name : List ℕ) (cuts_end : (rea
           spent = follows.spent;
           all = follows.all;
           adds = follows.adds;
+          read = follows.read;
           few = follows.few;
           busy = follows.busy;
           most = follows.most;
           more = follows.more;
           loads = follows.loads;
+          chain = follows.chain;
+          short = follows.short;
+          begins = follows.begins;
         }
 
       -- the limit is reached
@@ -277,11 +294,15 @@ module _ (limits : Limits) (docs : Documents) (name : List ℕ) (cuts_end : (rea
           spent = follows.spent;
           all = follows.all;
           adds = follows.adds;
+          read = follows.read;
           few = follows.few;
           busy = follows.busy;
           most = follows.most;
           more = follows.more;
           loads = follows.loads;
+          chain = follows.chain;
+          short = follows.short;
+          begins = follows.begins;
         }
 
     -- The file has a fault.
@@ -338,9 +359,13 @@ module _ (limits : Limits) (docs : Documents) (name : List ℕ) (cuts_end : (rea
         spent = follows.spent;
         all = follows.all;
         adds = follows.adds;
+        read = follows.read;
         few = follows.few;
         busy = follows.busy;
         most = follows.most;
         more = follows.more;
         loads = follows.loads;
+        chain = follows.chain;
+        short = follows.short;
+        begins = follows.begins;
       }

@@ -3,7 +3,7 @@ use Rattle.std.proofs.Common.{◌≡◌, ℕ, zero, suc, ◌+◌, ◌<◌, ◌�
 use Rattle.stx_base.specs.Course.{Halt, Say, Over, Ends}
 use Rattle.stx_base.specs.declared.limits.Limits.{Limits}
 use Rattle.xml_events.specs.Tree.{Future}
-use Rattle.sheet_loader.specs.Files.{Documents, by_answer, file_of, known_at, load, load_from, size_of, wants}
+use Rattle.sheet_loader.specs.Files.{Documents, Opened, by_answer, file_of, known_at, load, load_from, size_of, wants}
 use Rattle.sheet_loader.specs.Laws.{ComesToOne}
 use Rattle.sheet_loader.specs.Lists.{FilesAre, IsInElement, lists_in, lists_of}
 use Rattle.sheet_loader.specs.Load.{outcome}
@@ -15,6 +15,7 @@ use Rattle.sheet_loader.specs.Values.{Reads}
 use Rattle.sheet_loader.specs.Versions.{language}
 use Rattle.sheet_files.specs.Following.{Adds, AllGoing, AreParts, EndsShort, Follows, Include, WantNoFewer}
 use Rattle.sheet_files.specs.Frames.{AreCut, FitAll, Frame, GoesOn, Part, cut_file, files_cut, grow, include_known, lists_at, lists_cut, numbers_of, opened_of, parts_of, shares, whole_file}
+use Rattle.sheet_files.specs.Undecided.{and_next, files_at}
 use Rattle.sheet_files.proofs.Counting.{AllOpen, length_cut, numbers_are}
 use Rattle.sheet_files.proofs.Courses.{answer_said, answer_then, ends_so, equal_answer}
 use Rattle.sheet_files.proofs.Following.{goes_on_by, may_be_read}
@@ -175,16 +176,26 @@ module _ (limits : Limits) (docs : Documents) (name : List ℕ) (one : ComesToOn
   less : ℕ
   less = (one_more follows.most enough).0
 
+  wants_shared : (reads : Reads) → outcome reads name (map (file_of language reads limits docs name) (opened_of (f ∷ outer))) ≡ Over (y.names ++ href ∷ []) (Wants (numbers_of (f ∷ outer)) href)
+  wants_shared reads = ap (outcome reads name) (files_shared reads limits docs name (f ∷ outer) follows.fit) ∙ wants_file reads (shares limits (f ∷ outer)) may
+
+  abbrev pub opened_too : List Opened
+  opened_too = opened_of (grow (size_of (docs href)) (include_known f ∷ outer)) ++ record { name = href; bytes = docs href; before = f.part.before + f.part.inside + f.taken; inside = 0; known = 0 } ∷ []
+
+  -- it is the next of the definition's files
+  pub chain_too : AreParts docs (parts_of (f ∷ outer)) → (reads : Reads) → files_at reads limits docs name (suc (length (parts_of (f ∷ outer)))) ≡ opened_too
+  chain_too are reads =
+      ap (λ (l : List Opened). and_next reads limits docs name l (outcome reads name (map (file_of language reads limits docs name) l))) (follows.chain are reads)
+      ∙ ap (and_next reads limits docs name (opened_of (f ∷ outer))) (wants_shared reads)
+      ∙ opened_more reads limits docs name f outer href (known reads)
+
   -- the definition opens it too
-  pub opens_too : AreParts docs (parts_of (f ∷ outer)) → (reads : Reads) → load reads limits docs name ≡ load_from language reads limits docs name (one_more follows.most enough).0 (opened_of (grow (size_of (docs href)) (include_known f ∷ outer)) ++ record { name = href; bytes = docs href; before = f.part.before + f.part.inside + f.taken; inside = 0; known = 0 } ∷ [])
+  pub opens_too : AreParts docs (parts_of (f ∷ outer)) → (reads : Reads) → load reads limits docs name ≡ load_from language reads limits docs name (one_more follows.most enough).0 opened_too
   opens_too are reads =
       let m = (one_more follows.most enough).0 in
       let opened = opened_of (f ∷ outer) in
-      let files = map (file_of language reads limits docs name) opened in
       let from = load_from language reads limits docs name in
-      let is : outcome reads name files ≡ Over (y.names ++ href ∷ []) (Wants (numbers_of (f ∷ outer)) href) =
-      ap (outcome reads name) (files_shared reads limits docs name (f ∷ outer) follows.fit) ∙ wants_file reads (shares limits (f ∷ outer)) may in
       follows.loads are reads
       ∙ ap (λ (n : ℕ). from n opened) (one_more follows.most enough).1
-      ∙ ap (by_answer language reads limits docs name (from m) opened) is
+      ∙ ap (by_answer language reads limits docs name (from m) opened) (wants_shared reads)
       ∙ ap (from m) (opened_more reads limits docs name f outer href (known reads))

@@ -23,9 +23,11 @@ use Rattle.sheet_files.specs.declared.reading.Halt.{Halt}
 use Rattle.sheet_files.specs.declared.reading.Reading.{Reading}
 use Rattle.sheet_files.proofs.Changing.{within_left}
 use Rattle.sheet_files.proofs.Coming.{leave_read, left_files}
+use Rattle.sheet_files.proofs.Doing.{has_closed}
 use Rattle.sheet_files.proofs.Holding.{held_same, limited_front}
 use Rattle.sheet_files.proofs.Opening.{append_none}
 use Rattle.sheet_files.proofs.Seeing.{length_changed, snoc_same}
+use Rattle.sheet_files.proofs.Staying.{stays_closed, stays_none, stays_then}
 use Rattle.sheet_files.proofs.Stepping.{held_like, over_files, read_like, within_like, within_same}
 use Rattle.sheet_files.proofs.Turning.{bad_read, need_read, some_last}
 use Rattle.sheet_files.proofs.Turns.{event_turns, leave_turns, need_turns}
@@ -167,7 +169,12 @@ module _ (old : Reading) (was : Going) (last : StandsLast old.going.items (vec_l
           λ start acts within.
               let w = within_same start o old.limits front was is old.files.items acts (held_was o held) id number bytes ended (within_was start o acts within) in
               let more = within_left start o old.limits front is old.files.items (acts ++ []) w held_is p (ended ∙ whole) closes in
-              (_, within_like start p front new.going.items (left_files is old.files.items) new.files.items [] _ front_is (files_is ∙ sym (left_like is was old.files.items number bytes)) more),
+              let closed = has_closed o p is.id (limited_front old.limits front is held_is.limited).1 closes in (
+                (acts ++ []) ++ closed.acts,
+                within_like start p front new.going.items (left_files is old.files.items) new.files.items [] ((acts ++ []) ++ closed.acts) front_is (files_is ∙ sym (left_like is was old.files.items number bytes)) more,
+                stays_then old.limits name start acts (acts ++ []) ((acts ++ []) ++ closed.acts) (stays_none old.limits name start acts) (stays_closed old.limits name start (acts ++ []) closed.acts closed.closes),
+              ),
+          leaves.others.2 ∙ limits,
         )
 
     pub end_less : turns_of new < turns_of old

@@ -1,5 +1,6 @@
 -- What stays so where the innermost file was read to its end and is left.
 use Rattle.std.proofs.Common.{◌≡◌, ℕ, ◌+◌, ◌-◌, ◌<◌, ◌≤◌, Bool, true, false, List, [], ◌∷◌, ◌++◌, map, length, Option, Some, refl, sym, ap, subst, ◌∙◌, arith, append_assoc}
+use Rattle.stx_base.specs.Course.{Begins}
 use Rattle.stx_base.specs.declared.limits.Limits.{Limits}
 use Rattle.xml_events.specs.Answering.{Goes}
 use Rattle.xml_events.specs.Source.{IsAnswer, Source, future}
@@ -7,16 +8,18 @@ use Rattle.xml_events.specs.Telling.{event_of, pulled, start_pulled}
 use Rattle.xml_events.specs.Tree as tree
 use Rattle.xml_events.specs.Tree.{Need, Bad, Forest, Future, End, Cut, Single, Nested}
 use Rattle.xml_events.specs.declared.event.Pull.TheVariants as pull
-use Rattle.sheet_loader.specs.Files.{Documents, load_from, share}
+use Rattle.sheet_loader.specs.Files.{Documents, load, load_from, share}
 use Rattle.sheet_loader.specs.Loaders.{Standing, is_over}
 use Rattle.sheet_loader.specs.Reading.{File}
 use Rattle.sheet_loader.specs.Values.{Reads}
 use Rattle.sheet_loader.specs.Versions.{language}
 use Rattle.sheet_files.specs.Following.{AreParts, Comes, EndsShort, Follows, HaveFault, IsGoing}
 use Rattle.sheet_files.specs.Frames.{AllFit, AreCut, Frame, Part, as_opened, cut_file, files_cut, lists_onto, lists_open, parts_of, whole_file}
+use Rattle.sheet_files.specs.Undecided.{files_at}
 use Rattle.sheet_files.proofs.Counting.{greater_first}
 use Rattle.sheet_files.proofs.Following.{goes_on_by}
 use Rattle.sheet_files.proofs.Opening.{map_append}
+use Rattle.sheet_files.proofs.Sounding.{read_left}
 use Rattle.sheet_files.proofs.Steps.{left_file}
 
 no_leaf : (leaf : tree.Leaf) → pull.Event (event_of leaf) ≡ pull.End → ⊥
@@ -107,9 +110,13 @@ module _ (limits : Limits) (docs : Documents) (name : List ℕ) (f g : Frame) (o
       spent = follows.spent;
       all = follows.all;
       adds = (follows.adds.1.0 ∙ ap (λ (n : ℕ). f.part.before + f.part.inside + n) (sym read_whole) ∙ follows.adds.0, follows.adds.1.1);
+      read = read_left f g outer read_whole ∙ follows.read;
       few = subst (λ (l : List Part). length l ≤ follows.spent + 1) parts_same follows.few;
       busy = λ some. subst (λ (l : List Part). length l ≤ follows.spent) parts_same (follows.busy ended.1);
       most = follows.most;
       more = ap (λ (l : List Part). follows.most + length l) (sym parts_same) ∙ follows.more;
+      chain = λ are reads. ap (λ (l : List Part). files_at reads limits docs name (length l)) (sym parts_same) ∙ follows.chain (subst (AreParts docs) (sym parts_same) are) reads ∙ ap (map as_opened) parts_same;
       loads = λ are reads. follows.loads (subst (AreParts docs) (sym parts_same) are) reads ∙ ap (λ (l : List Part). load_from language reads limits docs name follows.most (map as_opened l)) parts_same;
+      short = follows.short.1;
+      begins = λ are reads. subst (λ (l : List Part). Begins (map (λ (p : Part). p.name) l) (load reads limits docs name).opened) parts_same (follows.begins (subst (AreParts docs) (sym parts_same) are) reads);
     }

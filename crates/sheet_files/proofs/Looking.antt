@@ -1,5 +1,5 @@
 -- What comes of a look at the innermost file, whose reader wants more bytes.
-use Rattle.std.proofs.Common.{◌≡◌, ℕ, suc, ◌+◌, ◌<◌, ◌≤◌, Bool, true, false, List, [], ◌∷◌, ◌++◌, length, get_or, Option, None, IfSome, Ok, Err, refl, sym, ap, subst, ◌∙◌, arith}
+use Rattle.std.proofs.Common.{◌≡◌, ℕ, suc, ◌+◌, ◌<◌, ◌≤◌, Bool, true, false, List, [], ◌∷◌, ◌++◌, length, get_or, Option, None, IfSome, Ok, Err, refl, sym, ap, subst, ◌∙◌, arith, inl, inr}
 use Rattle.std.specs.Vec.{vec_len}
 use Rattle.stx_base.specs.declared.limits.Limits.{Limits}
 use Rattle.stx_host.specs.Outside.{Outside, ReadFault, Reads, and_more}
@@ -16,18 +16,21 @@ use Rattle.sheet_files.specs.Acts.{opens}
 use Rattle.sheet_files.specs.Held.{AreHeld, HaveDone, IsHeld, IsWithin, SameCounts, ids_of, kept_most, names_of, turns_left, turns_of}
 use Rattle.sheet_files.specs.Opened.{places}
 use Rattle.sheet_files.specs.Reading.{IsRead, IsReadBy, WantsBytes}
-use Rattle.sheet_files.specs.Steps.{Gets, HandsOver, IsHalted, Looks, StepsTo}
+use Rattle.sheet_files.specs.Steps.{Gets, HandsOver, IsHalted, Looks, StayUndecided, StepsTo}
 use Rattle.sheet_files.specs.declared.going.Going.{Going}
 use Rattle.sheet_files.specs.declared.reading.Halt.{Halt}
 use Rattle.sheet_files.specs.declared.reading.Halt.TheVariants as halt
 use Rattle.sheet_files.specs.declared.reading.Reading.{Reading}
 use Rattle.sheet_files.proofs.Acting.{opens_more}
+use Rattle.sheet_files.proofs.Asking.{asks_rightly, wants_facts}
 use Rattle.sheet_files.proofs.Doing.{counts_failed, counts_then, done_bytes, done_then, done_unread}
+use Rattle.sheet_files.proofs.Ends.{ReadsOn, reads_on, reads_once}
 use Rattle.sheet_files.proofs.Giving.{byte_read, end_read, limit_read}
+use Rattle.sheet_files.proofs.Halting.{first_like, first_told}
 use Rattle.sheet_files.proofs.Holding.{held_same, ids_same, limited_front}
 use Rattle.sheet_files.proofs.Lasting.{StandsLast, front, held_swapped, held_was, now_is, read_was, swapped, was_is, within_was}
 use Rattle.sheet_files.proofs.Opening.{append_none}
-use Rattle.sheet_files.proofs.Seeing.{snoc_same}
+use Rattle.sheet_files.proofs.Staying.{AsksRightly, stays_more, stays_none, stays_then}
 use Rattle.sheet_files.proofs.Stepping.{end_goes, gets_goes, over_files, over_wants_none, read_like, within_like, within_same}
 use Rattle.sheet_files.proofs.Turns.{byte_turns, end_turns}
 use Rattle.sheet_files.proofs.Within.{given_front, if_at, some_at, within_goes}
@@ -43,59 +46,68 @@ module _ (old : Reading) (was : Going) (last : StandsLast old.going.items (vec_l
   some_id = (limited_front old.limits before was held_it.limited).1
 
   -- it couldn't be read
-  module _ (new : Reading) (k : Going) (same : k ≡ was) (fault : ReadFault was.id o q) (going : new.going.items ≡ swapped old was last k) (files : new.files.items ≡ old.files.items) where
+  module _ (new : Reading) (k : Going) (same : k ≡ was) (fault : ReadFault was.id o q) (going : new.going.items ≡ swapped old was last k) (files : new.files.items ≡ old.files.items) (limits : new.limits ≡ old.limits) where
     now_was : new.going.items ≡ before ++ was ∷ []
     now_was = going ∙ now_is old was last k ∙ ap (λ (g : Going). before ++ g ∷ []) same
 
-    pub unread_halts : (start : Outside) (acts : List Act) → IsWithin start o old.going.items old.files.items [] acts → IsHalted start q new halt.Unread
-    unread_halts start acts within =
-        let w = within_was old was last start o acts within in
-        record {
-          acts = acts;
-          done = subst (HaveDone start q) (append_none acts) (done_then start o q acts [] within.done (done_unread o q was.id fault));
-          names = names_of old.files.items;
-          opened = within.opened ∙ ap (places start) (append_none (names_of old.files.items));
-          ids = ap (λ (x : Outside). x.open_ids) (fault.doc some_id).alone ∙ w.ids ∙ ap (λ (l : List Going). and_more start.open_ids (ids_of l)) (sym now_was);
-          counts = counts_failed start o q within.counts (fault.doc some_id);
-          at = (before, was, now_was, ap names_of (sym files), if_at start.open_ids (λ s e. (given_front start acts (names_of old.files.items) before was (some_at _ start.open_ids s e w.given)).1));
-        }
+    pub unread_halts : (name : List ℕ) → IsRead name old [] → (start : Outside) (acts : List Act) → IsWithin start o old.going.items old.files.items [] acts → (halted : IsHalted name start q new halt.Unread) × StayUndecided old.limits name start acts halted.acts
+    unread_halts name read start acts within =
+        let w = within_was old was last start o acts within in (
+          record {
+            acts = acts;
+            done = subst (HaveDone start q) (append_none acts) (done_then start o q acts [] within.done (done_unread o q was.id fault));
+            names = names_of old.files.items;
+            opened = within.opened ∙ ap (places start) (append_none (names_of old.files.items));
+            first = first_like start old.limits new.limits name (names_of old.files.items ++ []) (names_of old.files.items) limits (sym (append_none (names_of old.files.items))) (first_told start o old.limits name old.going.items old.files.items old.loader old.left [] acts read within);
+            ids = ap (λ (x : Outside). x.open_ids) (fault.doc some_id).alone ∙ w.ids ∙ ap (λ (l : List Going). and_more start.open_ids (ids_of l)) (sym now_was);
+            counts = counts_failed start o q within.counts (fault.doc some_id);
+            once = if_at start.open_ids (λ s e. (some_at _ start.open_ids s e within.once).none_behind);
+            at = (before, was, now_was, ap names_of (sym files), if_at start.open_ids (λ s e. (given_front start acts (names_of old.files.items) before was (some_at _ start.open_ids s e w.given)).1));
+          },
+          λ undecided. undecided,
+        )
 
   -- memory was wanting
-  pub memory_halts : (new : Reading) (more : List Act) (k : Going) → HaveDone o q more → opens more ≡ [] → q.open_ids ≡ o.open_ids → SameCounts o q → k.id ≡ was.id → new.going.items ≡ swapped old was last k
-      → (start : Outside) (acts : List Act) → IsWithin start o old.going.items old.files.items [] acts → IsHalted start q new halt.Memory
-  memory_halts new more k done none ids same id going start acts within =
-      let w = within_was old was last start o acts within in
-      record {
-        acts = acts ++ more;
-        done = done_then start o q acts more within.done done;
-        names = names_of old.files.items ++ [];
-        opened = opens_more acts more ∙ ap (λ (l : List (Option ℕ)). opens acts ++ l) none ∙ append_none (opens acts) ∙ within.opened;
-        ids = ids ∙ w.ids ∙ ap (and_more start.open_ids) (sym (ids_same before was k id)) ∙ ap (λ (l : List Going). and_more start.open_ids (ids_of l)) (sym (going ∙ now_is old was last k));
-        counts = counts_then start o q within.counts same;
-        at = tt;
-      }
+  pub memory_halts : (new : Reading) (more : List Act) (k : Going) → HaveDone o q more → opens more ≡ [] → q.open_ids ≡ o.open_ids → SameCounts o q → ReadsOn more was → k.id ≡ was.id → new.going.items ≡ swapped old was last k → new.limits ≡ old.limits
+      → (name : List ℕ) → IsRead name old [] → (start : Outside) (acts : List Act) → AsksRightly old.limits name start acts more → IsWithin start o old.going.items old.files.items [] acts → (halted : IsHalted name start q new halt.Memory) × StayUndecided old.limits name start acts halted.acts
+  memory_halts new more k done none ids same reads id going limits name read start acts asks within =
+      let w = within_was old was last start o acts within in (
+        record {
+          acts = acts ++ more;
+          done = done_then start o q acts more within.done done;
+          names = names_of old.files.items ++ [];
+          opened = opens_more acts more ∙ ap (λ (l : List (Option ℕ)). opens acts ++ l) none ∙ append_none (opens acts) ∙ within.opened;
+          first = first_like start old.limits new.limits name (names_of old.files.items ++ []) (names_of old.files.items ++ []) limits refl (first_told start o old.limits name old.going.items old.files.items old.loader old.left [] acts read within);
+          ids = ids ∙ w.ids ∙ ap (and_more start.open_ids) (sym (ids_same before was k id)) ∙ ap (λ (l : List Going). and_more start.open_ids (ids_of l)) (sym (going ∙ now_is old was last k));
+          counts = counts_then start o q within.counts same;
+          at = tt;
+          once = if_at start.open_ids (λ s e. reads_on acts more before was (some_at _ start.open_ids s e w.once) reads);
+        },
+        stays_more old.limits name start acts more asks,
+      )
 
   pub looks_held : (k : Going) (why : Halt) → Looks o q was k (Err why) → (k.id ≡ was.id) × (k.number ≡ was.number) × (k.reader ≡ was.reader) × (q.open_ids ≡ o.open_ids)
   looks_held k (halt.Unopened file) looks = absurd looks
   looks_held k halt.Unread looks = (ap (λ (g : Going). g.id) looks.0, ap (λ (g : Going). g.number) looks.0, ap (λ (g : Going). g.reader) looks.0, ap (λ (x : Outside). x.open_ids) (looks.1.doc some_id).alone)
-  looks_held k halt.Memory looks = (looks.0, looks.1, looks.2, ap (λ (x : Outside). x.open_ids) looks.3.1)
-
-  -- it can't be looked at
-  pub looks_halts : (new : Reading) (k : Going) (why : Halt) → Looks o q was k (Err why) → new.going.items ≡ swapped old was last k → new.files.items ≡ old.files.items → (start : Outside) (acts : List Act) → IsWithin start o old.going.items old.files.items [] acts → IsHalted start q new why
-  looks_halts new k (halt.Unopened file) looks going files start acts within = absurd looks
-  looks_halts new k halt.Unread looks going files start acts within = unread_halts new k looks.0 looks.1 going files start acts within
-  looks_halts new k halt.Memory looks going files start acts within =
-      memory_halts new (Read was.id looks.3.0 ∷ []) k (done_bytes o q was.id looks.3.0 some_id looks.3.1) refl (ap (λ (x : Outside). x.open_ids) looks.3.1) (subst (SameCounts o) (sym looks.3.1) (record { doc = refl; main = refl; out = refl; note = refl })) looks.0 going start acts within
+  looks_held k halt.Memory looks = (looks.0, looks.1, looks.2, ap (λ (x : Outside). x.open_ids) looks.4.1)
 
   -- its reader wants bytes
   module _ (wants : WantsBytes old.going.items) where
     facts : (pulled (future was.reader [] false) ≡ pull.Need) × (was.reader.lexer.ended ≡ false) × (was.reader.over ≡ None) × (was.reader.known ≡ [])
-    facts =
-        let same = (snoc_same wants.0 before wants.1 was (sym wants.2 ∙ was_is old was last)).1 in
-        subst (λ (g : Going). (pulled (future g.reader [] false) ≡ pull.Need) × (g.reader.lexer.ended ≡ false) × (g.reader.over ≡ None) × (g.reader.known ≡ [])) same wants.3
+    facts = wants_facts old was last wants
 
     pub not_ended : was.reader.lexer.ended ≡ false
     not_ended = facts.1
+
+    -- it can't be looked at
+    pub looks_halts : (name : List ℕ) → IsRead name old [] → is_over old.loader.progress ≡ false → wanted_in old.loader.progress ≡ None
+        → (new : Reading) (k : Going) (why : Halt) → Looks o q was k (Err why) → new.going.items ≡ swapped old was last k → new.files.items ≡ old.files.items → new.limits ≡ old.limits
+        → (start : Outside) (acts : List Act) → IsWithin start o old.going.items old.files.items [] acts → (halted : IsHalted name start q new why) × StayUndecided old.limits name start acts halted.acts
+    looks_halts name read on none new k (halt.Unopened file) looks going files limits start acts within = absurd looks
+    looks_halts name read on none new k halt.Unread looks going files limits start acts within = unread_halts new k looks.0 looks.1 going files limits name read start acts within
+    looks_halts name read on none new k halt.Memory looks going files limits start acts within =
+        memory_halts new (Read was.id looks.4.0 ∷ []) k (done_bytes o q was.id looks.4.0 some_id looks.4.1) refl (ap (λ (x : Outside). x.open_ids) looks.4.1) (subst (SameCounts o) (sym looks.4.1) (record { doc = refl; main = refl; out = refl; note = refl }))
+        (reads_once was looks.4.0 not_ended) looks.0 going limits name read start acts (asks_rightly old was last o wants name read on none looks.3 start acts within looks.4.0) within
 
     -- It was looked at, and has a byte.
     module _ (k : Going) (gets : Gets o q was k) (within : k.taken < length k.bytes.items) where
@@ -104,11 +116,21 @@ module _ (old : Reading) (was : Going) (last : StandsLast old.going.items (vec_l
           let goes = gets_goes o q was k some_id not_ended gets in
           held_same o q old.limits before was k (length old.files.items) held_it gets.others.0 gets.others.1 (ap (λ (s : Source). s.lexer.limits) gets.others.2 ∙ (limited_front old.limits before was held_it.limited).2) goes.ids
 
+      -- what was read came where the sheet wasn't decided
+      gets_ask : (name : List ℕ) → IsRead name old [] → is_over old.loader.progress ≡ false → wanted_in old.loader.progress ≡ None
+          → (start : Outside) (acts : List Act) → IsWithin start o old.going.items old.files.items [] acts → AsksRightly old.limits name start acts gets.acts
+      gets_ask name read on none start acts within =
+          elim gets.done [
+            | inl e ↦ subst (AsksRightly old.limits name start acts) (sym e.0) (λ ids docs i d reads. tt)
+            | inr e ↦ subst (AsksRightly old.limits name start acts) (sym e.0) (asks_rightly old was last o wants name read on none e.1 start acts within (length gets.piece))
+          ]
+
       -- memory was wanting then
-      pub short_halts : (new : Reading) (h : Going) → h.id ≡ k.id → new.going.items ≡ swapped old was last h → (start : Outside) (acts : List Act) → IsWithin start o old.going.items old.files.items [] acts → IsHalted start q new halt.Memory
-      short_halts new h id going start acts within =
+      pub short_halts : (name : List ℕ) → IsRead name old [] → is_over old.loader.progress ≡ false → wanted_in old.loader.progress ≡ None → (new : Reading) (h : Going) → h.id ≡ k.id → new.going.items ≡ swapped old was last h → new.limits ≡ old.limits
+          → (start : Outside) (acts : List Act) → IsWithin start o old.going.items old.files.items [] acts → (halted : IsHalted name start q new halt.Memory) × StayUndecided old.limits name start acts halted.acts
+      short_halts name read on none new h id going limits start acts within =
           let goes = gets_goes o q was k some_id not_ended gets in
-          memory_halts new gets.acts h goes.done goes.opens_none goes.ids goes.counts (id ∙ gets.others.0) going start acts within
+          memory_halts new gets.acts h goes.done goes.opens_none goes.ids goes.counts goes.once.reads (id ∙ gets.others.0) going limits name read start acts (gets_ask name read on none start acts within) within
 
       pub gets_held : (h : Going) → h.id ≡ k.id → h.number ≡ k.number → h.reader.lexer.limits ≡ k.reader.lexer.limits → AreHeld q old.limits (swapped old was last h) (length old.files.items)
       gets_held h id number lim =
@@ -149,7 +171,9 @@ module _ (old : Reading) (was : Going) (last : StandsLast old.going.items (vec_l
                     (acts ++ gets.acts) ++ [],
                     within_like start q (before ++ h ∷ []) new.going.items old.files.items new.files.items [] ((acts ++ gets.acts) ++ []) (going ∙ now_is old was last h) files
                         (within_same start q old.limits before k h old.files.items (acts ++ gets.acts) held_now hands.others.0 hands.others.1 (ap (λ b. b.items) hands.others.2) ended_is looked),
+                    stays_then old.limits name start acts (acts ++ gets.acts) ((acts ++ gets.acts) ++ []) (stays_more old.limits name start acts gets.acts (gets_ask name read on none start acts w)) (stays_none old.limits name start (acts ++ gets.acts)),
                   ),
+              limits,
             )
 
         pub byte_less : turns_of new + kept_most old.limits < turns_of old
@@ -178,7 +202,9 @@ module _ (old : Reading) (was : Going) (last : StandsLast old.going.items (vec_l
                 acts ++ gets.acts,
                 within_like start q (before ++ k ∷ []) new.going.items old.files.items new.files.items [] (acts ++ gets.acts) (going ∙ now_is old was last k) files
                     (within_goes start o old.limits before was old.files.items acts (within_was old was last start o acts w) held_it q k gets.acts (gets_goes o q was k some_id not_ended gets)),
+                stays_more old.limits name start acts gets.acts (gets_ask name read on none start acts w),
               ),
+              limits,
             )
 
     -- it has no more
@@ -195,8 +221,10 @@ module _ (old : Reading) (was : Going) (last : StandsLast old.going.items (vec_l
             λ start acts w. (
               acts ++ Read was.id 0 ∷ [],
               within_like start q (before ++ h ∷ []) new.going.items old.files.items new.files.items [] (acts ++ Read was.id 0 ∷ []) (going ∙ now_is old was last h) files
-                  (within_goes start o old.limits before was old.files.items acts (within_was old was last start o acts w) held_it q h (Read was.id 0 ∷ []) (end_goes o q was h some_id none_come reads id number bytes (ap (λ (s : Source). s.lexer.ended) ended))),
+                  (within_goes start o old.limits before was old.files.items acts (within_was old was last start o acts w) held_it q h (Read was.id 0 ∷ []) (end_goes o q was h some_id not_ended none_come reads id number bytes (ap (λ (s : Source). s.lexer.ended) ended))),
+              stays_more old.limits name start acts (Read was.id 0 ∷ []) (asks_rightly old was last o wants name read on none no_more start acts w 0),
             ),
+            limits,
           )
 
       pub ends_less : turns_of new + kept_most old.limits < turns_of old

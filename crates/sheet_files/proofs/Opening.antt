@@ -36,7 +36,7 @@ pub opened_with : (f : Frame) (outer : List Frame) → opened_of (f ∷ outer) �
 opened_with f outer = map_append as_opened (parts_of outer) (f.part ∷ f.done)
 
 -- an entry of the innermost file is changed
-changed_with : (h : Opened → Opened) (f : Frame) (outer : List Frame) (rest : List Opened) → changed h (length (parts_of outer)) (opened_of (f ∷ outer) ++ rest) ≡ opened_of outer ++ h (as_opened f.part) ∷ (map as_opened f.done ++ rest)
+pub changed_with : (h : Opened → Opened) (f : Frame) (outer : List Frame) (rest : List Opened) → changed h (length (parts_of outer)) (opened_of (f ∷ outer) ++ rest) ≡ opened_of outer ++ h (as_opened f.part) ∷ (map as_opened f.done ++ rest)
 changed_with h f outer rest =
     let n : length (parts_of outer) ≡ length (opened_of outer) = sym (length_map as_opened (parts_of outer)) in
     ap (λ (l : List Opened). changed h (length (parts_of outer)) (l ++ rest)) (opened_with f outer)

@@ -1,5 +1,5 @@
 -- What loading comes to, where all was read, or where reading halted.
-use Rattle.std.proofs.Common.{◌≡◌, ℕ, zero, suc, ◌<◌, true, List, [], ◌∷◌, ◌++◌, map, length, slice_get, Option, Some, None, IfSome, Ok, Err, Contains, refl, sym, ap, subst, ◌∙◌, arith, inl, inr}
+use Rattle.std.proofs.Common.{◌≡◌, ℕ, zero, suc, ◌<◌, true, List, [], ◌∷◌, ◌++◌, map, length, slice_get, Option, Some, None, IfSome, Ok, Err, Contains, refl, sym, ap, subst, ◌∙◌, arith, append_assoc, inl, inr}
 use Rattle.std.specs.Option.{option_and_then, option_map}
 use Rattle.stx_base.specs.declared.fault.SheetCode.TheVariants as code
 use Rattle.stx_base.specs.declared.fault.SheetFault.{SheetFault}
@@ -12,25 +12,31 @@ use Rattle.stx_host.specs.declared.act.Doc.{Doc}
 use Rattle.stx_host.specs.declared.act.Opened.TheVariants as answered
 use Rattle.fault_report.specs.declared.outcome.HostFault.TheVariants as host_fault
 use Rattle.fault_report.specs.declared.outcome.Outcome.TheVariants as outcome
-use Rattle.sheet_loader.specs.Files.{Documents, Loads, changed, loads}
+use Rattle.sheet_loader.proofs.Ending.{comes_to_one}
+use Rattle.sheet_loader.specs.Files.{Documents, Loads, changed, load, loads}
 use Rattle.sheet_loader.specs.Levels.{name_at}
 use Rattle.sheet_loader.specs.Loaders.{EndsInFault, GivesSheet, Standing, is_over}
 use Rattle.sheet_loader.specs.Values.{Reads}
-use Rattle.sheet_files.specs.Acts.{given_for, opens, read_since_open}
+use Rattle.sheet_files.specs.Acts.{NoneBehindEnd, given_for, opens, read_since_open}
 use Rattle.sheet_files.specs.Held.{AreNumbered, HasRest, HaveDone, IsWithin, SameCounts, names_of, seen_of, with_going}
-use Rattle.sheet_files.specs.Loading.{FailsAfter, LoadCounts, LoadsTo, NamesFile}
-use Rattle.sheet_files.specs.Opened.{Absent, AreOf, Came, Seen, Whole, names_in, place_told, places, whole}
+use Rattle.sheet_files.specs.Loading.{FailsAfter, FailsInOrder, LoadCounts, LoadsTo}
+use Rattle.sheet_files.specs.Opened.{Absent, AreOf, Came, Seen, Whole, documents_told, names_in, place_told, places, whole}
 use Rattle.sheet_files.specs.Reading.{AllEnded, IsReadBy}
-use Rattle.sheet_files.specs.Steps.{AreCloses, HasFailed, files_left}
+use Rattle.sheet_files.specs.Steps.{AreCloses, HasFailed, OpensFirst, files_left}
+use Rattle.sheet_files.specs.Undecided.{IsUndecided}
 use Rattle.sheet_files.specs.declared.going.Going.{Going}
 use Rattle.sheet_files.specs.declared.load.Loaded.{Loaded}
 use Rattle.sheet_files.proofs.Acting.{given_more, opens_more, read_more}
 use Rattle.sheet_files.proofs.Beginning.{own_absent}
+use Rattle.sheet_files.proofs.Begins.{own_begins}
 use Rattle.sheet_files.proofs.Changing.{came_whole}
 use Rattle.sheet_files.proofs.Coming.{left_files}
 use Rattle.sheet_files.proofs.Doing.{closes_give_none, closes_open_none, closes_read_none, counts_then, done_open, done_then, failed_then}
+use Rattle.sheet_files.proofs.Ends.{none_quiet, quiet_closes}
+use Rattle.sheet_files.proofs.Holding.{if_some}
 use Rattle.sheet_files.proofs.Opening.{append_none, map_append}
-use Rattle.sheet_files.proofs.Seeing.{as_came, changed_apart, changed_map, names_seen, names_whole, unchanged_map}
+use Rattle.sheet_files.proofs.Seeing.{as_came, changed_apart, changed_map, names_seen, unchanged_map}
+use Rattle.sheet_files.proofs.Staying.{begins_undecided, opened_undecided, stays_closed}
 use Rattle.sheet_files.proofs.Within.{if_at, if_told, some_at, told_at}
 
 -- the counts of a host that didn't fail, and of one that failed
@@ -67,9 +73,8 @@ counts_failing start o file offset failed =
 document_none : (docs : List Doc) (name : List ℕ) → place docs name ≡ None → document docs name ≡ None
 document_none docs name none = ap (λ (o : Option ℕ). option_and_then (λ (i : ℕ). option_map (λ (doc : Doc). doc.bytes) (slice_get docs i)) o) none
 
-gone_place : (told : Option (List Doc)) (name : List ℕ) → IfSome told (λ docs. place docs name ≡ None) → None ≡ option_and_then (λ docs. place docs name) told
-gone_place None name none = refl
-gone_place (Some docs) name none = sym none
+places_told : (start : Outside) (docs : List Doc) (names : List (List ℕ)) → start.documents ≡ Some docs → places start names ≡ map (place docs) names
+places_told start docs names d = ap (λ (told : Option (List Doc)). map (λ (n : List ℕ). option_and_then (λ ds. place ds n) told) names) d
 
 module _ (old new : Outside) (limits : Limits) (name : List ℕ) where
   pub absent_loads_to : MayOpen old name answered.Absent → Opens old name answered.Absent new → LoadsTo old new limits name (Err (outcome.Sheet (record { file = name; code = code.NoDocument; offset = 0 })))
@@ -85,14 +90,16 @@ module _ (old new : Outside) (limits : Limits) (name : List ℕ) where
             between = done.between;
             no_write = done.no_write;
             no_main_read = done.no_main_read;
-            opened = (name ∷ [], ap (λ (d : Option ℕ). d ∷ []) (gone_place old.documents name may), tt);
             opens = if_told old.open_ids old.documents
                 (λ s docs e d reads. ap (λ (o : Option ℕ). o ∷ []) (sym (some_at (λ docs. place docs name ≡ None) old.documents docs d may)) ∙ ap (λ (l : Loads). map (place docs) l.opened) (sym (own_absent reads limits (document docs) name (document_none docs name (some_at _ old.documents docs d may)))));
             fails = if_at old.open_ids (λ s e. tt);
+            once = if_at old.open_ids (λ s e. tt);
+            undecided = opened_undecided limits name old None 0;
           },
         );
         counts = counts_refused old new (record { file = name; code = code.NoDocument; offset = 0 }) (subst (SameCounts old) (sym does) (record { doc = refl; main = refl; out = refl; note = refl }));
         ids = ap (λ (o : Outside). o.open_ids) does;
+        sound = λ depth small. tt;
       }
 
   pub failed_loads_to : Opens old name answered.Failed new → LoadsTo old new limits name (Err (outcome.Host name host_fault.Doc 0))
@@ -106,9 +113,10 @@ module _ (old new : Outside) (limits : Limits) (name : List ℕ) where
             between = done.between;
             no_write = done.no_write;
             no_main_read = done.no_main_read;
-            opened = ([], refl, inr refl);
-            opens = if_told old.open_ids old.documents (λ s docs e d reads. tt);
+            opens = if_told old.open_ids old.documents (λ s docs e d reads. let own = own_begins reads limits (document docs) name comes_to_one in ([], name ∷ own.0, own.1, refl, inr (own.0, refl, refl)));
             fails = if_at old.open_ids (λ s e. inl refl);
+            once = if_at old.open_ids (λ s e. tt);
+            undecided = begins_undecided limits name old;
           },
         );
         counts = counts_failing old new name 0 (record {
@@ -119,11 +127,12 @@ module _ (old new : Outside) (limits : Limits) (name : List ℕ) where
           note = ap (λ (o : Outside). o.note_faults) fault.alone;
         });
         ids = ap (λ (o : Outside). o.open_ids) fault.alone;
+        sound = λ depth small. tt;
       }
 
   -- memory was wanting, and these files were opened
-  pub short_loads_to : (acts : List Act) (names : List (List ℕ)) → HaveDone old new acts → opens acts ≡ places old names → SameCounts old new → new.open_ids ≡ old.open_ids → LoadsTo old new limits name (Err outcome.Memory)
-  short_loads_to acts names done opened same ids =
+  pub short_loads_to : (acts : List Act) (names : List (List ℕ)) → HaveDone old new acts → opens acts ≡ places old names → OpensFirst old limits name names → IfSome old.open_ids (λ ids. NoneBehindEnd acts) → IsUndecided old limits name acts → SameCounts old new → new.open_ids ≡ old.open_ids → LoadsTo old new limits name (Err outcome.Memory)
+  short_loads_to acts names done opened first once undecided same ids =
       record {
         answers = tt;
         acts = (
@@ -132,13 +141,15 @@ module _ (old new : Outside) (limits : Limits) (name : List ℕ) where
             between = done.between;
             no_write = done.no_write;
             no_main_read = done.no_main_read;
-            opened = (names, opened, tt);
-            opens = if_told old.open_ids old.documents (λ s docs e d reads. tt);
+            opens = if_told old.open_ids old.documents (λ s docs e d reads. let f = told_at _ old.open_ids old.documents s docs e d first reads in (names, f.0, f.1, opened ∙ places_told old docs names d));
             fails = if_at old.open_ids (λ s e. tt);
+            once = once;
+            undecided = undecided;
           },
         );
         counts = counts_short old new same;
         ids = ids;
+        sound = λ depth small. tt;
       }
 
 -- what each file came to stands with its name, where all were read to their ends
@@ -167,18 +178,18 @@ contains_name [] n lt = absurd (omega (arith, lt))
 contains_name (x ∷ names) zero lt = (0, omega arith, refl)
 contains_name (x ∷ names) (suc n) lt = let r = contains_name names n (omega (arith, lt)) in let le = r.1 in (suc r.0, omega (arith, le), r.2)
 
-places_told : (start : Outside) (docs : List Doc) (names : List (List ℕ)) → start.documents ≡ Some docs → places start names ≡ map (place docs) names
-places_told start docs names d = ap (λ (told : Option (List Doc)). map (λ (n : List ℕ). option_and_then (λ ds. place ds n) told) names) d
-
 -- All was read, and given back.
 module _ (start o p : Outside) (limits : Limits) (name : List ℕ) (going : List Going) (files : List Doc) (x : Standing) (left : ℕ) (missing : List Seen)
-    (read : IsReadBy limits name going files x left missing) (over : is_over x.progress ≡ true) (numbers : AreNumbered 0 going (length files)) (acts : List Act) (within : IsWithin start o going files missing acts)
+    (read : IsReadBy limits name going files x left missing) (over : is_over x.progress ≡ true) (numbers : AreNumbered 0 going (length files)) (acts : List Act) (within : IsWithin start o going files missing acts) (asked : IsUndecided start limits name acts)
     (closes : List Act) (closing : AreCloses closes) (done : HaveDone o p closes) (counts : SameCounts o p) (ids : p.open_ids ≡ start.open_ids) where
   all_done : HaveDone start p (acts ++ closes)
   all_done = done_then start o p acts closes within.done done
 
   all_opened : opens (acts ++ closes) ≡ places start (names_of files ++ names_in missing)
   all_opened = opens_more acts closes ∙ ap (λ (l : List (Option ℕ)). opens acts ++ l) (closes_open_none closes closing) ∙ append_none (opens acts) ∙ within.opened
+
+  all_once : IfSome start.open_ids (λ ids. NoneBehindEnd (acts ++ closes))
+  all_once = if_some start.open_ids (λ ids once. none_quiet acts closes once.none_behind (quiet_closes closes closing)) within.once
 
   all_counts : SameCounts start p
   all_counts = counts_then start o p within.counts counts
@@ -201,14 +212,16 @@ module _ (start o p : Outside) (limits : Limits) (name : List ℕ) (going : List
             between = all_done.between;
             no_write = all_done.no_write;
             no_main_read = all_done.no_main_read;
-            opened = (names_of files ++ names_in missing, all_opened, tt);
             opens = if_told start.open_ids start.documents
                 (λ s docs e d reads. all_opened ∙ places_told start docs (names_of files ++ names_in missing) d ∙ ap (map (place docs)) (sym names_are) ∙ ap (λ (l : Loads). map (place docs) l.opened) (sym (gives (document docs) (told_seen s docs e d) reads)));
             fails = if_at start.open_ids (λ s e. tt);
+            once = all_once;
+            undecided = stays_closed limits name start acts closes closing asked;
           },
         );
         counts = counts_refused start p fault all_counts;
         ids = ids;
+        sound = λ depth small. tt;
       }
 
   pub sheet_loads_to : Reads → (loaded : Loaded) → GivesSheet x loaded.sheet → loaded.files ≡ files_left going files → LoadsTo start p limits name (Ok loaded)
@@ -228,18 +241,20 @@ module _ (start o p : Outside) (limits : Limits) (name : List ℕ) (going : List
             between = all_done.between;
             no_write = all_done.no_write;
             no_main_read = all_done.no_main_read;
-            opened = (names_of files ++ names_in missing, all_opened, names_same ∙ names_whole loaded.files);
             opens = if_told start.open_ids start.documents
                 (λ s docs e d reads. all_opened ∙ places_told start docs (names_of files ++ names_in missing) d ∙ ap (map (place docs)) names_same ∙ ap (λ (l : Loads). map (place docs) l.opened) (sym (gives (document docs) (told s docs e d) reads)));
             fails = if_at start.open_ids (λ s e. tt);
+            once = all_once;
+            undecided = stays_closed limits name start acts closes closing asked;
           },
         );
         counts = counts_are start p loaded all_counts;
         ids = ids;
+        sound = read.sound over any loaded.sheet gives_it;
       }
 
 -- Reading halted, and all was given back.
-module _ (start o p : Outside) (limits : Limits) (name : List ℕ) (acts closes : List Act) (names : List (List ℕ)) (before : HaveDone start o acts) (opened : opens acts ≡ places start names)
+module _ (start o p : Outside) (limits : Limits) (name : List ℕ) (acts closes : List Act) (names : List (List ℕ)) (before : HaveDone start o acts) (opened : opens acts ≡ places start names) (once : IfSome start.open_ids (λ ids. NoneBehindEnd acts)) (asked : IsUndecided start limits name acts)
     (closing : AreCloses closes) (done : HaveDone o p closes) (ids : p.open_ids ≡ start.open_ids) (same : SameCounts o p) where
   halt_done : HaveDone start p (acts ++ closes)
   halt_done = done_then start o p acts closes before done
@@ -247,12 +262,19 @@ module _ (start o p : Outside) (limits : Limits) (name : List ℕ) (acts closes 
   halt_opened : opens (acts ++ closes) ≡ places start names
   halt_opened = opens_more acts closes ∙ ap (λ (l : List (Option ℕ)). opens acts ++ l) (closes_open_none closes closing) ∙ append_none (opens acts) ∙ opened
 
-  -- want of memory
-  pub memory_loads_to : SameCounts start o → LoadsTo start p limits name (Err outcome.Memory)
-  memory_loads_to counts = short_loads_to start p limits name (acts ++ closes) names halt_done halt_opened (counts_then start o p counts same) ids
+  halt_once : IfSome start.open_ids (λ ids. NoneBehindEnd (acts ++ closes))
+  halt_once = if_some start.open_ids (λ ids behind. none_quiet acts closes behind (quiet_closes closes closing)) once
 
-  fails_to : (file : List ℕ) (offset : ℕ) → HasFailed start o → NamesFile names (Err (outcome.Host file host_fault.Doc offset)) → IfSome start.open_ids (λ ids. FailsAfter start.documents (Err (outcome.Host file host_fault.Doc offset)) (acts ++ closes)) → LoadsTo start p limits name (Err (outcome.Host file host_fault.Doc offset))
-  fails_to file offset failed in_names after =
+  -- want of memory
+  pub memory_loads_to : OpensFirst start limits name names → SameCounts start o → LoadsTo start p limits name (Err outcome.Memory)
+  memory_loads_to first counts = short_loads_to start p limits name (acts ++ closes) names halt_done halt_opened first halt_once (stays_closed limits name start acts closes closing asked) (counts_then start o p counts same) ids
+
+  -- where a host tells its documents
+  abbrev FailsThere : (file : List ℕ) (offset : ℕ) → List Doc → Type 0
+  FailsThere file offset docs = (reads : Reads) → (rest : List (List ℕ)) × (names ++ rest ≡ (load reads limits (document docs) name).opened) × FailsInOrder (place docs) names rest file offset (acts ++ closes)
+
+  fails_to : (file : List ℕ) (offset : ℕ) → HasFailed start o → IfSome (documents_told start) (FailsThere file offset) → IfSome start.open_ids (λ ids. FailsAfter start.documents (Err (outcome.Host file host_fault.Doc offset)) (acts ++ closes)) → LoadsTo start p limits name (Err (outcome.Host file host_fault.Doc offset))
+  fails_to file offset failed there after =
       record {
         answers = tt;
         acts = (
@@ -261,26 +283,41 @@ module _ (start o p : Outside) (limits : Limits) (name : List ℕ) (acts closes 
             between = halt_done.between;
             no_write = halt_done.no_write;
             no_main_read = halt_done.no_main_read;
-            opened = (names, halt_opened, in_names);
-            opens = if_told start.open_ids start.documents (λ s docs e d reads. tt);
+            opens = if_told start.open_ids start.documents
+                (λ s docs e d reads. let t = told_at (FailsThere file offset) start.open_ids start.documents s docs e d there reads in (names, t.0, t.1, halt_opened ∙ places_told start docs names d, t.2));
             fails = after;
+            once = halt_once;
+            undecided = stays_closed limits name start acts closes closing asked;
           },
         );
         counts = counts_failing start p file offset (failed_then start o p failed same);
         ids = ids;
+        sound = λ depth small. tt;
       }
 
   -- a file that couldn't be opened
-  pub unopened_loads_to : (file : List ℕ) → HasFailed start o → LoadsTo start p limits name (Err (outcome.Host file host_fault.Doc 0))
-  unopened_loads_to file failed = fails_to file 0 failed (inr refl) (if_at start.open_ids (λ s e. inl refl))
+  pub unopened_loads_to : (file : List ℕ) → OpensFirst start limits name (names ++ file ∷ []) → HasFailed start o → LoadsTo start p limits name (Err (outcome.Host file host_fault.Doc 0))
+  unopened_loads_to file first failed =
+      fails_to file 0 failed
+      (if_told start.open_ids start.documents
+      (λ s docs e d reads.
+      let f = told_at _ start.open_ids start.documents s docs e d first reads in
+      (file ∷ f.0, sym (append_assoc names (file ∷ []) f.0) ∙ f.1, inr (f.0, refl, refl))))
+      (if_at start.open_ids (λ s e. inl refl))
 
   -- one that couldn't be read
-  pub unread_loads_to : (id number offset : ℕ) → number < length names → HasFailed start o
+  pub unread_loads_to : (id number offset : ℕ) → number < length names → OpensFirst start limits name names → HasFailed start o
       → IfSome start.open_ids (λ ids. (given_for id acts ≡ Some (place_told start (name_at names number))) × (read_since_open id acts ≡ offset)) → LoadsTo start p limits name (Err (outcome.Host (name_at names number) host_fault.Doc offset))
-  unread_loads_to id number offset within failed given =
-      fails_to (name_at names number) offset failed (inl (contains_name names number within))
-      (if_at start.open_ids
-      (λ s e.
+  unread_loads_to id number offset within first failed given =
+      let file = name_at names number in
+      let after : (s : List ℕ) → start.open_ids ≡ Some s → (given_for id (acts ++ closes) ≡ Some (place_told start file)) × (offset ≡ read_since_open id (acts ++ closes)) =
+      λ s e.
       let g = some_at _ start.open_ids s e given in
-      inr
-      (id, given_more None id acts closes ∙ closes_give_none (given_for id acts) id closes closing ∙ g.0, sym (read_more 0 id acts closes ∙ closes_read_none (read_since_open id acts) id closes closing ∙ g.1))))
+      (given_more None id acts closes ∙ closes_give_none (given_for id acts) id closes closing ∙ g.0, sym (read_more 0 id acts closes ∙ closes_read_none (read_since_open id acts) id closes closing ∙ g.1)) in
+      fails_to file offset failed
+      (if_told start.open_ids start.documents
+      (λ s docs e d reads.
+      let f = told_at _ start.open_ids start.documents s docs e d first reads in
+      let g = after s e in
+      (f.0, f.1, inl (contains_name names number within, (id, g.0 ∙ ap (λ (told : Option (List Doc)). Some (option_and_then (λ ds. place ds file) told)) d, g.1)))))
+      (if_at start.open_ids (λ s e. let g = after s e in inr (id, g.0, g.1)))

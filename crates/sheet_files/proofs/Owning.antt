@@ -32,6 +32,8 @@ none_within start =
       ids = more_none start.open_ids;
       told = if_told start.open_ids start.documents (λ s docs e d. (tt, tt));
       given = if_at start.open_ids (λ s e. tt);
+      once = if_at start.open_ids (λ s e. record { none_behind = tt; unended = tt });
+      numbers = if_at start.open_ids (λ s e. tt);
       counts = counts_none start;
     }
 

@@ -18,11 +18,12 @@ use Rattle.sheet_files.specs.Acts.{read_behind}
 use Rattle.sheet_files.specs.Held.{AreHeld, IsWithin, SameCounts, came_of}
 use Rattle.sheet_files.specs.Opened.{Begun, IsOf, Seen, Whole}
 use Rattle.sheet_files.specs.Reading.{IsRead, IsReadBy}
-use Rattle.sheet_files.specs.Steps.{Gets, StepsTo}
+use Rattle.sheet_files.specs.Steps.{Gets, StayUndecided, StepsTo}
 use Rattle.sheet_files.specs.declared.going.Going.{Going}
 use Rattle.sheet_files.specs.declared.reading.Halt.{Halt}
 use Rattle.sheet_files.specs.declared.reading.Reading.{Reading}
 use Rattle.sheet_files.proofs.Doing.{counts_none, done_bytes, done_end, done_nothing}
+use Rattle.sheet_files.proofs.Ends.{goes_nothing, goes_once}
 use Rattle.sheet_files.proofs.Opening.{append_none}
 use Rattle.sheet_files.proofs.Within.{GoesOnTo, Spares, some_at, within_goes}
 
@@ -57,12 +58,34 @@ over_files names Spent over = tt
 over_files names (Reads_on s) over = cc
 over_files names (Wants_file href s) over = cc
 
+stays_by : (name : List ℕ) (old mid : Reading) → mid.limits ≡ old.limits → (start : Outside) (a b c : List Act) → StayUndecided old.limits name start a b → StayUndecided mid.limits name start b c → StayUndecided old.limits name start a c
+stays_by name old mid limits start a b c x y h = subst (λ (l : Limits). StayUndecided l name start b c) limits y (x h)
+
+-- one step after another
+steps_on : (name : List ℕ) (o q p : Outside) (old mid new : Reading) (result : Result (Unit {0}) Halt) → mid.limits ≡ old.limits
+    → ((start : Outside) (acts : List Act) → IsWithin start o old.going.items old.files.items [] acts → (more : List Act) × IsWithin start q mid.going.items mid.files.items [] more × StayUndecided old.limits name start acts more)
+    → StepsTo name q p mid new result → StepsTo name o p old new result
+steps_on name o q p old mid new (Ok done) limits between steps = (
+  steps.0,
+  steps.1,
+  steps.2,
+  λ start acts within.
+      let w = between start acts within in
+      let s = steps.3 start w.0 w.1 in
+      (s.0, s.1, stays_by name old mid limits start acts w.0 s.0 w.2 s.2),
+  steps.4 ∙ limits,
+)
+steps_on name o q p old mid new (Err why) limits between steps =
+    λ start acts within.
+    let w = between start acts within in
+    let s = steps start w.0 w.1 in
+    (s.0, stays_by name old mid limits start acts w.0 s.0.acts w.2 s.1)
+
 -- from a moment that comes of another one
-pub steps_from : (name : List ℕ) (o p : Outside) (old mid new : Reading) (result : Result (Unit {0}) Halt)
-    → ((start : Outside) (acts : List Act) → IsWithin start o old.going.items old.files.items [] acts → (more : List Act) × IsWithin start o mid.going.items mid.files.items [] more)
+pub steps_from : (name : List ℕ) (o p : Outside) (old mid new : Reading) (result : Result (Unit {0}) Halt) → mid.limits ≡ old.limits
+    → ((start : Outside) (acts : List Act) → IsWithin start o old.going.items old.files.items [] acts → (more : List Act) × IsWithin start o mid.going.items mid.files.items [] more × StayUndecided old.limits name start acts more)
     → StepsTo name o p mid new result → StepsTo name o p old new result
-steps_from name o p old mid new (Ok done) between steps = (steps.0, steps.1, steps.2, λ start acts within. let w = between start acts within in steps.3 start w.0 w.1)
-steps_from name o p old mid new (Err why) between steps = λ start acts within. let w = between start acts within in steps start w.0 w.1
+steps_from name o p old mid new result limits between steps = steps_on name o o p old mid new result limits between steps
 
 -- how far a file came whose bytes and end are the same
 came_like : (rest : List ℕ) (a b : List ℕ) (x y : Bool) → b ≡ a → y ≡ x → IsOf (Some (a ++ rest)) (if x then Whole a else Begun a) → IsOf (Some (b ++ rest)) (if y then Whole b else Begun b)
@@ -84,6 +107,8 @@ same_goes o was is id number bytes ended =
       read = ap length (sym bytes);
       given = λ b. refl;
       spares = λ k apart. (λ b. refl, λ b. refl);
+      once = goes_nothing was is ended;
+      gives_none = λ count before id. refl;
     }
 
 pub within_same : (start o : Outside) (limits : Limits) (front : List Going) (was is : Going) (files : List Doc) (acts : List Act) → AreHeld o limits (front ++ was ∷ []) (length files) → is.id ≡ was.id → is.number ≡ was.number → is.bytes.items ≡ was.bytes.items → is.reader.lexer.ended ≡ was.reader.lexer.ended
@@ -108,8 +133,8 @@ module _ (o p : Outside) (g h : Going) (some : 0 < g.id) (not_ended : g.reader.l
   begun_now left =
       subst (λ (b : Bool). IsOf (Some (h.bytes.items ++ left)) (if b then Whole h.bytes.items else Begun h.bytes.items)) (sym (ap (λ (s : Source). s.lexer.ended) reader ∙ not_ended)) (left, refl)
 
-  piece_goes : Reads o g.id (Bytes (length piece)) p → GoesOnTo o p (Read g.id (length piece) ∷ []) g h
-  piece_goes reads =
+  piece_goes : 0 < length piece → Reads o g.id (Bytes (length piece)) p → GoesOnTo o p (Read g.id (length piece) ∷ []) g h
+  piece_goes more reads =
       record {
         done = done_bytes o p g.id (length piece) some reads;
         opens_none = refl;
@@ -130,6 +155,8 @@ module _ (o p : Outside) (g h : Going) (some : 0 < g.id) (not_ended : g.reader.l
         read = piece_read g.id (length piece) (length g.bytes.items) ∙ sym (ap length bytes ∙ length-append g.bytes.items piece);
         given = λ b. refl;
         spares = piece_spares g.id (length piece);
+        once = goes_once g h (length piece) not_ended (λ on zero. absurd (omega (arith, zero, more)));
+        gives_none = λ count before id. refl;
       }
 
 -- a look at the innermost file, where more bytes are wanted
@@ -139,12 +166,12 @@ gets_goes o p g h some not_ended gets =
       | inl e ↦ let none : h.bytes.items ≡ g.bytes.items = gets.bytes ∙ ap (λ (l : List ℕ). g.bytes.items ++ l) e.1 ∙ append_none g.bytes.items in
           let same = same_goes o g h gets.others.0 gets.others.1 none (ap (λ (s : Source). s.lexer.ended) gets.others.2) in
           subst (λ (l : List Act). GoesOnTo o p l g h) (sym e.0) (subst (λ (q : Outside). GoesOnTo o q [] g h) (sym e.2) same)
-      | inr e ↦ subst (λ (l : List Act). GoesOnTo o p l g h) (sym e.0) (piece_goes o p g h some not_ended gets.piece gets.next gets.bytes gets.others.0 gets.others.1 gets.others.2 e.1)
+      | inr e ↦ subst (λ (l : List Act). GoesOnTo o p l g h) (sym e.0) (piece_goes o p g h some not_ended gets.piece gets.next gets.bytes gets.others.0 gets.others.1 gets.others.2 e.2 e.3)
     ]
 
 -- its end was told
-pub end_goes : (o p : Outside) (g h : Going) → 0 < g.id → IfSome (o.to_come g.id) (λ bytes. bytes ≡ []) → Reads o g.id End p → h.id ≡ g.id → h.number ≡ g.number → h.bytes.items ≡ g.bytes.items → h.reader.lexer.ended ≡ true → GoesOnTo o p (Read g.id 0 ∷ []) g h
-end_goes o p g h some none reads id number bytes ended =
+pub end_goes : (o p : Outside) (g h : Going) → 0 < g.id → g.reader.lexer.ended ≡ false → IfSome (o.to_come g.id) (λ bytes. bytes ≡ []) → Reads o g.id End p → h.id ≡ g.id → h.number ≡ g.number → h.bytes.items ≡ g.bytes.items → h.reader.lexer.ended ≡ true → GoesOnTo o p (Read g.id 0 ∷ []) g h
+end_goes o p g h some not_ended none reads id number bytes ended =
     record {
       done = done_end o p g.id some reads;
       opens_none = refl;
@@ -163,11 +190,13 @@ end_goes o p g h some none reads id number bytes ended =
       read = piece_read g.id 0 (length g.bytes.items) ∙ no_more (length g.bytes.items) ∙ ap length (sym bytes);
       given = λ b. refl;
       spares = piece_spares g.id 0;
+      once = goes_once g h 0 not_ended (λ on zero. false≢true (sym on ∙ ended));
+      gives_none = λ count before id. refl;
     }
 
 -- reading that is to begin
 pub steps_begin : (name : List ℕ) (o : Outside) (r : Reading) → IsRead name r [] → wanted_in r.loader.progress ≡ None → StepsTo name o o r r (Ok tt)
-steps_begin name o r read none = ([], read, none, λ start acts within. (acts, within))
+steps_begin name o r read none = ([], read, none, λ start acts within. (acts, within, λ undecided. undecided), refl)
 
 -- where it went on, and isn't over
 pub still_read : (name : List ℕ) (o p : Outside) (old now : Reading) → is_over now.loader.progress ≡ false → StepsTo name o p old now (Ok tt) → IsRead name now []
@@ -177,15 +206,11 @@ still_read name o p old now on steps = subst (λ (m : List Seen). IsRead name no
 pub steps_then : (name : List ℕ) (o q p : Outside) (old mid new : Reading) (result : Result (Unit {0}) Halt) → is_over mid.loader.progress ≡ false → StepsTo name o q old mid (Ok tt) → (IsRead name mid [] → StepsTo name q p mid new result) → StepsTo name o p old new result
 steps_then name o q p old mid new result on steps next =
     let read = still_read name o q old mid on steps in
-    joined result (next read) where
-      between : (start : Outside) (acts : List Act) → IsWithin start o old.going.items old.files.items [] acts → (more : List Act) × IsWithin start q mid.going.items mid.files.items [] more
+    steps_on name o q p old mid new result steps.4 between (next read) where
+      between : (start : Outside) (acts : List Act) → IsWithin start o old.going.items old.files.items [] acts → (more : List Act) × IsWithin start q mid.going.items mid.files.items [] more × StayUndecided old.limits name start acts more
       between start acts within =
           let w = steps.3 start acts within in
-          (w.0, subst (λ (m : List Seen). IsWithin start q mid.going.items mid.files.items m w.0) (steps.1.none on) w.1)
-
-      joined : (result : Result (Unit {0}) Halt) → StepsTo name q p mid new result → StepsTo name o p old new result
-      joined (Ok done) s = (s.0, s.1, s.2, λ start acts within. let w = between start acts within in s.3 start w.0 w.1)
-      joined (Err why) s = λ start acts within. let w = between start acts within in s start w.0 w.1
+          (w.0, subst (λ (m : List Seen). IsWithin start q mid.going.items mid.files.items m w.0) (steps.1.none on) w.1, w.2)
 
 -- how often the loop may go round
 abbrev pub rounds_left : (is_over : Bool) → (turns : ℕ) → ℕ

@@ -1,7 +1,7 @@
 -- What stays so of a sheet, by what the program keeps of it, at an event and where its innermost file is given more.
 use Rattle.std.proofs.Common.{◌≡◌, ℕ, zero, suc, ◌<◌, true, false, List, [], ◌∷◌, ◌++◌, length, Option, Some, None, refl, sym, ap, subst, ◌∙◌, arith}
 use Rattle.std.proofs.lemmas.Bool.{false≢true}
-use Rattle.stx_base.specs.Course.{Gives}
+use Rattle.stx_base.specs.Course.{Begins, Gives}
 use Rattle.stx_base.specs.declared.fault.XmlFault.{XmlFault}
 use Rattle.stx_base.specs.declared.limits.Limits.{Limits}
 use Rattle.stx_host.specs.declared.act.Doc.{Doc}
@@ -12,7 +12,7 @@ use Rattle.xml_events.specs.declared.event.Event.TheVariants as event
 use Rattle.xml_events.specs.declared.event.Pull.TheVariants as pull
 use Rattle.xml_tokens.specs.declared.lexeme.Ending.{Ending}
 use Rattle.sheet_model.specs.declared.sheet.Sheet.{Sheet}
-use Rattle.sheet_loader.specs.Files.{Documents}
+use Rattle.sheet_loader.specs.Files.{Documents, load}
 use Rattle.sheet_loader.specs.Laws.{ComesToOne}
 use Rattle.sheet_loader.specs.Lists.{FilesAre, KeepsLists, Of, lists_behind, lists_in, lists_of}
 use Rattle.sheet_loader.specs.Levels.{Level}
@@ -22,14 +22,14 @@ use Rattle.sheet_loader.specs.Reading.{File, Listed}
 use Rattle.sheet_loader.specs.Remaining.{Ended, Progress, Reads_on, Refused_at, Spent, Wants_file, remaining}
 use Rattle.sheet_loader.specs.Resuming.{CutsList, TakesElement}
 use Rattle.sheet_loader.specs.Values.{Reads}
-use Rattle.sheet_files.specs.Following.{Decides, Follows, Include}
+use Rattle.sheet_files.specs.Following.{AreParts, Decides, Follows, Include}
 use Rattle.sheet_files.specs.Frames.{Frame, Part, lists_onto, lists_open, parts_of}
 use Rattle.sheet_files.specs.Held.{names_of, seen_of}
 use Rattle.sheet_files.specs.Opened.{AreOf}
-use Rattle.sheet_files.specs.Reading.{AllEnded, AreRests, IsReadBy, IsShown, Shows, ShowsFiles, Stands}
+use Rattle.sheet_files.specs.Reading.{AllEnded, AreRests, IsReadBy, IsShown, IsSoundWithin, Shows, ShowsFiles, Stands}
 use Rattle.sheet_files.specs.declared.going.Going.{Going}
 use Rattle.sheet_files.proofs.Counting.{end_two, lists_then}
-use Rattle.sheet_files.proofs.Ending.{decides}
+use Rattle.sheet_files.proofs.Ending.{decides, over_sound}
 use Rattle.sheet_files.proofs.Following.{event_follows, told_one, told_some, told_taken}
 use Rattle.sheet_files.proofs.Handing.{bad_follows, need_follows, none_if_bad}
 use Rattle.sheet_files.proofs.Opening.{append_none}
@@ -89,19 +89,31 @@ abbrev pub no_documents : Documents
 no_documents n = None
 
 module _ (limits : Limits) (name : List ℕ) (one : ComesToOne) (going : List Going) (files : List Doc) (x : Standing) (left : ℕ) (all : AllStand limits name going files x left) where
-  decides_by : is_over x.progress ≡ true → (docs : Documents) → AreOf docs (seen_of going files ++ []) → Decides limits docs name (names_of files ++ []) x
-  decides_by over docs are =
+  -- what follows where documents have the files
+  stands_of : (docs : Documents) → AreOf docs (seen_of going files ++ []) → (rest : ℕ → List ℕ) × (s : Stands limits docs name going files x left rest) × AreParts docs (parts_of s.frames)
+  stands_of docs are =
       let seen : AreOf docs (seen_of going files) = subst (AreOf docs) (append_none (seen_of going files)) are in
       let some = all docs (λ n. []) (no_rests going) in
       let numbers = shown_numbers (λ n. []) going files some.frames some.shows some.in_files in
       let rests = rests_known docs (names_of files) 0 going (length files) numbers (known_of docs going files numbers seen) in
       let s = all docs rests.0 rests.1 in
-      let parts = parts_are docs rests.0 going files s.frames s.shows s.in_files seen rests.2 in
-      let names : x.names ≡ names_of files ++ [] = sym s.follows.names ∙ sym (names_shown files s.frames s.in_files) ∙ sym (append_none (names_of files)) in
-      subst (λ (ns : List (List ℕ)). Decides limits docs name ns x) names (decides limits docs name one s.frames x left s.follows over parts)
+      (rests.0, s, parts_are docs rests.0 going files s.frames s.shows s.in_files seen rests.2)
 
-  pub read_by : (is_over x.progress ≡ true → Reads → (sheet : Sheet) → GivesSheet x sheet → AllEnded going) → IsReadBy limits name going files x left []
-  read_by whole = record { follows = λ on. all; decides = decides_by; whole = λ over reads sheet gives. (whole over reads sheet gives, refl); none = λ on. refl }
+  decides_by : is_over x.progress ≡ true → (docs : Documents) → AreOf docs (seen_of going files ++ []) → Decides limits docs name (names_of files ++ []) x
+  decides_by over docs are =
+      let there = stands_of docs are in
+      let s = there.1 in
+      let names : x.names ≡ names_of files ++ [] = sym s.follows.names ∙ sym (names_shown files s.frames s.in_files) ∙ sym (append_none (names_of files)) in
+      subst (λ (ns : List (List ℕ)). Decides limits docs name ns x) names (decides limits docs name one s.frames x left s.follows over there.2)
+
+  begins_by : (docs : Documents) → AreOf docs (seen_of going files ++ []) → (reads : Reads) → Begins (names_of files ++ []) (load reads limits docs name).opened
+  begins_by docs are reads =
+      let there = stands_of docs are in
+      let s = there.1 in
+      subst (λ (ns : List (List ℕ)). Begins ns (load reads limits docs name).opened) (sym (names_shown files s.frames s.in_files) ∙ sym (append_none (names_of files))) (s.follows.begins there.2 reads)
+
+  pub read_by : (is_over x.progress ≡ true → Reads → (sheet : Sheet) → GivesSheet x sheet → AllEnded going × IsSoundWithin limits sheet) → IsReadBy limits name going files x left []
+  read_by whole = record { follows = λ on. all; decides = decides_by; whole = λ over reads sheet gives. ((whole over reads sheet gives).0, refl); sound = λ over reads sheet gives. (whole over reads sheet gives).1; none = λ on. refl; begins = begins_by }
 
 no_levels : (levels : List Level) → 0 < length levels → lists_in levels ≡ [] → ⊥
 no_levels [] some e = absurd (omega (arith, some))
@@ -202,7 +214,7 @@ module _ (limits : Limits) (name : List ℕ) (one : ComesToOne) (front : List Go
     none_open reads n outer (Refused_at at why) new r some only kept going idle before over gives = absurd (false≢true (sym going))
     none_open reads n outer Spent new r some only kept going idle before over gives = absurd (false≢true (sym going))
 
-    event_whole : is_over y.progress ≡ true → Reads → (sheet : Sheet) → GivesSheet y sheet → AllEnded (front ++ is ∷ [])
+    event_whole : is_over y.progress ≡ true → Reads → (sheet : Sheet) → GivesSheet y sheet → AllEnded (front ++ is ∷ []) × IsSoundWithin limits sheet
     event_whole over reads sheet gives =
         let l = some_last in
         let f = shown_by was l.part l.lists l.done in
@@ -211,7 +223,13 @@ module _ (limits : Limits) (name : List ℕ) (one : ComesToOne) (front : List Go
         let r = gives reads [] [] in
         let no = none_open reads l.lists l.outer x.progress y.progress r.0 some only keeps on none (l.follows.lists on) over r.1 in
         let closed = onto_none (count_behind e l.lists) l.outer l.follows.include no in
-        all_ended front is (no_front (λ n. []) front l.outer l.around closed.1) (ended_by e l.lists refl some (sym ((l.follows.going on).0.lists [] false)) closed.0)
+        let ended = ended_by e l.lists refl some (sym ((l.follows.going on).0.lists [] false)) closed.0 in
+        let told = record f { source = is.reader; lists = count_behind e l.lists } in
+        let follows = event_follows limits no_documents name f l.outer x left l.follows is.reader e y answer leaves repeats goes counts whole same_end on takes names keeps files_are none in
+        let alone = subst (λ (o : List Frame). Follows limits no_documents name (told ∷ o) y left) closed.1 follows in (
+          all_ended front is (no_front (λ n. []) front l.outer l.around closed.1) ended,
+          over_sound limits no_documents name told y left alone over ((l.follows.going on).0.ended (sym same_end ∙ ended)) reads sheet gives,
+        )
 
     pub event_read : IsReadBy limits name (front ++ is ∷ []) files y left []
     event_read = read_by limits name one (front ++ is ∷ []) files y left event_all event_whole
@@ -249,7 +267,7 @@ module _ (limits : Limits) (name : List ℕ) (one : ComesToOne) (front : List Go
           (like_bytes rest is l.part.bytes number same_bytes l.bytes) l.around l.in_files
           (bad_follows limits docs name cuts_end elements f l.outer x left l.follows on none is.reader y fault answer leaves goes same_end bad names over files_are)
 
-      bad_whole : is_over y.progress ≡ true → Reads → (sheet : Sheet) → GivesSheet y sheet → AllEnded (front ++ is ∷ [])
+      bad_whole : is_over y.progress ≡ true → Reads → (sheet : Sheet) → GivesSheet y sheet → AllEnded (front ++ is ∷ []) × IsSoundWithin limits sheet
       bad_whole is_so reads sheet gives =
           let l = some_last in
           absurd (none_if_bad limits no_documents name cuts_end elements (shown_by was l.part l.lists l.done) l.outer x left l.follows on none is.reader y fault answer leaves goes same_end bad names over files_are sheet gives reads)

@@ -13,11 +13,11 @@ use Rattle.sheet_loader.proofs.Ending.{comes_to_one}
 use Rattle.sheet_loader.specs.Lists.{IsReading}
 use Rattle.sheet_loader.specs.Loaders.{MissesIt, OpensName, Standing, is_over, wanted_in}
 use Rattle.sheet_loader.specs.Remaining.{Ended, Progress, Reads_on, Refused_at, Spent, Wants_file}
-use Rattle.sheet_files.specs.Acts.{opens}
+use Rattle.sheet_files.specs.Acts.{NoneBehindEnd, opens}
 use Rattle.sheet_files.specs.Held.{IsHeld, IsWithin, SameCounts, ids_of, names_of, turns_left, turns_of}
 use Rattle.sheet_files.specs.Opened.{Absent as Gone, Seen, place_told, places}
 use Rattle.sheet_files.specs.Reading.{IsRead, IsReadBy, WantsFile}
-use Rattle.sheet_files.specs.Steps.{Includes, IsFresh, IsHalted, Lessens, StepsTo}
+use Rattle.sheet_files.specs.Steps.{Includes, IsFresh, IsHalted, Lessens, StayUndecided, StepsTo}
 use Rattle.sheet_files.specs.declared.going.Going.{Going}
 use Rattle.sheet_files.specs.declared.reading.Halt.TheVariants as halt
 use Rattle.sheet_files.specs.declared.reading.Reading.{Reading}
@@ -25,8 +25,11 @@ use Rattle.sheet_files.proofs.Acting.{opens_more}
 use Rattle.sheet_files.proofs.Changing.{within_absent, within_entered}
 use Rattle.sheet_files.proofs.Coming.{absent_read, enter_read}
 use Rattle.sheet_files.proofs.Doing.{closes_open_none, counts_closed, counts_failed, counts_then, done_open, done_then, has_closed}
-use Rattle.sheet_files.proofs.Holding.{closed_ids, held_more, held_still}
+use Rattle.sheet_files.proofs.Ends.{none_quiet, quiet_closes, quiet_open}
+use Rattle.sheet_files.proofs.Halting.{first_like, first_wanted}
+use Rattle.sheet_files.proofs.Holding.{closed_ids, held_more, held_still, if_some}
 use Rattle.sheet_files.proofs.Opening.{append_none, map_append}
+use Rattle.sheet_files.proofs.Staying.{stays_closed, stays_none, stays_opened, stays_then}
 use Rattle.sheet_files.proofs.Stepping.{held_like, over_wants_none, read_like, within_like}
 use Rattle.sheet_files.proofs.Turns.{enter_turns, room_for}
 
@@ -95,7 +98,9 @@ module _ (o p : Outside) (old new : Reading) (href : List ℕ) (id : ℕ) (held 
           acts ++ Open (option_and_then (λ docs. place docs href) o.documents) file.id ∷ [],
           within_like start p (old.going.items ++ file ∷ []) new.going.items (old.files.items ++ own ∷ []) new.files.items [] (acts ++ Open (option_and_then (λ docs. place docs href) o.documents) file.id ∷ []) includes.3.0.2 includes.3.1
               (within_entered start o old.limits old.going.items old.files.items acts within held p href file may_it does_it fresh.numbered fresh.nothing ended),
+          stays_opened old.limits name start acts (option_and_then (λ docs. place docs href) o.documents) file.id,
         ),
+        includes.3.4,
       )
 
   pub entered_less : (name : List ℕ) → IsRead name old [] → wanted_in old.loader.progress ≡ Some href → Lessens old new (turns_of old) (Ok tt)
@@ -117,23 +122,27 @@ module _ (o q p : Outside) (old new : Reading) (href : List ℕ) (id : ℕ) (hel
   short_held =
       held_like p old.limits new.limits old.going.items new.going.items (length new.files.items) (length new.files.items) fails.0 refl fails.2 (held_still o p old.limits old.going.items (length old.files.items) (length new.files.items) held ids_back fails.1)
 
-  pub short_steps : (start : Outside) (acts : List Act) → IsWithin start o old.going.items old.files.items [] acts → IsHalted start p new halt.Memory
-  short_steps start acts within =
+  pub short_steps : (name : List ℕ) → IsRead name old [] → wanted_in old.loader.progress ≡ Some href → WantsFile old.going.items old.loader → (start : Outside) (acts : List Act) → IsWithin start o old.going.items old.files.items [] acts → (halted : IsHalted name start p new halt.Memory) × StayUndecided old.limits name start acts halted.acts
+  short_steps name read wanted wants start acts within =
       let doc = option_and_then (λ docs. place docs href) o.documents in
       let closed = has_closed q p id may.above_zero closes in
-      let opened = done_then start o q acts (Open doc id ∷ []) within.done (done_open o q href (Id id) may does) in
-      record {
-        acts = (acts ++ Open doc id ∷ []) ++ closed.acts;
-        done = done_then start q p (acts ++ Open doc id ∷ []) closed.acts opened closed.done;
-        names = names_of old.files.items ++ href ∷ [];
-        opened = opens_more (acts ++ Open doc id ∷ []) closed.acts ∙ ap (λ (l : List (Option ℕ)). opens (acts ++ Open doc id ∷ []) ++ l) (closes_open_none closed.acts closed.closes) ∙ append_none (opens (acts ++ Open doc id ∷ []))
-            ∙ opens_more acts (Open doc id ∷ []) ∙ ap (λ (l : List (Option ℕ)). l ++ doc ∷ []) (within.opened ∙ ap (places start) (append_none (names_of old.files.items)))
-            ∙ ap (λ (told : Option (List Doc)). places start (names_of old.files.items) ++ option_and_then (λ docs. place docs href) told ∷ []) within.done.between.documents
-            ∙ sym (map_append (place_told start) (names_of old.files.items) (href ∷ []));
-        ids = ids_back ∙ within.ids ∙ ap (λ (l : List Going). and_more start.open_ids (ids_of l)) (sym fails.0);
-        counts = counts_then start o p within.counts (counts_then o q p (subst (SameCounts o) (sym does) (record { doc = refl; main = refl; out = refl; note = refl })) (counts_closed q p id closes));
-        at = tt;
-      }
+      let opened = done_then start o q acts (Open doc id ∷ []) within.done (done_open o q href (Id id) may does) in (
+        record {
+          acts = (acts ++ Open doc id ∷ []) ++ closed.acts;
+          done = done_then start q p (acts ++ Open doc id ∷ []) closed.acts opened closed.done;
+          names = names_of old.files.items ++ href ∷ [];
+          opened = opens_more (acts ++ Open doc id ∷ []) closed.acts ∙ ap (λ (l : List (Option ℕ)). opens (acts ++ Open doc id ∷ []) ++ l) (closes_open_none closed.acts closed.closes) ∙ append_none (opens (acts ++ Open doc id ∷ []))
+              ∙ opens_more acts (Open doc id ∷ []) ∙ ap (λ (l : List (Option ℕ)). l ++ doc ∷ []) (within.opened ∙ ap (places start) (append_none (names_of old.files.items)))
+              ∙ ap (λ (told : Option (List Doc)). places start (names_of old.files.items) ++ option_and_then (λ docs. place docs href) told ∷ []) within.done.between.documents
+              ∙ sym (map_append (place_told start) (names_of old.files.items) (href ∷ []));
+          first = first_like start old.limits new.limits name (names_of old.files.items ++ href ∷ []) (names_of old.files.items ++ href ∷ []) fails.2 refl (first_wanted start o name old href acts read wanted wants within);
+          ids = ids_back ∙ within.ids ∙ ap (λ (l : List Going). and_more start.open_ids (ids_of l)) (sym fails.0);
+          counts = counts_then start o p within.counts (counts_then o q p (subst (SameCounts o) (sym does) (record { doc = refl; main = refl; out = refl; note = refl })) (counts_closed q p id closes));
+          at = tt;
+          once = if_some start.open_ids (λ ids once. none_quiet (acts ++ Open doc id ∷ []) closed.acts (none_quiet acts (Open doc id ∷ []) once.none_behind (quiet_open doc id)) (quiet_closes closed.acts closed.closes)) within.once;
+        },
+        stays_then old.limits name start acts (acts ++ Open doc id ∷ []) ((acts ++ Open doc id ∷ []) ++ closed.acts) (stays_opened old.limits name start acts doc id) (stays_closed old.limits name start (acts ++ Open doc id ∷ []) closed.acts closed.closes),
+      )
 
 -- the file is absent
 module _ (o p : Outside) (old : Reading) (href : List ℕ) (y : Standing) (held : IsHeld o old) (may : MayOpen o href Absent) (does : Opens o href Absent p) (misses : MissesIt old.loader y) (names : y.names ≡ old.loader.names) (over : is_over y.progress ≡ true) where
@@ -147,18 +156,24 @@ module _ (o p : Outside) (old : Reading) (href : List ℕ) (y : Standing) (held 
         read_like old.limits name (front ++ g ∷ []) old.going.items old.files.items old.files.items y y old.left old.left missed wants.last.2 refl refl refl
             (absent_read old.limits name comes_to_one front g old.files.items old.loader old.left was href wanted wants.here wants.last.3.0 wants.last.3.1 y misses names over),
         over_wants_none y.progress over,
-        λ start acts within. (acts ++ Open None 0 ∷ [], within_absent start o old.limits old.going.items old.files.items acts within held p href may does),
+        λ start acts within. (acts ++ Open None 0 ∷ [], within_absent start o old.limits old.going.items old.files.items acts within held p href may does, stays_opened old.limits name start acts None 0),
+        refl,
       )
 
 -- it couldn't be opened
-pub unopened_steps : (o p : Outside) (old : Reading) (file : List ℕ) → DocFault o p → (start : Outside) (acts : List Act) → IsWithin start o old.going.items old.files.items [] acts → IsHalted start p old (halt.Unopened file)
-unopened_steps o p old file fault start acts within =
-    record {
-      acts = acts ++ [];
-      done = done_then start o p acts [] within.done (done_open o p file Failed tt fault);
-      names = names_of old.files.items ++ [];
-      opened = ap opens (append_none acts) ∙ within.opened;
-      ids = ap (λ (x : Outside). x.open_ids) fault.alone ∙ within.ids;
-      counts = counts_failed start o p within.counts fault;
-      at = tt;
-    }
+pub unopened_steps : (o p : Outside) (old : Reading) (file : List ℕ) → DocFault o p → (name : List ℕ) → IsRead name old [] → wanted_in old.loader.progress ≡ Some file → WantsFile old.going.items old.loader
+    → (start : Outside) (acts : List Act) → IsWithin start o old.going.items old.files.items [] acts → (halted : IsHalted name start p old (halt.Unopened file)) × StayUndecided old.limits name start acts halted.acts
+unopened_steps o p old file fault name read wanted wants start acts within = (
+  record {
+    acts = acts ++ [];
+    done = done_then start o p acts [] within.done (done_open o p file Failed tt fault);
+    names = names_of old.files.items;
+    opened = ap opens (append_none acts) ∙ within.opened ∙ ap (places start) (append_none (names_of old.files.items));
+    first = first_wanted start o name old file acts read wanted wants within;
+    ids = ap (λ (x : Outside). x.open_ids) fault.alone ∙ within.ids;
+    counts = counts_failed start o p within.counts fault;
+    at = tt;
+    once = if_some start.open_ids (λ ids once. subst NoneBehindEnd (sym (append_none acts)) once.none_behind) within.once;
+  },
+  stays_none old.limits name start acts,
+)

@@ -12,12 +12,14 @@ use Rattle.stx_host.specs.declared.act.Doc.{Doc}
 use Rattle.sheet_loader.specs.Files.{changed}
 use Rattle.sheet_loader.specs.Levels.{name_at}
 use Rattle.sheet_files.specs.Acts.{given_behind, given_for, opens, read_behind, read_since_open}
-use Rattle.sheet_files.specs.Held.{AreGiven, AreHeld, AreNumbered, HasRest, HaveDone, IsWithin, SameCounts, came_of, ids_of, names_of, seen_of, with_going}
+use Rattle.sheet_files.specs.Held.{AreGiven, AreHeld, AreNumbered, AreOnce, HasRest, HaveDone, IsWithin, SameCounts, came_of, ids_of, names_of, seen_of, with_going}
 use Rattle.sheet_files.specs.Opened.{AreOf, IsOf, names_in, place_told, places, whole}
 use Rattle.sheet_files.specs.declared.going.Going.{Going}
 use Rattle.sheet_files.proofs.Acting.{given_more, opens_more, read_more}
 use Rattle.sheet_files.proofs.Doing.{counts_then, done_then}
+use Rattle.sheet_files.proofs.Ends.{GoesOnce, once_goes}
 use Rattle.sheet_files.proofs.Holding.{AllApart, apart_last, ids_same}
+use Rattle.sheet_files.proofs.Numbering.{GivesNone, numbers_go}
 use Rattle.sheet_files.proofs.Opening.{append_none}
 use Rattle.sheet_files.proofs.Resting.{name_first}
 use Rattle.sheet_files.proofs.Seeing.{AreKnown, are_changed, as_came, known_of, names_seen, numbered_le, with_snoc}
@@ -119,6 +121,8 @@ pub record GoesOnTo (o p : Outside) (more : List Act) (g h : Going) : Type 0 whe
   pub read : read_behind (length g.bytes.items) g.id more ≡ length h.bytes.items
   pub given : (b : Option (Option ℕ)) → given_behind b g.id more ≡ b
   pub spares : Spares g.id more
+  pub once : GoesOnce more g h
+  pub gives_none : GivesNone more
 
 pub known_front : (docs : List ℕ → Option (List ℕ)) (names : List (List ℕ)) (front : List Going) (g : Going) → AreKnown docs names (front ++ g ∷ []) → IsOf (docs (name_at names g.number)) (came_of g)
 known_front docs names [] g known = known.0
@@ -170,6 +174,9 @@ module _ (start o : Outside) (limits : Limits) (front : List Going) (g : Going) 
           ap (λ (k : ℕ). read_since_open k (acts ++ more)) goes.id ∙ read_more 0 g.id acts more ∙ ap (λ (n : ℕ). read_behind n g.id more) old.1.1 ∙ goes.read,
         )
 
+    once_now : (s : List ℕ) → start.open_ids ≡ Some s → AreOnce (acts ++ more) (front ++ h ∷ [])
+    once_now s e = once_goes acts more front g h (around s e) goes.id (some_at _ start.open_ids s e within.once) goes.once
+
     pub within_goes : IsWithin start p (front ++ h ∷ []) files [] (acts ++ more)
     within_goes = record {
       done = done_then start o p acts more within.done goes.done;
@@ -177,5 +184,7 @@ module _ (start o : Outside) (limits : Limits) (front : List Going) (g : Going) 
       ids = goes.ids ∙ within.ids ∙ ap (λ (l : List ℕ). and_more start.open_ids l) (sym (ids_same front g h goes.id));
       told = if_told start.open_ids start.documents told_now;
       given = if_at start.open_ids given_now;
+      once = if_at start.open_ids once_now;
+      numbers = if_at start.open_ids (λ s e. numbers_go acts more front g h goes.gives_none goes.id goes.number (some_at _ start.open_ids s e within.numbers));
       counts = counts_then start o p within.counts goes.counts;
     }

@@ -1,5 +1,5 @@
 -- What acts say of the documents that were opened.
-use Rattle.std.specs.Prelude.{ℕ, ◌+◌, Bool, true, false, ◌==◌, if◌then◌else◌, List, [], ◌∷◌, Option, Some, None}
+use Rattle.std.specs.Prelude.{◌≡◌, ℕ, ◌+◌, Bool, true, false, ◌==◌, ◌||◌, if◌then◌else◌, List, [], ◌∷◌, Option, Some, None}
 use Rattle.stx_host.specs.declared.act.Act.{Act}
 use Rattle.stx_host.specs.declared.act.Act.TheVariants.{Open, Read, Write}
 
@@ -32,3 +32,16 @@ given_behind before id (act ∷ acts) = given_behind before id acts
 
 abbrev pub given_for : (id : ℕ) → List Act → Option (Option ℕ)
 given_for id acts = given_behind None id acts
+
+-- whether an id is read before it is given again
+abbrev pub is_read_on : (id : ℕ) → List Act → Bool
+is_read_on id [] = false
+is_read_on id (Open doc k ∷ acts) = if k == id then false else is_read_on id acts
+is_read_on id (Read k got ∷ acts) = (k == id) || is_read_on id acts
+is_read_on id (act ∷ acts) = is_read_on id acts
+
+-- Nothing is read behind an end: an id of which a read got nothing isn't read again before it is given again.
+abbrev pub NoneBehindEnd : List Act → Type 0
+NoneBehindEnd [] = Unit {0}
+NoneBehindEnd (Read id got ∷ acts) = (got ≡ 0 → is_read_on id acts ≡ false) × NoneBehindEnd acts
+NoneBehindEnd (act ∷ acts) = NoneBehindEnd acts

@@ -1,6 +1,6 @@
 -- What is so of a sheet while its files are read.
-use Rattle.std.specs.Prelude.{◌≡◌, ℕ, ◌+◌, ◌<◌, ◌≤◌, Bool, true, false, List, [], ◌∷◌, ◌++◌, map, length, Option, Some, Ok, Err}
-use Rattle.stx_base.specs.Course.{Ends}
+use Rattle.std.specs.Prelude.{◌≡◌, ℕ, ◌+◌, ◌<◌, ◌≤◌, Bool, true, false, List, [], ◌∷◌, ◌++◌, map, length, sum_by, Option, Some, Ok, Err}
+use Rattle.stx_base.specs.Course.{Begins, Ends}
 use Rattle.stx_base.specs.declared.limits.Limits.{Limits}
 use Rattle.xml_events.specs.Source.{future}
 use Rattle.xml_events.specs.Telling.{pulled}
@@ -20,6 +20,7 @@ use Rattle.stx_base.specs.declared.fault.SheetCode.{SheetCode}
 use Rattle.stx_base.specs.declared.fault.SheetFault.{SheetFault}
 use Rattle.sheet_model.specs.declared.sheet.Sheet.{Sheet}
 use Rattle.sheet_files.specs.Frames.{AreCut, ComesTo, FitAll, Frame, GoesOn, Part, files_cut, lists_open, opened_of, parts_of, shares}
+use Rattle.sheet_files.specs.Undecided.{files_at}
 
 -- the files have these documents
 abbrev pub AreParts : Documents → List Part → Type 0
@@ -66,6 +67,11 @@ abbrev pub Adds : List Frame → (spent : ℕ) → Type 0
 Adds [] spent = Unit {0}
 Adds (f ∷ outer) spent = (f.part.before + f.part.inside + f.taken ≡ spent) × Adds outer (f.part.before + f.part.inside + length f.part.bytes)
 
+-- how many bytes of these files were read, and of those that were read to their ends
+abbrev pub bytes_read : List Frame → ℕ
+bytes_read [] = 0
+bytes_read (f ∷ outer) = f.taken + sum_by (λ (p : Part). length p.bytes) f.done + bytes_read outer
+
 abbrev pub taken_of : List Frame → ℕ
 taken_of [] = 0
 taken_of (f ∷ outer) = f.taken
@@ -78,6 +84,11 @@ outer_of (f ∷ outer) = outer
 abbrev pub Comes : Limits → (name : List ℕ) → List Frame → Standing → (is_over : Bool) → Type 0
 Comes limits name frames x false = GoesOn limits name x.names frames x.progress
 Comes limits name frames x true = ComesTo limits name x.names frames x.progress (shares limits frames)
+
+-- no more of a file was read than may be read of all
+abbrev pub AllTaken : Limits → List Frame → Type 0
+AllTaken limits [] = Unit {0}
+AllTaken limits (f ∷ outer) = (f.taken ≤ limits.sheet) × AllTaken limits outer
 
 -- A sheet while its files are read, of which `left` bytes may still be read: these are the files, where a loader stands so.
 pub record Follows (limits : Limits) (docs : Documents) (name : List ℕ) (frames : List Frame) (x : Standing) (left : ℕ) : Type 0 where
@@ -93,13 +104,18 @@ pub record Follows (limits : Limits) (docs : Documents) (name : List ℕ) (frame
   pub spent : ℕ
   pub all : spent + left ≡ limits.sheet
   pub adds : Adds frames spent
+  pub read : bytes_read frames ≡ spent
   -- each file took a byte at least, but for an innermost one that has just begun
   pub few : length (parts_of frames) ≤ spent + 1
   pub busy : 0 < taken_of frames → length (parts_of frames) ≤ spent
-  -- where the documents have these files the definition comes here too
+  -- where the documents have these files the definition comes to them, and then here, too
   pub most : ℕ
   pub more : most + length (parts_of frames) ≡ limits.sheet + 3
+  pub chain : AreParts docs (parts_of frames) → (reads : Reads) → files_at reads limits docs name (length (parts_of frames)) ≡ opened_of frames
   pub loads : AreParts docs (parts_of frames) → (reads : Reads) → load reads limits docs name ≡ load_from language reads limits docs name most (opened_of frames)
+  pub short : AllTaken limits frames
+  -- and it opens these files first, whatever comes of the others
+  pub begins : AreParts docs (parts_of frames) → (reads : Reads) → Begins (map (λ (p : Part). p.name) (parts_of frames)) (load reads limits docs name).opened
 
 -- What a loader that is over gives is what the definition gives, and these names are those that are opened.
 pub record Decides (limits : Limits) (docs : Documents) (name : List ℕ) (names : List (List ℕ)) (x : Standing) : Type 0 where

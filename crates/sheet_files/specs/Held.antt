@@ -1,16 +1,18 @@
 -- What the program keeps of the files that are being read: their ids, numbers and readers, and what was done.
-use Rattle.std.specs.Prelude.{◌≡◌, ℕ, suc, ◌+◌, ◌-◌, ◌*◌, ◌<◌, ◌≤◌, false, if◌then◌else◌, List, [], ◌∷◌, ◌++◌, map, length, Some, IfSome}
+use Rattle.std.specs.Prelude.{◌≡◌, ℕ, suc, ◌+◌, ◌-◌, ◌*◌, ◌<◌, ◌≤◌, Bool, false, ◌==◌, ◌||◌, if◌then◌else◌, List, [], ◌∷◌, ◌++◌, map, length, Some, IfSome}
 use Rattle.std.specs.List.{list_any}
 use Rattle.stx_base.specs.declared.limits.Limits.{Limits}
 use Rattle.stx_host.specs.Before.{Between, is_main_read}
 use Rattle.stx_host.specs.Outside.{Outside, and_more, document, is_among}
 use Rattle.stx_host.specs.declared.act.Act.{Act}
+use Rattle.stx_host.specs.declared.act.Act.TheVariants.{Open, Read}
 use Rattle.stx_host.specs.declared.act.Doc.{Doc}
 use Rattle.xml_events.specs.Source.{events_left}
 use Rattle.sheet_loader.specs.Files.{changed}
 use Rattle.sheet_loader.specs.Levels.{name_at}
-use Rattle.sheet_files.specs.Acts.{given_for, is_write, opens, read_since_open}
+use Rattle.sheet_files.specs.Acts.{NoneBehindEnd, given_for, is_write, opens, read_since_open}
 use Rattle.sheet_files.specs.Opened.{AreOf, Came, Begun, Whole, Seen, documents_told, names_in, place_told, places, whole}
+use Rattle.sheet_files.specs.Undecided.{number_of}
 use Rattle.sheet_files.specs.declared.going.Going.{Going}
 use Rattle.sheet_files.specs.declared.reading.Reading.{Reading}
 
@@ -72,6 +74,28 @@ AreGiven start acts names [] = Unit {0}
 AreGiven start acts names (g ∷ going) =
     ((given_for g.id acts ≡ Some (place_told start (name_at names g.number))) × (read_since_open g.id acts ≡ length g.bytes.items)) × AreGiven start acts names going
 
+-- whether a read got nothing of an id since it was given last, where this was said before these acts
+abbrev pub ended_behind : (before : Bool) → (id : ℕ) → List Act → Bool
+ended_behind before id [] = before
+ended_behind before id (Open doc k ∷ acts) = ended_behind (if k == id then false else before) id acts
+ended_behind before id (Read k got ∷ acts) = ended_behind (if k == id then before || (got == 0) else before) id acts
+ended_behind before id (act ∷ acts) = ended_behind before id acts
+
+-- the end of a file isn't behind it while its reader wants bytes
+abbrev pub AreUnended : List Act → List Going → Type 0
+AreUnended acts [] = Unit {0}
+AreUnended acts (g ∷ going) = (g.reader.lexer.ended ≡ false → ended_behind false g.id acts ≡ false) × AreUnended acts going
+
+-- each id was given for the file of its number
+abbrev pub AreOfNumber : List Act → List Going → Type 0
+AreOfNumber acts [] = Unit {0}
+AreOfNumber acts (g ∷ going) = (number_of g.id acts ≡ Some g.number) × AreOfNumber acts going
+
+-- nothing was read behind an end
+pub record AreOnce (acts : List Act) (going : List Going) : Type 0 where
+  pub none_behind : NoneBehindEnd acts
+  pub unended : AreUnended acts going
+
 -- what acts have done since a moment: nothing was written, and nothing of the main document was read
 pub record HaveDone (start o : Outside) (acts : List Act) : Type 0 where
   pub between : Between start o acts [] []
@@ -94,6 +118,8 @@ pub record IsWithin (start o : Outside) (going : List Going) (files : List Doc) 
   pub ids : o.open_ids ≡ and_more start.open_ids (ids_of going)
   pub told : IfSome (documents_told start) (λ docs. AreOf (document docs) (seen_of going files ++ missing) × HasRest docs o (names_of files) going)
   pub given : IfSome start.open_ids (λ ids. AreGiven start acts (names_of files) going)
+  pub once : IfSome start.open_ids (λ ids. AreOnce acts going)
+  pub numbers : IfSome start.open_ids (λ ids. AreOfNumber acts going)
   pub counts : SameCounts start o
 
 -- No more events come of what a reader keeps where it wants more bytes.

@@ -6,3 +6,4 @@ pub mod Loading
 pub mod Opened
 pub mod Reading
 pub mod Steps
+pub mod Undecided

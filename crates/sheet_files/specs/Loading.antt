@@ -1,5 +1,5 @@
 -- What the loading of a sheet answers, and what it does to the outside.
-use Rattle.std.specs.Prelude.{◌≡◌, ℕ, false, ◌⊎◌, Contains, List, [], map, Option, Some, IfSome, Ok, Err}
+use Rattle.std.specs.Prelude.{◌≡◌, ℕ, ◌≤◌, ◌^◌, false, ◌⊎◌, Contains, List, [], ◌∷◌, ◌++◌, map, Option, Some, IfSome, IfOk, Ok, Err}
 use Rattle.std.specs.List.{list_any}
 use Rattle.std.specs.Option.{option_and_then}
 use Rattle.std.specs.declared.result.Result.{Result}
@@ -13,11 +13,13 @@ use Rattle.stx_host.specs.declared.act.Doc.{Doc}
 use Rattle.fault_report.specs.declared.outcome.HostFault.TheVariants as host_fault
 use Rattle.fault_report.specs.declared.outcome.Outcome.{Outcome}
 use Rattle.fault_report.specs.declared.outcome.Outcome.TheVariants.{Sheet, Host, Memory}
+use Rattle.sheet_model.specs.Sound.{IsSound}
 use Rattle.sheet_model.specs.declared.sheet.Sheet as model
 use Rattle.sheet_loader.specs.Files.{Documents, load, loads}
 use Rattle.sheet_loader.specs.Values.{Reads}
-use Rattle.sheet_files.specs.Acts.{given_for, is_write, opens, read_since_open}
-use Rattle.sheet_files.specs.Opened.{Seen, AreOf, documents_told, names_in, places, whole}
+use Rattle.sheet_files.specs.Acts.{NoneBehindEnd, given_for, is_write, opens, read_since_open}
+use Rattle.sheet_files.specs.Opened.{Seen, AreOf, documents_told, names_in, whole}
+use Rattle.sheet_files.specs.Undecided.{IsUndecided}
 use Rattle.sheet_files.specs.declared.load.Loaded.{Loaded}
 
 -- The answer is what all documents come to that have these files, which are all that they open. Where a host tells its documents, they
@@ -34,17 +36,20 @@ LoadAnswers told limits name (Err (Host file host_fault.Doc offset)) = Unit {0}
 LoadAnswers told limits name (Err Memory) = Unit {0}
 LoadAnswers told limits name answer = ⊥
 
--- with a sheet, and with its fault, these documents were opened, by their places, where these are the names to be opened
-abbrev pub OpensAll : (at : List ℕ → Option ℕ) → (names : List (List ℕ)) → Result Loaded Outcome → (opened : List (Option ℕ)) → Type 0
-OpensAll at names (Ok loaded) opened = opened ≡ map at names
-OpensAll at names (Err (Sheet fault)) opened = opened ≡ map at names
-OpensAll at names (Err other) opened = Unit {0}
+-- The host failed on one of the files that were opened, after all that was read of it since, or on opening the next one.
+abbrev pub FailsInOrder : (at : List ℕ → Option ℕ) → (front rest : List (List ℕ)) → (file : List ℕ) → (offset : ℕ) → List Act → Type 0
+FailsInOrder at front rest file offset acts =
+    (Contains front file × ((id : ℕ) × (given_for id acts ≡ Some (at file)) × (offset ≡ read_since_open id acts)))
+    ⊎ ((later : List (List ℕ)) × (rest ≡ file ∷ later) × (offset ≡ 0))
 
--- with a sheet these are the names of its files; where the host failed it was in one of them, or no other could be opened
-abbrev pub NamesFile : (opened : List (List ℕ)) → Result Loaded Outcome → Type 0
-NamesFile opened (Ok loaded) = opened ≡ map (λ (d : Doc). d.name) loaded.files
-NamesFile opened (Err (Host file fault offset)) = Contains opened file ⊎ (offset ≡ 0)
-NamesFile opened (Err other) = Unit {0}
+-- These documents were opened, by their places, where these are the names to be opened: all of them with a sheet or its fault, and else the
+-- first ones. Where the host failed it was on one of these files, or on the next one.
+abbrev pub OpensInOrder : (at : List ℕ → Option ℕ) → (names : List (List ℕ)) → Result Loaded Outcome → List Act → Type 0
+OpensInOrder at names (Ok loaded) acts = opens acts ≡ map at names
+OpensInOrder at names (Err (Sheet fault)) acts = opens acts ≡ map at names
+OpensInOrder at names (Err (Host file fault offset)) acts =
+    (front : List (List ℕ)) × (rest : List (List ℕ)) × (front ++ rest ≡ names) × (opens acts ≡ map at front) × FailsInOrder at front rest file offset acts
+OpensInOrder at names (Err other) acts = (front : List (List ℕ)) × (rest : List (List ℕ)) × (front ++ rest ≡ names) × (opens acts ≡ map at front)
 
 -- A failure of the host is told with what was read of the file since it was opened, by an id that was given for it; or the file could not
 -- be opened.
@@ -53,14 +58,16 @@ FailsAfter told (Err (Host file fault offset)) acts =
     (offset ≡ 0) ⊎ ((id : ℕ) × (given_for id acts ≡ Some (option_and_then (λ docs. place docs file) told)) × (offset ≡ read_since_open id acts))
 FailsAfter told answer acts = Unit {0}
 
--- What loading does: it opens the sheet's files in their order, reads nothing of the main document, and gives the lanes nothing.
+-- What loading does: it opens the sheet's files in their order, reads of them only while what was read doesn't decide the sheet, and not behind
+-- their ends, reads nothing of the main document, and gives the lanes nothing.
 pub record LoadActs (old new : Outside) (limits : Limits) (name : List ℕ) (answer : Result Loaded Outcome) (acts : List Act) : Type 0 where
   pub between : Between old new acts [] []
   pub no_write : list_any is_write acts ≡ false
   pub no_main_read : list_any is_main_read acts ≡ false
-  pub opened : (names : List (List ℕ)) × (opens acts ≡ places old names) × NamesFile names answer
-  pub opens : IfSome (documents_told old) (λ docs. (reads : Reads) → OpensAll (place docs) (load reads limits (document docs) name).opened answer (opens acts))
+  pub opens : IfSome (documents_told old) (λ docs. (reads : Reads) → OpensInOrder (place docs) (load reads limits (document docs) name).opened answer acts)
   pub fails : IfSome old.open_ids (λ ids. FailsAfter old.documents answer acts)
+  pub once : IfSome old.open_ids (λ ids. NoneBehindEnd acts)
+  pub undecided : IsUndecided old limits name acts
 
 -- the count of documents rises where the answer is a failure of the host, and else stays
 abbrev pub DocCount : Result Loaded Outcome → (before now : ℕ) → Type 0
@@ -81,3 +88,4 @@ pub record LoadsTo (old new : Outside) (limits : Limits) (name : List ℕ) (answ
   pub acts : (acts : List Act) × LoadActs old new limits name answer acts
   pub counts : LoadCounts old new answer
   pub ids : new.open_ids ≡ old.open_ids
+  pub sound : limits.depth ≤ 512 → limits.sheet ≤ 2 ^ 24 → IfOk answer (λ loaded. IsSound loaded.sheet)

@@ -1,12 +1,14 @@
 -- What is so of a sheet while its files are read, by what the program keeps of it.
-use Rattle.std.specs.Prelude.{◌≡◌, ℕ, ◌<◌, true, false, List, [], ◌∷◌, ◌++◌, map, length, None}
+use Rattle.std.specs.Prelude.{◌≡◌, ℕ, ◌<◌, ◌≤◌, ◌^◌, true, false, List, [], ◌∷◌, ◌++◌, map, length, None}
+use Rattle.stx_base.specs.Course.{Begins}
 use Rattle.stx_base.specs.declared.limits.Limits.{Limits}
 use Rattle.stx_host.specs.declared.act.Doc.{Doc}
 use Rattle.xml_events.specs.Source.{future}
 use Rattle.xml_events.specs.Telling.{pulled}
 use Rattle.xml_events.specs.declared.event.Pull.TheVariants as pull
+use Rattle.sheet_model.specs.Sound.{IsSound}
 use Rattle.sheet_model.specs.declared.sheet.Sheet.{Sheet}
-use Rattle.sheet_loader.specs.Files.{Documents}
+use Rattle.sheet_loader.specs.Files.{Documents, load}
 use Rattle.sheet_loader.specs.Lists.{IsInElement}
 use Rattle.sheet_loader.specs.Loaders.{GivesSheet, Standing, is_over}
 use Rattle.sheet_loader.specs.Remaining.{Progress, Wants_file}
@@ -55,6 +57,10 @@ abbrev pub AllEnded : List Going → Type 0
 AllEnded [] = Unit {0}
 AllEnded (g ∷ going) = (g.reader.lexer.ended ≡ true) × AllEnded going
 
+-- it is sound, where no file may nest deeper than bodies, and its files are small enough that all of it can be numbered
+abbrev pub IsSoundWithin : Limits → Sheet → Type 0
+IsSoundWithin limits sheet = limits.depth ≤ 512 → limits.sheet ≤ 2 ^ 24 → IsSound sheet
+
 -- A sheet while its files are read, of which an include's file may be missing.
 pub record IsReadBy (limits : Limits) (name : List ℕ) (going : List Going) (files : List Doc) (x : Standing) (left : ℕ) (missing : List Seen) : Type 0 where
   -- while it is read: whatever comes of its files
@@ -63,7 +69,10 @@ pub record IsReadBy (limits : Limits) (name : List ℕ) (going : List Going) (fi
   pub decides : is_over x.progress ≡ true → (docs : Documents) → AreOf docs (seen_of going files ++ missing) → Decides limits docs name (names_of files ++ names_in missing) x
   -- a sheet is given where all was read, and none is missing
   pub whole : is_over x.progress ≡ true → Reads → (sheet : Sheet) → GivesSheet x sheet → AllEnded going × (missing ≡ [])
+  pub sound : is_over x.progress ≡ true → Reads → (sheet : Sheet) → GivesSheet x sheet → IsSoundWithin limits sheet
   pub none : is_over x.progress ≡ false → missing ≡ []
+  -- these are the first files that are opened of documents that have them
+  pub begins : (docs : Documents) → AreOf docs (seen_of going files ++ missing) → (reads : Reads) → Begins (names_of files ++ names_in missing) (load reads limits docs name).opened
 
 abbrev pub IsRead : (name : List ℕ) → Reading → (missing : List Seen) → Type 0
 IsRead name r missing = IsReadBy r.limits name r.going.items r.files.items r.loader r.left missing

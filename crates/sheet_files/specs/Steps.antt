@@ -3,7 +3,7 @@ use Rattle.std.specs.Prelude.{◌≡◌, ℕ, Bool, ◌+◌, ◌<◌, ◌≤◌,
 use Rattle.stx_base.specs.declared.limits.Limits.{Limits}
 use Rattle.stx_base.specs.declared.memory.Memory.{Memory}
 use Rattle.stx_host.specs.Laws.{Later}
-use Rattle.stx_host.specs.Outside.{Closes, MayOpen, Opens, Outside, ReadFault, Reads as HostReads, Rose, and_more, is_among}
+use Rattle.stx_host.specs.Outside.{Closes, MayOpen, Opens, Outside, ReadFault, Reads as HostReads, Rose, and_more, document, is_among}
 use Rattle.stx_host.specs.declared.act.Act.{Act}
 use Rattle.stx_host.specs.declared.act.Act.TheVariants.{Close, Read}
 use Rattle.stx_host.specs.declared.act.Doc.{Doc}
@@ -19,7 +19,7 @@ use Rattle.xml_events.specs.Source.{IsAnswer, fed_with, future, source}
 use Rattle.xml_events.specs.declared.event.Event.{Event}
 use Rattle.xml_events.specs.declared.event.Pull.TheVariants as pull
 use Rattle.xml_tokens.specs.declared.lexeme.Ending.{Ending}
-use Rattle.sheet_loader.specs.Files.{changed}
+use Rattle.sheet_loader.specs.Files.{changed, load}
 use Rattle.sheet_loader.specs.Levels.{name_at}
 use Rattle.sheet_loader.specs.Lists.{OpensList}
 use Rattle.sheet_loader.specs.Loaders.{EndsInFault, GivesSheet, OpensIt, OpensName, is_over, wanted_in}
@@ -28,11 +28,12 @@ use Rattle.sheet_loader.specs.Reading.{File}
 use Rattle.sheet_loader.specs.Remaining.{beginning, remaining}
 use Rattle.sheet_loader.specs.Values.{Reads}
 use Rattle.sheet_loader.specs.Versions.{language, version_of}
-use Rattle.stx_base.specs.Course.{Say}
-use Rattle.sheet_files.specs.Acts.{given_for, opens, read_since_open}
+use Rattle.stx_base.specs.Course.{Begins, Say}
+use Rattle.sheet_files.specs.Acts.{NoneBehindEnd, given_for, opens, read_since_open}
 use Rattle.sheet_files.specs.Held.{HaveDone, IsWithin, SameCounts, ids_of, names_of, turns_of}
-use Rattle.sheet_files.specs.Opened.{Seen, place_told, places}
+use Rattle.sheet_files.specs.Opened.{Seen, documents_told, place_told, places}
 use Rattle.sheet_files.specs.Reading.{HasLast, IsRead}
+use Rattle.sheet_files.specs.Undecided.{IsUndecided}
 use Rattle.sheet_files.specs.declared.going.Going.{Going}
 use Rattle.sheet_files.specs.declared.load.Loaded.{Loaded}
 use Rattle.sheet_files.specs.declared.going.Next.{Next}
@@ -45,7 +46,7 @@ use Rattle.sheet_files.specs.declared.reading.Reading.{Reading}
 pub record Gets (old new : Outside) (g h : Going) : Type 0 where
   pub acts : List Act
   pub piece : List ℕ
-  pub done : ((acts ≡ []) × (piece ≡ []) × (new ≡ old)) ⊎ ((acts ≡ Read g.id (length piece) ∷ []) × HostReads old g.id (Bytes (length piece)) new)
+  pub done : ((acts ≡ []) × (piece ≡ []) × (new ≡ old)) ⊎ ((acts ≡ Read g.id (length piece) ∷ []) × (length g.bytes.items ≤ g.taken) × (0 < length piece) × HostReads old g.id (Bytes (length piece)) new)
   pub next : IfSome (old.to_come g.id) (λ bytes. bytes ≡ piece ++ drop (length piece) bytes)
   pub bytes : h.bytes.items ≡ g.bytes.items ++ piece
   pub others : (h.id ≡ g.id) × (h.number ≡ g.number) × (h.reader ≡ g.reader) × (h.taken ≡ g.taken)
@@ -54,7 +55,7 @@ abbrev pub Looks : (old new : Outside) → (g h : Going) → Result Next Halt �
 Looks old new g h (Ok next.Byte) = Gets old new g h × (h.taken < length h.bytes.items)
 Looks old new g h (Ok next.End) = (h ≡ g) × (length g.bytes.items ≤ g.taken) × IfSome (old.to_come g.id) (λ bytes. bytes ≡ []) × HostReads old g.id End new
 Looks old new g h (Err halt.Unread) = (h ≡ g) × ReadFault g.id old new
-Looks old new g h (Err halt.Memory) = (h.id ≡ g.id) × (h.number ≡ g.number) × (h.reader ≡ g.reader) × ((got : ℕ) × HostReads old g.id (Bytes got) new)
+Looks old new g h (Err halt.Memory) = (h.id ≡ g.id) × (h.number ≡ g.number) × (h.reader ≡ g.reader) × (length g.bytes.items ≤ g.taken) × ((got : ℕ) × HostReads old g.id (Bytes got) new)
 Looks old new g h (Err other) = ⊥
 
 -- a file of which nothing is read
@@ -154,22 +155,38 @@ HaltsAt start opened r acts halt.Unread =
     × IfSome start.open_ids (λ ids. (given_for g.id acts ≡ Some (place_told start (name_at opened g.number))) × (read_since_open g.id acts ≡ length g.bytes.items))
 HaltsAt start opened r acts halt.Memory = Unit {0}
 
+-- where a host tells its documents these are the names that are opened first
+abbrev pub OpensFirst : (start : Outside) → Limits → (name : List ℕ) → (names : List (List ℕ)) → Type 0
+OpensFirst start limits name names = IfSome (documents_told start) (λ docs. (reads : Reads) → Begins names (load reads limits (document docs) name).opened)
+
+-- these names, and that of the file that couldn't be opened
+abbrev pub names_to : (names : List (List ℕ)) → Halt → List (List ℕ)
+names_to names (halt.Unopened file) = names ++ file ∷ []
+names_to names other = names
+
 -- Where reading halts nothing that was opened is lost.
-pub record IsHalted (start o : Outside) (r : Reading) (why : Halt) : Type 0 where
+pub record IsHalted (name : List ℕ) (start o : Outside) (r : Reading) (why : Halt) : Type 0 where
   pub acts : List Act
   pub done : HaveDone start o acts
   pub names : List (List ℕ)
   pub opened : opens acts ≡ places start names
+  pub first : OpensFirst start r.limits name (names_to names why)
   pub ids : o.open_ids ≡ and_more start.open_ids (ids_of r.going.items)
   pub counts : HaltCounts start o why
   pub at : HaltsAt start names r acts why
+  pub once : IfSome start.open_ids (λ ids. NoneBehindEnd acts)
+
+-- where the sheet wasn't decided yet at the reads of acts, neither was it at those of all
+abbrev pub StayUndecided : Limits → (name : List ℕ) → (start : Outside) → (acts all : List Act) → Type 0
+StayUndecided limits name start acts all = IsUndecided start limits name acts → IsUndecided start limits name all
 
 -- What a step comes to, from where so was read: reading goes on, or it halts.
 abbrev pub StepsTo : (name : List ℕ) → (o p : Outside) → (old new : Reading) → Result (Unit {0}) Halt → Type 0
 StepsTo name o p old new (Ok done) =
     (missing : List Seen) × IsRead name new missing × (wanted_in new.loader.progress ≡ None)
-    × ((start : Outside) (acts : List Act) → IsWithin start o old.going.items old.files.items [] acts → (more : List Act) × IsWithin start p new.going.items new.files.items missing more)
-StepsTo name o p old new (Err why) = (start : Outside) (acts : List Act) → IsWithin start o old.going.items old.files.items [] acts → IsHalted start p new why
+    × ((start : Outside) (acts : List Act) → IsWithin start o old.going.items old.files.items [] acts → (more : List Act) × IsWithin start p new.going.items new.files.items missing more × StayUndecided old.limits name start acts more)
+    × (new.limits ≡ old.limits)
+StepsTo name o p old new (Err why) = (start : Outside) (acts : List Act) → IsWithin start o old.going.items old.files.items [] acts → (halted : IsHalted name start p new why) × StayUndecided old.limits name start acts halted.acts
 
 -- the limits stay, and files are turned to less often where they are read on
 abbrev pub Lessens : (old new : Reading) → (turns : ℕ) → Result (Unit {0}) Halt → Type 0

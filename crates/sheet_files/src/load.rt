@@ -1,7 +1,8 @@
-ghost use Rattle.std.specs.Prelude.{◌≡◌, [], List, ℕ, IfOk, length, true};
+ghost use Rattle.std.specs.Prelude.{◌≡◌, ◌≤◌, ◌^◌, [], List, ℕ, IfOk, length, true};
 ghost use Rattle.stx_host.specs.Outside.{Outside};
 ghost use Rattle.stx_host.specs.declared.act.Act.{Act};
 ghost use Rattle.sheet_loader.specs.Loaders.{is_over};
+ghost use Rattle.sheet_model.specs.Sound.{IsSound};
 ghost use Rattle.fault_report.specs.declared.outcome.HostFault.TheVariants as host_fault;
 ghost use Rattle.sheet_files.specs.Held as held;
 ghost use Rattle.sheet_files.specs.Loading.{LoadActs, LoadAnswers, LoadCounts, LoadsTo};
@@ -35,6 +36,7 @@ pub fn load_sheet<H: Host>(
     ensures acts { (acts : List Act) × LoadActs (H.outside host.old) (H.outside host.new) limits name.now result acts }
     ensures counts { LoadCounts (H.outside host.old) (H.outside host.new) result }
     ensures ids { (H.outside host.new).open_ids ≡ (H.outside host.old).open_ids }
+    ensures sound { limits.depth ≤ 512 → limits.sheet ≤ 2 ^ 24 → IfOk result (λ loaded. IsSound loaded.sheet) }
 {
     let Ok((file, own)) = twice(alloc, name) else {
         return Err(Outcome::Memory);

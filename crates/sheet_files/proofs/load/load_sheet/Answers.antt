@@ -42,6 +42,12 @@ returns-in-Id-clause-ids g c =
     let old = g.H.Host.outside c.args.host.now in
     (c.load_from.ensures old (opens_own old (g.H.Host.outside c.open.new.self) c.args.name.now c.in-Ok.file c.in-Id.id c.in-Ok.ensures.0 c.in-Id.ensures.answer c.in-Id.ensures.change)).ids
 
+pub returns-in-Id-clause-sound : goal.returns-in-Id-clause-sound
+returns-in-Id-clause-sound g c =
+    let old = g.H.Host.outside c.args.host.now in
+    (loads_by old (g.H.Host.outside c.load_from.new.host) c.args.limits c.new.result.limits c.args.name.now c.in-Ok.file c.load_from.result c.new.ensures.limits c.in-Ok.ensures.0
+    (c.load_from.ensures old (opens_own old (g.H.Host.outside c.open.new.self) c.args.name.now c.in-Ok.file c.in-Id.id c.in-Ok.ensures.0 c.in-Id.ensures.answer c.in-Id.ensures.change))).sound
+
 pub load_from-requires-clause-empty : goal.load_from-requires-clause-empty
 load_from-requires-clause-empty g c = empty_like c.args.limits c.in-Ok.own c.in-Ok.file c.new.result (c.in-Ok.ensures.1 ∙ sym c.in-Ok.ensures.0) c.new.ensures
 
@@ -73,3 +79,6 @@ pub returns-in-Memory-clause-acts : goal.returns-in-Memory-clause-acts
 returns-in-Memory-clause-acts g c =
     let old = g.H.Host.outside c.args.host.now in
     (subst (λ (new : Outside). LoadsTo old new c.args.limits c.args.name.now (Err outcome.Memory)) (sym c.in-Memory.ensures.change) (nothing_loads_to old c.args.limits c.args.name.now)).acts
+
+pub returns-in_default-clause-acts : goal.returns-in_default-clause-acts
+returns-in_default-clause-acts g c = (nothing_loads_to (g.H.Host.outside c.args.host.now) c.args.limits c.args.name.now).acts

@@ -35,11 +35,14 @@ returns-in_ok-extend_from_slice-in-Bytes g c =
     let items = c.in_ok-extend_from_slice-in-Bytes.ensures.items in
     let len : length (take n room) ≡ n = omega (arith, length-take n room, fits) in
     let all = ap length items ∙ length-append self.bytes.items (take n room) in
-    let within = c.requires.within in (
+    let within = c.requires.within in
+    let test = c.if-self-len.false in
+    let is = c.len.ensures in
+    let count = self.bytes.ok.0 in (
       record {
         acts = Read self.id (length (take n room)) ∷ [];
         piece = take n room;
-        done = inr (refl, subst (λ (k : ℕ). Reads o self.id (Bytes k) (g.H.Host.outside c.read.new.self)) (sym len) c.in-Bytes.ensures.change);
+        done = inr (refl, omega (arith, test, is, count), omega (arith, len, some), subst (λ (k : ℕ). Reads o self.id (Bytes k) (g.H.Host.outside c.read.new.self)) (sym len) c.in-Bytes.ensures.change);
         next = subst (λ (k : ℕ). IfSome (o.to_come self.id) (λ bytes. bytes ≡ take n room ++ drop k bytes)) (sym len) answer.next;
         bytes = items;
         others = (refl, refl, refl, refl);

@@ -60,7 +60,7 @@ returns-in_err-look-clause-steps g c name read =
     let new : Reading = record self { going = with_item self.going (vec_len self.going - 1) k } in
     let e = c.in_err-look.field-0.0 in
     subst (λ (r : Result (Unit {0}) Halt). StepsTo name o q self new r) (sym (err_is c.from_residual.result e c.from_residual.ensures.1))
-    (looks_halts self was last o q c.requires.held new k e c.in_err-look.ensures refl refl)
+    (looks_halts self was last o q c.requires.held c.requires.wants name read c.requires.on c.requires.none new k e c.in_err-look.ensures refl refl refl)
 
 pub returns-in_err-hand_over-in-Byte-2-clause-held : goal.returns-in_err-hand_over-in-Byte-2-clause-held
 returns-in_err-hand_over-in-Byte-2-clause-held g c =
@@ -86,7 +86,7 @@ returns-in_err-hand_over-in-Byte-2-clause-steps g c name read =
     let h = c.hand_over.new.self in
     let new : Reading = record self { going = with_item self.going (vec_len self.going - 1) h } in
     subst (λ (r : Result (Unit {0}) Halt). StepsTo name o q self new r) (sym (err_is c.from_residual-in_err-hand_over-in-Byte-2.result halt.Memory c.from_residual-in_err-hand_over-in-Byte-2.ensures.1))
-    (short_halts self was last o q c.requires.held c.requires.wants k looked.0 looked.1 new h (ap (λ (x : Going). x.id) c.in_err-hand_over-in-Byte-2.ensures.kept) refl)
+    (short_halts self was last o q c.requires.held c.requires.wants k looked.0 looked.1 name read c.requires.on c.requires.none new h (ap (λ (x : Going). x.id) c.in_err-hand_over-in-Byte-2.ensures.kept) refl refl)
 
 pub returns-in-End-clause-held : goal.returns-in-End-clause-held
 returns-in-End-clause-held g c =

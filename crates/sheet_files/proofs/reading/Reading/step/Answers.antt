@@ -4,7 +4,9 @@ use Rattle.std.specs.Vec.{vec_len, with_item}
 use Rattle.sheet_files.specs.Held.{kept_most, turns_of}
 use Rattle.sheet_files.specs.declared.going.Going.{Going}
 use Rattle.sheet_files.specs.declared.reading.Reading.{Reading}
+use Rattle.sheet_files.proofs.Halting.{first_told}
 use Rattle.sheet_files.proofs.Lasting.{StandsLast, bad_swapped, end_less, end_steps, held_swapped, last_limits, lessens_from, lessens_need, need_swapped, need_wants, now_is, front, turns_event, turns_need, was_is, within_swapped}
+use Rattle.sheet_files.proofs.Staying.{stays_none, stays_then}
 use Rattle.sheet_files.proofs.Stepping.{over_wants_none, steps_from}
 use Rattle.sheet_files.proofs.Telling.{short_halts}
 use Rattle.sheet_files.proofs.Turning.{some_going}
@@ -102,8 +104,8 @@ returns-in-Event-clause-steps g c name read =
     let is : Going = record was { reader = c.next.new.self } in
     let last : StandsLast self.going.items (vec_len self.going) was = record { counted = self.going.ok.0; some = c.in-Some.ensures.item.3.0; here = c.in-Some.ensures.item.1 } in
     let mid : Reading = record self { going = with_item self.going (vec_len self.going - 1) is; spare = c.next.new.spare } in
-    steps_from name o (g.H.Host.outside c.take.new.host) self mid c.take.new.self c.take.result
-    (λ start acts within. (acts ++ [], within_swapped self was last is start o acts c.requires.held refl refl refl c.in-Event.ensures.ended within))
+    steps_from name o (g.H.Host.outside c.take.new.host) self mid c.take.new.self c.take.result refl
+    (λ start acts within. (acts ++ [], within_swapped self was last is start o acts c.requires.held refl refl refl c.in-Event.ensures.ended within, stays_none self.limits name start acts))
     (c.take.ensures.steps name self
     (record {
       front = front self was last;
@@ -145,8 +147,8 @@ returns-in-Need-clause-steps g c name read =
     let is : Going = record was { reader = c.next.new.self } in
     let last : StandsLast self.going.items (vec_len self.going) was = record { counted = self.going.ok.0; some = c.in-Some.ensures.item.3.0; here = c.in-Some.ensures.item.1 } in
     let mid : Reading = record self { going = with_item self.going (vec_len self.going - 1) is; spare = c.next.new.spare } in
-    steps_from name o (g.H.Host.outside c.go_on.new.host) self mid c.go_on.new.self c.go_on.result
-    (λ start acts within. (acts ++ [], within_swapped self was last is start o acts c.requires.held refl refl refl c.in-Need.ensures.ended within))
+    steps_from name o (g.H.Host.outside c.go_on.new.host) self mid c.go_on.new.self c.go_on.result refl
+    (λ start acts within. (acts ++ [], within_swapped self was last is start o acts c.requires.held refl refl refl c.in-Need.ensures.ended within, stays_none self.limits name start acts))
     (c.go_on.ensures.steps name (need_swapped self was last is name read c.requires.on c.requires.none refl refl refl c.in-Need.ensures.answer c.in-Need.ensures.leaves c.in-Need.ensures.goes c.in-Need.ensures.ended))
 
 pub returns-in-Need-clause-fewer : goal.returns-in-Need-clause-fewer
@@ -201,7 +203,8 @@ returns-in-Bad-clause-steps g c name read =
       [],
       bad_swapped self was last is name c.bad.new.self c.in-Bad.fault read c.requires.on c.requires.none refl refl refl c.in-Bad.ensures.answer c.in-Bad.ensures.leaves c.in-Bad.ensures.goes c.in-Bad.ensures.ended c.bad.ensures.ends c.bad.ensures.names over,
       over_wants_none c.bad.new.self.progress over,
-      λ start acts within. (acts ++ [], within_swapped self was last is start o acts c.requires.held refl refl refl c.in-Bad.ensures.ended within),
+      λ start acts within. (acts ++ [], within_swapped self was last is start o acts c.requires.held refl refl refl c.in-Bad.ensures.ended within, stays_none self.limits name start acts),
+      refl,
     )
 
 pub returns-in-Memory-clause-held : goal.returns-in-Memory-clause-held
@@ -220,4 +223,5 @@ returns-in-Memory-clause-steps g c name read start acts within =
     let is : Going = record was { reader = c.next.new.self } in
     let last : StandsLast self.going.items (vec_len self.going) was = record { counted = self.going.ok.0; some = c.in-Some.ensures.item.3.0; here = c.in-Some.ensures.item.1 } in
     let mid : Reading = record self { going = with_item self.going (vec_len self.going - 1) is; spare = c.next.new.spare } in
-    short_halts start o mid mid (acts ++ []) refl (within_swapped self was last is start o acts c.requires.held refl refl refl c.in-Memory.ensures.ended within)
+    let halts = short_halts name start o mid mid (acts ++ []) refl (first_told start o self.limits name self.going.items self.files.items self.loader self.left [] acts read within) (within_swapped self was last is start o acts c.requires.held refl refl refl c.in-Memory.ensures.ended within) in
+    (halts.0, stays_then self.limits name start acts (acts ++ []) halts.0.acts (stays_none self.limits name start acts) halts.1)
