@@ -19,7 +19,7 @@ use Rattle.sheet_loader.specs.Loaders.{EndsInFault, GivesSheet, Standing, is_ove
 use Rattle.sheet_loader.specs.Values.{Reads}
 use Rattle.sheet_files.specs.Acts.{NoneBehindEnd, given_for, opens, read_since_open}
 use Rattle.sheet_files.specs.Held.{AreNumbered, HasRest, HaveDone, IsWithin, SameCounts, names_of, seen_of, with_going}
-use Rattle.sheet_files.specs.Loading.{FailsAfter, FailsInOrder, LoadCounts, LoadsTo}
+use Rattle.sheet_files.specs.Loading.{FailsAfter, FailsInOrder, LoadCounts, LoadsTo, NamesFile}
 use Rattle.sheet_files.specs.Opened.{Absent, AreOf, Came, Seen, Whole, documents_told, names_in, place_told, places, whole}
 use Rattle.sheet_files.specs.Reading.{AllEnded, IsReadBy}
 use Rattle.sheet_files.specs.Steps.{AreCloses, HasFailed, OpensFirst, files_left}
@@ -35,7 +35,7 @@ use Rattle.sheet_files.proofs.Doing.{closes_give_none, closes_open_none, closes_
 use Rattle.sheet_files.proofs.Ends.{none_quiet, quiet_closes}
 use Rattle.sheet_files.proofs.Holding.{if_some}
 use Rattle.sheet_files.proofs.Opening.{append_none, map_append}
-use Rattle.sheet_files.proofs.Seeing.{as_came, changed_apart, changed_map, names_seen, unchanged_map}
+use Rattle.sheet_files.proofs.Seeing.{as_came, changed_apart, changed_map, names_seen, names_whole, unchanged_map}
 use Rattle.sheet_files.proofs.Staying.{begins_undecided, opened_undecided, stays_closed}
 use Rattle.sheet_files.proofs.Within.{if_at, if_told, some_at, told_at}
 
@@ -73,6 +73,10 @@ counts_failing start o file offset failed =
 document_none : (docs : List Doc) (name : List ℕ) → place docs name ≡ None → document docs name ≡ None
 document_none docs name none = ap (λ (o : Option ℕ). option_and_then (λ (i : ℕ). option_map (λ (doc : Doc). doc.bytes) (slice_get docs i)) o) none
 
+gone_place : (told : Option (List Doc)) (name : List ℕ) → IfSome told (λ docs. place docs name ≡ None) → None ≡ option_and_then (λ docs. place docs name) told
+gone_place None name none = refl
+gone_place (Some docs) name none = sym none
+
 places_told : (start : Outside) (docs : List Doc) (names : List (List ℕ)) → start.documents ≡ Some docs → places start names ≡ map (place docs) names
 places_told start docs names d = ap (λ (told : Option (List Doc)). map (λ (n : List ℕ). option_and_then (λ ds. place ds n) told) names) d
 
@@ -90,6 +94,7 @@ module _ (old new : Outside) (limits : Limits) (name : List ℕ) where
             between = done.between;
             no_write = done.no_write;
             no_main_read = done.no_main_read;
+            opened = (name ∷ [], ap (λ (d : Option ℕ). d ∷ []) (gone_place old.documents name may), tt);
             opens = if_told old.open_ids old.documents
                 (λ s docs e d reads. ap (λ (o : Option ℕ). o ∷ []) (sym (some_at (λ docs. place docs name ≡ None) old.documents docs d may)) ∙ ap (λ (l : Loads). map (place docs) l.opened) (sym (own_absent reads limits (document docs) name (document_none docs name (some_at _ old.documents docs d may)))));
             fails = if_at old.open_ids (λ s e. tt);
@@ -113,6 +118,7 @@ module _ (old new : Outside) (limits : Limits) (name : List ℕ) where
             between = done.between;
             no_write = done.no_write;
             no_main_read = done.no_main_read;
+            opened = ([], refl, inr refl);
             opens = if_told old.open_ids old.documents (λ s docs e d reads. let own = own_begins reads limits (document docs) name comes_to_one in ([], name ∷ own.0, own.1, refl, inr (own.0, refl, refl)));
             fails = if_at old.open_ids (λ s e. inl refl);
             once = if_at old.open_ids (λ s e. tt);
@@ -141,6 +147,7 @@ module _ (old new : Outside) (limits : Limits) (name : List ℕ) where
             between = done.between;
             no_write = done.no_write;
             no_main_read = done.no_main_read;
+            opened = (names, opened, tt);
             opens = if_told old.open_ids old.documents (λ s docs e d reads. let f = told_at _ old.open_ids old.documents s docs e d first reads in (names, f.0, f.1, opened ∙ places_told old docs names d));
             fails = if_at old.open_ids (λ s e. tt);
             once = once;
@@ -212,6 +219,7 @@ module _ (start o p : Outside) (limits : Limits) (name : List ℕ) (going : List
             between = all_done.between;
             no_write = all_done.no_write;
             no_main_read = all_done.no_main_read;
+            opened = (names_of files ++ names_in missing, all_opened, tt);
             opens = if_told start.open_ids start.documents
                 (λ s docs e d reads. all_opened ∙ places_told start docs (names_of files ++ names_in missing) d ∙ ap (map (place docs)) (sym names_are) ∙ ap (λ (l : Loads). map (place docs) l.opened) (sym (gives (document docs) (told_seen s docs e d) reads)));
             fails = if_at start.open_ids (λ s e. tt);
@@ -241,6 +249,7 @@ module _ (start o p : Outside) (limits : Limits) (name : List ℕ) (going : List
             between = all_done.between;
             no_write = all_done.no_write;
             no_main_read = all_done.no_main_read;
+            opened = (names_of files ++ names_in missing, all_opened, names_same ∙ names_whole loaded.files);
             opens = if_told start.open_ids start.documents
                 (λ s docs e d reads. all_opened ∙ places_told start docs (names_of files ++ names_in missing) d ∙ ap (map (place docs)) names_same ∙ ap (λ (l : Loads). map (place docs) l.opened) (sym (gives (document docs) (told s docs e d) reads)));
             fails = if_at start.open_ids (λ s e. tt);
@@ -273,8 +282,8 @@ module _ (start o p : Outside) (limits : Limits) (name : List ℕ) (acts closes 
   abbrev FailsThere : (file : List ℕ) (offset : ℕ) → List Doc → Type 0
   FailsThere file offset docs = (reads : Reads) → (rest : List (List ℕ)) × (names ++ rest ≡ (load reads limits (document docs) name).opened) × FailsInOrder (place docs) names rest file offset (acts ++ closes)
 
-  fails_to : (file : List ℕ) (offset : ℕ) → HasFailed start o → IfSome (documents_told start) (FailsThere file offset) → IfSome start.open_ids (λ ids. FailsAfter start.documents (Err (outcome.Host file host_fault.Doc offset)) (acts ++ closes)) → LoadsTo start p limits name (Err (outcome.Host file host_fault.Doc offset))
-  fails_to file offset failed there after =
+  fails_to : (file : List ℕ) (offset : ℕ) → HasFailed start o → NamesFile names (Err (outcome.Host file host_fault.Doc offset)) → IfSome (documents_told start) (FailsThere file offset) → IfSome start.open_ids (λ ids. FailsAfter start.documents (Err (outcome.Host file host_fault.Doc offset)) (acts ++ closes)) → LoadsTo start p limits name (Err (outcome.Host file host_fault.Doc offset))
+  fails_to file offset failed in_names there after =
       record {
         answers = tt;
         acts = (
@@ -283,6 +292,7 @@ module _ (start o p : Outside) (limits : Limits) (name : List ℕ) (acts closes 
             between = halt_done.between;
             no_write = halt_done.no_write;
             no_main_read = halt_done.no_main_read;
+            opened = (names, halt_opened, in_names);
             opens = if_told start.open_ids start.documents
                 (λ s docs e d reads. let t = told_at (FailsThere file offset) start.open_ids start.documents s docs e d there reads in (names, t.0, t.1, halt_opened ∙ places_told start docs names d, t.2));
             fails = after;
@@ -298,7 +308,7 @@ module _ (start o p : Outside) (limits : Limits) (name : List ℕ) (acts closes 
   -- a file that couldn't be opened
   pub unopened_loads_to : (file : List ℕ) → OpensFirst start limits name (names ++ file ∷ []) → HasFailed start o → LoadsTo start p limits name (Err (outcome.Host file host_fault.Doc 0))
   unopened_loads_to file first failed =
-      fails_to file 0 failed
+      fails_to file 0 failed (inr refl)
       (if_told start.open_ids start.documents
       (λ s docs e d reads.
       let f = told_at _ start.open_ids start.documents s docs e d first reads in
@@ -314,7 +324,7 @@ module _ (start o p : Outside) (limits : Limits) (name : List ℕ) (acts closes 
       λ s e.
       let g = some_at _ start.open_ids s e given in
       (given_more None id acts closes ∙ closes_give_none (given_for id acts) id closes closing ∙ g.0, sym (read_more 0 id acts closes ∙ closes_read_none (read_since_open id acts) id closes closing ∙ g.1)) in
-      fails_to file offset failed
+      fails_to file offset failed (inl (contains_name names number within))
       (if_told start.open_ids start.documents
       (λ s docs e d reads.
       let f = told_at _ start.open_ids start.documents s docs e d first reads in

@@ -18,7 +18,7 @@ use Rattle.sheet_model.specs.declared.sheet.Sheet as model
 use Rattle.sheet_loader.specs.Files.{Documents, load, loads}
 use Rattle.sheet_loader.specs.Values.{Reads}
 use Rattle.sheet_files.specs.Acts.{NoneBehindEnd, given_for, is_write, opens, read_since_open}
-use Rattle.sheet_files.specs.Opened.{Seen, AreOf, documents_told, names_in, whole}
+use Rattle.sheet_files.specs.Opened.{Seen, AreOf, documents_told, names_in, places, whole}
 use Rattle.sheet_files.specs.Undecided.{IsUndecided}
 use Rattle.sheet_files.specs.declared.load.Loaded.{Loaded}
 
@@ -51,6 +51,12 @@ OpensInOrder at names (Err (Host file fault offset)) acts =
     (front : List (List ℕ)) × (rest : List (List ℕ)) × (front ++ rest ≡ names) × (opens acts ≡ map at front) × FailsInOrder at front rest file offset acts
 OpensInOrder at names (Err other) acts = (front : List (List ℕ)) × (rest : List (List ℕ)) × (front ++ rest ≡ names) × (opens acts ≡ map at front)
 
+-- with a sheet these are the names of its files; where the host failed it was in one of them, or no other could be opened
+abbrev pub NamesFile : (opened : List (List ℕ)) → Result Loaded Outcome → Type 0
+NamesFile opened (Ok loaded) = opened ≡ map (λ (d : Doc). d.name) loaded.files
+NamesFile opened (Err (Host file fault offset)) = Contains opened file ⊎ (offset ≡ 0)
+NamesFile opened (Err other) = Unit {0}
+
 -- A failure of the host is told with what was read of the file since it was opened, by an id that was given for it; or the file could not
 -- be opened.
 abbrev pub FailsAfter : (told : Option (List Doc)) → Result Loaded Outcome → List Act → Type 0
@@ -64,6 +70,7 @@ pub record LoadActs (old new : Outside) (limits : Limits) (name : List ℕ) (ans
   pub between : Between old new acts [] []
   pub no_write : list_any is_write acts ≡ false
   pub no_main_read : list_any is_main_read acts ≡ false
+  pub opened : (names : List (List ℕ)) × (opens acts ≡ places old names) × NamesFile names answer
   pub opens : IfSome (documents_told old) (λ docs. (reads : Reads) → OpensInOrder (place docs) (load reads limits (document docs) name).opened answer acts)
   pub fails : IfSome old.open_ids (λ ids. FailsAfter old.documents answer acts)
   pub once : IfSome old.open_ids (λ ids. NoneBehindEnd acts)
