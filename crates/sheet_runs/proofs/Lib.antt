@@ -1,0 +1,12 @@
+pub mod Acting
+pub mod Besides
+pub mod Documents
+pub mod Halting
+pub mod Ids
+pub mod Lasts
+pub mod Others
+pub mod Falling
+pub mod Feeding
+pub mod Leaving
+pub mod Stepping
+pub mod Talking

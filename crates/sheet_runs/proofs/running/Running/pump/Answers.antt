@@ -1,0 +1,24 @@
+use Rattle.std.proofs.Common.{ap, refl, subst, sym}
+use Rattle.run_engine.specs.Run.{HasHead}
+use Rattle.sheet_runs.specs.declared.running.Running.{Running}
+use Rattle.sheet_runs.proofs.Stepping.{pumps}
+use Rattle.sheet_runs.proofs.running.Running.pump.Goals as goal
+
+pub returns-clause-driven : goal.returns-clause-driven
+returns-clause-driven c = λ start main old now h.
+    let e = c.pump.ensures in
+    let new : Running = record c.args.self.now { engine = c.pump.new.self; out = c.pump.new.out; notes = c.pump.new.notes } in
+    pumps start main old now c.args.self.now new c.args.piece c.pump.result h (record {
+      may = h.may;
+      says = e.says;
+      stands = e.stands;
+      same = e.same;
+      took = e.took;
+      absent = e.absent;
+      head = subst (λ before. HasHead c.args.piece before c.pump.new.self.stage c.pump.new.out.items) h.nothing e.head;
+    }) refl
+
+pub returns-clause-pumps : goal.returns-clause-pumps
+returns-clause-pumps c =
+    let e = c.pump.ensures in
+    record { same = refl; run = e.same; took = e.took; asks = e.asks }

@@ -1,0 +1,6 @@
+pub mod Counts
+pub mod Reading
+pub mod Runs
+pub mod Talk
+pub mod Writing
+pub mod inside

@@ -1,0 +1,16 @@
+//! A run of a sheet over a host: its documents are read piece by piece, and what is settled is written before each read.
+#![tactic(auto)]
+
+mod chunk;
+mod failing;
+mod main_document;
+mod other;
+mod run;
+mod running;
+mod writing;
+
+pub use chunk::{PIECE, next_chunk};
+pub use failing::failure;
+pub use main_document::Main;
+pub use run::{End, Ran, run_sheet};
+pub use writing::{Refused, write};
