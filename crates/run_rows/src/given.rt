@@ -11,6 +11,8 @@ pub struct Given {
     /// Parted by blanks, as they are written.
     pub words: String,
     pub main: Vec<u8>,
+    /// The document `s.stx`, where the row itself gives it.
+    pub sheet: Option<Vec<u8>>,
     /// Whether the main document is read one byte at a time.
     pub in_bytes: bool,
     /// The calls that fail.
@@ -26,10 +28,11 @@ impl Given {
     pub fn of(alloc: Global, row: &Row, main: Vec<u8>) -> Result<Given, Trouble> {
         Ok(Given {
             words: String::from_str(alloc, row.setting("words").unwrap_or(""))?,
+            sheet: None,
             in_bytes: false,
             fails: Vec::new(alloc),
             acts: main.len().saturating_mul(3).saturating_add(4000),
-            bytes: main.len().saturating_mul(3).saturating_add(10_000),
+            bytes: main.len().saturating_mul(3).saturating_add(200_000),
             main,
         })
     }
@@ -47,7 +50,12 @@ impl Given {
     fn host(&self, alloc: Global, row: &Row) -> Result<MemHost, Trouble> {
         let main = List::from_vec(self.main.clone()?);
         let fails = List::from_vec(Vec::from_slice(alloc, self.fails.as_slice())?);
-        let docs = docs_of(alloc, row)?;
+        let mut docs = docs_of(alloc, row)?;
+        if let Some(sheet) = &self.sheet {
+            let name = text_of(alloc, "s.stx")?;
+            let bytes = List::from_vec(sheet.clone()?);
+            docs.push(Doc { name, bytes })?;
+        }
         let cuts = self.cuts(alloc)?;
         let host = MemHost::new(alloc, main, docs, cuts, fails, self.acts, self.bytes)?;
         Ok(host)

@@ -4,6 +4,7 @@
 
 mod given;
 mod ran;
+mod sheets;
 mod tell;
 mod wanting;
 mod words;
@@ -23,6 +24,7 @@ impl Tables for Runs {
             "hosts" => tell::tell_host(alloc, row, out),
             "settled" => tell::tell_settled(alloc, row, out),
             "reads" => tell::tell_reads(alloc, row, out),
+            "sheets" => sheets::tell(alloc, row, out),
             "words" => words::tell(alloc, row, out),
             "wanting memory" => wanting::tell(alloc, row, out),
             _ => Err(Trouble::Row("a table that isn't there")),

@@ -14,13 +14,18 @@ fn told(alloc: Global, row: &Row, given: &Given) -> Result<String, Trouble> {
     Ok(told)
 }
 
-/// A document as a whole. What comes of it in pieces of one byte is told too where it is something else.
+/// A document under these words.
 fn told_twice(alloc: Global, row: &Row, words: &str, main: Vec<u8>) -> Result<String, Trouble> {
     let mut given = Given::of(alloc, row, main)?;
     given.words = String::from_str(alloc, words)?;
-    let mut whole = told(alloc, row, &given)?;
+    told_of_both(alloc, row, &mut given)
+}
+
+/// What comes of the main document as a whole, and of its single bytes where that is something else.
+pub fn told_of_both(alloc: Global, row: &Row, given: &mut Given) -> Result<String, Trouble> {
+    let mut whole = told(alloc, row, given)?;
     given.in_bytes = true;
-    let parted = told(alloc, row, &given)?;
+    let parted = told(alloc, row, given)?;
     if parted.as_str() != whole.as_str() {
         write!(&mut whole, ", but of single bytes {parted}")?;
     }

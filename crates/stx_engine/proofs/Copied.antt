@@ -13,10 +13,10 @@ use Rattle.result_writer.specs.declared.escape.Context.TheVariants.{Content}
 use Rattle.xml_events.specs.Document.{doc}
 use Rattle.xml_events.specs.Telling.{stop_in}
 use Rattle.xml_events.specs.Tree.{Why, Chars, CData, Comment, Pi, Element, Forest, End, Cut, Single, Nested, Stage, Waiting, Ready, Entered}
+use Rattle.run_engine.specs.Run.{head}
 use Rattle.stx_engine.specs.Answer.{run_of}
 use Rattle.stx_engine.specs.Copies.{CopiesAll, CopiesNothing, WritesDocuments, WritesTexts, all_text, nodes_of}
 use Rattle.stx_engine.specs.Meaning.{Complete, attribute_part, end_parts, outcome, start_parts}
-use Rattle.stx_engine.specs.Output.{head}
 use Rattle.stx_engine.specs.Passed.{Passed, once_ready, passed, put, run_from, then_put, unless_stopped}
 use Rattle.stx_engine.specs.Scope.{scope_within}
 use Rattle.stx_engine.specs.declared.pass.Pass.{Pass}

@@ -19,14 +19,16 @@ use Rattle.stx_host.specs.declared.act.Lane.TheVariants.{Out}
 use Rattle.stx_host.proofs.CopiedSoFar.{and_nothing_more, fits_of, given_of, main_left, nothing_left, one_act}
 use Rattle.stx_host.proofs.Stretches.{between_joins, between_read, between_writes, between_fault, nothing_between, main_read-append, main_read-writes, main_reads_one, main_reads_writes}
 use Rattle.result_writer.specs.declared.fault.ResultFault.{ResultFault}
+use Rattle.run_engine.specs.Run.{head}
 use Rattle.stx_engine.specs.Answer.{code_of, outcome_of, result_of, run_on}
-use Rattle.stx_engine.specs.Driving.{CountsBy, Drives, EndOnce, EndsAs, FailedAt, FailsBy, IsSettledAt, RefusesSome, SameCounts, main_gots}
-use Rattle.stx_engine.specs.RunEnd.{counted}
+use Rattle.sheet_runs.specs.Counts.{CountsBy, FailsBy, SameCounts}
+use Rattle.sheet_runs.specs.Reading.{EndOnce, main_gots}
+use Rattle.sheet_runs.specs.Writing.{counted}
+use Rattle.stx_engine.specs.Driving.{Drives, EndsAs, FailedAt, IsSettledAt, RefusesSome, is_doc_read}
 use Rattle.stx_engine.specs.Engine.{Appends, IsWaiting, Means, Pumps, StoppedBy, more, more_of}
-use Rattle.stx_engine.specs.Loading.{is_doc_read, opens}
+use Rattle.sheet_files.specs.Acts.{opens}
 use Rattle.stx_engine.specs.More.{Given, ahead}
 use Rattle.stx_engine.specs.Meaning.{Complete, Ending, Refused, Unready}
-use Rattle.stx_engine.specs.Output.{head}
 use Rattle.xml_events.specs.Tree.{Need, Bad}
 use Rattle.stx_engine.specs.declared.engine.Engine.{Engine}
 use Rattle.stx_engine.specs.declared.engine.Piece.TheVariants.{Start, End}
@@ -37,8 +39,10 @@ use Rattle.fault_report.specs.declared.outcome.HostFault.TheVariants as fault
 use Rattle.fault_report.specs.declared.outcome.Outcome.{Outcome}
 use Rattle.fault_report.specs.declared.outcome.Outcome.TheVariants.{Done, Run, Usage, Sheet, Xml, Host, Fuel, Memory}
 use Rattle.stx_engine.specs.declared.pass.Pass.{Pass}
-use Rattle.stx_engine.proofs.Loading.{counts_join}
 use Rattle.stx_engine.proofs.Prefixes.{begins_after, begins_front}
+
+pub counts-then : (a b c : Outside) → SameCounts a b → SameCounts b c → SameCounts a c
+counts-then a b c h k = record { doc = k.doc ∙ h.doc; main = k.main ∙ h.main; out = k.out ∙ h.out; note = k.note ∙ h.note }
 
 -- Acts and what they open
 
@@ -293,7 +297,7 @@ module _ (limits : Limits) (pass : Pass) (start : Engine) where
           once = once-writes d.ended d.acts Out lens d.once;
           unended = d.unended;
           ids = ap (λ o. o.open_ids) is ∙ d.ids;
-          counts = counts_join old now new d.counts (wrote-counts now new lens next is);
+          counts = counts-then old now new d.counts (wrote-counts now new lens next is);
           read_is = d.read_is ∙ sym count;
           written_is = at ∙ ap (λ n. counted (n + length next)) d.written_is ∙ counted_more (length d.out) (length next) ∙ ap counted (sym (length-append d.out next));
           stop = d.stop;
@@ -328,7 +332,7 @@ module _ (limits : Limits) (pass : Pass) (start : Engine) where
           once = once-bytes d.acts n gives.some (subst (λ b. EndOnce b (main_gots d.acts)) (d.unended refl) d.once);
           unended = λ is. refl;
           ids = ap (λ o. o.open_ids) change ∙ d.ids;
-          counts = counts_join old now new d.counts (read-counts now new n change);
+          counts = counts-then old now new d.counts (read-counts now new n change);
           read_is = ap (λ m. m + n) d.read_is ∙ sym count;
           written_is = d.written_is;
           stop = stops-by given_on after pumps.0 p (d.stop.0 ++ piece)
@@ -376,7 +380,7 @@ module _ (limits : Limits) (pass : Pass) (start : Engine) where
           once = once-end d.acts (subst (λ b. EndOnce b (main_gots d.acts)) (d.unended refl) d.once);
           unended = λ is. absurd (last is);
           ids = ap (λ o. o.open_ids) change ∙ d.ids;
-          counts = counts_join old now new d.counts (end-counts now new change);
+          counts = counts-then old now new d.counts (end-counts now new change);
           read_is = d.read_is ∙ sym count;
           written_is = d.written_is;
           stop = stops-by (more_of e End) after pumps.0 p d.stop.0 (λ is. absurd (last is)) (d.stop.0 ++ []) true [] true (d.stop.1 [] true) pumps.2;
@@ -435,7 +439,7 @@ module _ (limits : Limits) (pass : Pass) (start : Engine) where
         let acts = d.acts ++ writes Out lens in
         let out = d.out ++ bytes in
         let fits : taken ≡ length bytes = omega (arith, length-take taken next, some) in
-        let counts = counts_join old now mid d.counts (wrote-counts now mid lens bytes refl) in
+        let counts = counts-then old now mid d.counts (wrote-counts now mid lens bytes refl) in
         let place : offset ≡ counted (length out) =
         at ∙ ap (λ n. counted (n + taken)) d.written_is ∙ counted_more (length d.out) taken ∙ ap (λ n. counted (length d.out + n)) fits ∙ ap counted (sym (length-append d.out bytes)) in
         let note = ap (λ x. x.note_faults) failed.alone ∙ counts.note in

@@ -1,5 +1,5 @@
 -- What a run gives of a document's first bytes stays so.
-use Rattle.std.proofs.Common.{◌≡◌, ◌≢◌, ◌⊎◌, ℕ, true, false, List, [], ◌∷◌, ◌++◌, Option, Some, None, inl, inr, refl, sym, ap, subst, ◌∙◌, append_assoc, append-nil}
+use Rattle.std.proofs.Common.{◌≡◌, ◌≢◌, ◌⊎◌, ℕ, true, false, List, [], ◌∷◌, ◌++◌, Option, Some, None, IfSome, Result, Ok, Err, inl, inr, refl, sym, ap, subst, ◌∙◌, append_assoc, append-nil}
 use Rattle.std.specs.Option.{option_and_then}
 use Rattle.std.proofs.lemmas.Option.{none-some, same_Some}
 use Rattle.stx_base.specs.Course.{Begins}
@@ -8,7 +8,9 @@ use Rattle.command_words.specs.Words.{command_of}
 use Rattle.command_words.specs.declared.command.Command.{Command}
 use Rattle.command_words.specs.declared.command.Mode.{Mode}
 use Rattle.command_words.specs.declared.command.Mode.TheVariants.{Run as Plain, Check, Sample}
-use Rattle.stx_host.specs.Outside.{document}
+use Rattle.stx_base.specs.declared.fault.SheetFault.{SheetFault}
+use Rattle.sheet_loader.specs.Values.{Reads}
+use Rattle.sheet_model.specs.declared.sheet.Sheet.{Sheet}
 use Rattle.stx_host.specs.declared.act.Doc.{Doc}
 use Rattle.stx_base.specs.declared.name.Binding.{Binding}
 use Rattle.stx_base.specs.declared.part.Part.{Part}
@@ -17,13 +19,14 @@ use Rattle.result_writer.specs.declared.fault.ResultFault.{ResultFault}
 use Rattle.xml_events.specs.Document.{doc, stage_by}
 use Rattle.xml_events.specs.Growing.{DocumentsGrow, Grows}
 use Rattle.xml_events.specs.Tree.{Why, Need, Bad, Forest, End, Cut, Single, Nested}
-use Rattle.stx_engine.specs.Answer.{Plan, mode_answer, plan_by, plan_of, run_answer, run_of, settled, sheet_answer, words_answer}
+use Rattle.run_engine.specs.Run.{head}
+use Rattle.stx_engine.specs.Answer.{Plan, accepted, loaded, mode_answer, plan_by, plan_of, ran, run_of, run_on, settled, sheet_answer, words_answer}
 use Rattle.stx_engine.specs.Growing.{AnswerStays, BytesStay, OverStays, RunStays, SettledStays}
 use Rattle.stx_engine.specs.Meaning.{Unready, end_parts, leaf_parts, outcome, start_parts}
-use Rattle.stx_engine.specs.Output.{head, output}
+use Rattle.stx_engine.specs.Output.{output}
 use Rattle.stx_engine.specs.Passed.{Passed, Run, once_ready, passed, put, run_from, stopped, then_put, unless_refused, unless_stopped, with_first}
 use Rattle.stx_engine.specs.Scope.{scope_within}
-use Rattle.stx_engine.specs.Sheets.{pass_of}
+use Rattle.stx_engine.specs.Plain.{pass_of}
 use Rattle.stx_engine.specs.declared.pass.Pass.{Pass}
 use Rattle.stx_engine.proofs.Beginnings.{run-passed}
 
@@ -153,30 +156,29 @@ module _ (grow : DocumentsGrow) where
   run-stays limits p bytes more ended =
       over-stays limits.elements p (doc limits false bytes false) (doc limits false (bytes ++ more) ended) (grow limits false false bytes more ended)
 
-  by_mode : (m : Mode) (c : Command) (o : Option Pass) (plan : Plan) (bytes more : List ℕ) → c.mode ≡ m → plan_by m c.limits o ≡ Some plan
-      → Begins (settled plan.limits plan.pass bytes) (run_answer c o (bytes ++ more)).out
-  by_mode Plain c None plan bytes more is e = absurd (none-some plan e)
-  by_mode Plain c (Some pass) plan bytes more is e =
+  by_mode : (m : Mode) (c : Command) (opened : List (List ℕ)) (o : Option Pass) (plan : Plan) (bytes more : List ℕ) → plan_by m c.limits o ≡ Some plan
+      → IfSome (mode_answer m c.limits c.sheet opened o (bytes ++ more)) (λ a. Begins (settled plan.limits plan.pass bytes) a.out)
+  by_mode Plain c opened None plan bytes more e = absurd (none-some plan e)
+  by_mode Plain c opened (Some pass) plan bytes more e =
       let given : Plan = record { limits = c.limits; pass = pass } in
-      subst (λ (q : Plan). Begins (settled q.limits q.pass bytes) (run_answer c (Some pass) (bytes ++ more)).out) (same_Some given plan e)
-      (subst (λ m. Begins (settled c.limits pass bytes) (mode_answer m c.limits c.sheet pass (bytes ++ more)).out) (sym is) (bytes-stay c.limits pass bytes more true))
-  by_mode Check c o plan bytes more is e = absurd (none-some plan e)
-  by_mode (Sample records) c o plan bytes more is e = absurd (none-some plan e)
+      subst (λ (q : Plan). Begins (settled q.limits q.pass bytes) (ran c.sheet opened (run_on c.limits pass (bytes ++ more) true)).out) (same_Some given plan e) (bytes-stay c.limits pass bytes more true)
+  by_mode Check c opened o plan bytes more e = absurd (none-some plan e)
+  by_mode (Sample records) c opened o plan bytes more e = absurd (none-some plan e)
 
   none_planned : (m : Mode) (limits : Limits) (plan : Plan) → plan_by m limits None ≡ Some plan → ⊥
   none_planned Plain limits plan e = none-some plan e
   none_planned Check limits plan e = none-some plan e
   none_planned (Sample records) limits plan e = none-some plan e
 
-  by_sheet : (c : Command) (sheet : Option (List ℕ)) (plan : Plan) (bytes more : List ℕ) → plan_by c.mode c.limits (option_and_then pass_of sheet) ≡ Some plan
-      → Begins (settled plan.limits plan.pass bytes) (sheet_answer c sheet (bytes ++ more)).out
-  by_sheet c None plan bytes more e = absurd (none_planned c.mode c.limits plan e)
-  by_sheet c (Some sheet) plan bytes more e = by_mode c.mode c (pass_of sheet) plan bytes more refl e
+  by_sheet : (c : Command) (opened : List (List ℕ)) (r : Result Sheet SheetFault) (plan : Plan) (bytes more : List ℕ) → plan_by c.mode c.limits (option_and_then pass_of (accepted r)) ≡ Some plan
+      → IfSome (sheet_answer c opened r (bytes ++ more)) (λ a. Begins (settled plan.limits plan.pass bytes) a.out)
+  by_sheet c opened (Err fault) plan bytes more e = absurd (none_planned c.mode c.limits plan e)
+  by_sheet c opened (Ok sheet) plan bytes more e = by_mode c.mode c opened (pass_of sheet) plan bytes more e
 
-  by_words : (docs : List Doc) (named : Option Command) (plan : Plan) (bytes more : List ℕ) → option_and_then (plan_of docs) named ≡ Some plan
-      → Begins (settled plan.limits plan.pass bytes) (words_answer named docs (bytes ++ more)).out
-  by_words docs None plan bytes more e = absurd (none-some plan e)
-  by_words docs (Some c) plan bytes more e = by_sheet c (document docs c.sheet) plan bytes more e
+  by_words : (reads : Reads) (docs : List Doc) (named : Option Command) (plan : Plan) (bytes more : List ℕ) → option_and_then (plan_of reads docs) named ≡ Some plan
+      → IfSome (words_answer reads named docs (bytes ++ more)) (λ a. Begins (settled plan.limits plan.pass bytes) a.out)
+  by_words reads docs None plan bytes more e = absurd (none-some plan e)
+  by_words reads docs (Some c) plan bytes more e = let l = loaded reads docs c in by_sheet c l.opened l.result plan bytes more e
 
   pub answer-stays : AnswerStays
-  answer-stays words docs plan bytes more e = by_words docs (command_of words) plan bytes more e
+  answer-stays reads words docs plan bytes more e = by_words reads docs (command_of words) plan bytes more e

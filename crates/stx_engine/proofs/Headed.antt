@@ -1,158 +1,52 @@
 -- What a whole call did, by what its run and its last line did.
-use Rattle.std.proofs.Common.{◌≡◌, ◌≢◌, ◌⊎◌, inl, inr, ℕ, ◌+◌, ◌==◌, if◌then◌else◌, List, [], ◌∷◌, ◌++◌, length, take, drop, sum, None, IsSome, IfSome, arith, refl, sym, ap, ◌∙◌, subst, length-take}
+use Rattle.std.proofs.Common.{◌≡◌, ◌≢◌, ◌⊎◌, inl, inr, ℕ, ◌+◌, ◌<◌, ◌==◌, if◌then◌else◌, Bool, true, false, List, [], ◌∷◌, ◌++◌, length, map, Option, Some, None, IsSome, IfSome, arith, refl, sym, ap, ◌∙◌, subst}
 use Rattle.std.specs.Bool.{IsTrue}
 use Rattle.std.specs.List.{list_any}
 use Rattle.std.specs.Option.{option_and_then}
-use Rattle.std.proofs.lemmas.Bool.{false≢true}
-use Rattle.std.proofs.lemmas.List.{append-nil, take-append-drop}
+use Rattle.std.proofs.lemmas.Bool.{eqb-true, false≢true}
+use Rattle.std.proofs.lemmas.List.{append-nil}
 use Rattle.stx_base.specs.Course.{Begins}
-use Rattle.stx_host.specs.Before.{AtMainReads, Between, main_read, since}
-use Rattle.stx_host.specs.Outside.{Outside, Rose, document, wrote, writes}
+use Rattle.command_words.specs.Words.{command_of}
+use Rattle.stx_host.specs.Before.{AtMainReads, Between, Taken, main_read, since}
+use Rattle.stx_host.specs.Outside.{Outside, Rose, place, writes}
 use Rattle.stx_host.specs.declared.act.Act.{Act}
-use Rattle.stx_host.specs.declared.act.Act.TheVariants.{Open, Read, Close, Write}
 use Rattle.stx_host.specs.declared.act.Doc.{Doc}
 use Rattle.stx_host.specs.declared.act.Lane.TheVariants.{Note}
 use Rattle.stx_host.proofs.CopiedSoFar.{since_told}
-use Rattle.stx_host.proofs.Stretches.{between_joins, between_writes, between_fault, main_reads_writes, main_read-append, main_read-writes}
-use Rattle.stx_engine.specs.Answer.{answer, sheet_named}
-use Rattle.stx_engine.specs.Driving.{CountsBy, EndOnce, SameCounts, UnlessFailed, main_gots}
-use Rattle.stx_engine.specs.Headline.{AsksSettled, DecidesSheet, GivesAnswer, IsFailure, IsStatus, NotesAfterFailure, NotesFailure, OpensFirst, ReadsToEnd, RefusesUnnamed, RoseFor, SomeGreater, SomeRose, Tells}
+use Rattle.stx_host.proofs.Stretches.{between_joins, main_reads_writes, main_read-append, main_read-writes}
+use Rattle.sheet_loader.specs.Values.{Reads}
+use Rattle.sheet_runs.specs.Counts.{CountsBy, SameCounts}
+use Rattle.sheet_runs.specs.Reading.{EndOnce, main_gots}
+use Rattle.run_engine.specs.Run.{head}
+use Rattle.stx_engine.specs.Answer.{Answer, accepted, answer, loaded, sheet_named}
+use Rattle.stx_engine.specs.Driving.{UnlessFailed}
+use Rattle.stx_engine.specs.Headline.{AsksSettled, BeginsWell, EndsInLine, GivesAnswer, IsFailure, IsPlainStatus, IsStatus, NotesAfterFailure, NotesFailure, NotesItsFailure, OpensFirst, ReadsSheetFirst, ReadsToEnd, RefusesUnnamed, RoseFor, SomeGreater, SomeRose, Tells, TellsMain}
 use Rattle.fault_report.specs.Line.{line_of, status_of}
-use Rattle.stx_engine.specs.Loading.{ReadsUndecided, opens, read_of, read_of_opened}
-use Rattle.stx_engine.specs.Running.{Asks, FailedIn, IsAnswered, RefusesWords, Reports, Runs, RunsTold, TakesParts, unwritten_status}
+use Rattle.stx_engine.specs.Running.{Asks, CountsIn, FailedIn, FailedOn, FailedOnSheet, HasHead, IfDocFailed, IsAnswered, LoadsFirst, OpensNames, RefusesWords, Reports, Runs, RunsMain, RunsTold, TakesParts, unwritten_status}
 use Rattle.fault_report.specs.declared.outcome.HostFault.{HostFault}
 use Rattle.fault_report.specs.declared.outcome.HostFault.TheVariants as fault
 use Rattle.fault_report.specs.declared.outcome.Outcome.{Outcome}
 use Rattle.fault_report.specs.declared.outcome.Outcome.TheVariants.{Done, Run, Usage, Sheet, Xml, Host, Fuel, Memory}
-use Rattle.stx_engine.specs.RunEnd.{line_in, outcome_in}
+use Rattle.stx_engine.specs.RunEnd.{line_in, outcome_in, status_in}
 use Rattle.stx_engine.specs.declared.run_end.RunEnd.{RunEnd}
-use Rattle.stx_engine.specs.declared.run_end.RunEnd.TheVariants.{Told, Sampled}
-use Rattle.stx_engine.proofs.Driven.{no_doc_read-writes, once-writes, opens-append, opens-writes}
-use Rattle.stx_engine.proofs.Loading.{map_some, undecided-then}
+use Rattle.stx_engine.specs.declared.run_end.RunEnd.TheVariants.{Told, Sampled, Unnoted}
+use Rattle.stx_engine.proofs.Driven.{no_doc_read-writes, once-writes}
+use Rattle.stx_engine.proofs.LastLine.{Reported, failed-on-sheet-then, failed-on-then, failed-then, loads-so, loads-then, map_some, note-kept, opens-then, reported, rose_for}
 use Rattle.stx_engine.proofs.Prefixes.{begins_all}
-
--- no message is written before the line
-note_same : (o : Outcome) (old new : Outside) → CountsBy o old new → new.note_faults ≡ old.note_faults
-note_same (Host file fault.Doc offset) old new by = by.1.note
-note_same (Host file fault.Read offset) old new by = by.1.note
-note_same (Host file fault.Write offset) old new by = by.1.note
-note_same Memory old new by = by
-note_same Done old new by = by.note
-note_same Usage old new by = by.note
-note_same (Sheet reason) old new by = by.note
-note_same (Run file code offset) old new by = by.note
-note_same (Xml file fault) old new by = by.note
-note_same (Fuel file offset) old new by = by.note
-
--- want of memory may come at the end of any run
-pub ran-wanting-line : (words : List (List ℕ)) (old new : Outside) (end : RunEnd) → Runs words old new end → Runs words old new (Told Memory)
-ran-wanting-line words old new end r = record {
-  acts = r.acts;
-  out = r.out;
-  between = r.between;
-  ended = r.ended;
-  once = r.once;
-  ids = r.ids;
-  counts = note_same (outcome_in end) old new r.counts;
-  failed = tt;
-  refuses = tt;
-  takes = tt;
-  told = λ docs main documents told.
-      let t = r.told docs main documents told in
-      record { reads = t.reads; prefix = t.prefix; ends = tt; sheet = t.sheet; opened = (t.opened.0, t.opened.1, t.opened.2, tt); all = λ asks is. cc };
-}
-
--- the line, or its first bytes, on `Note`
-pub record Reported (mid new : Outside) (line : List ℕ) (status result : ℕ) : Type 0 where
-  pub lens : List ℕ
-  pub note : List ℕ
-  pub between : Between mid new (writes Note lens) [] note
-  pub ids : new.open_ids ≡ mid.open_ids
-  pub doc : new.doc_faults ≡ mid.doc_faults
-  pub main : new.main_faults ≡ mid.main_faults
-  pub out : new.out_faults ≡ mid.out_faults
-  pub end : ((note ≡ line) × (result ≡ status) × (new.note_faults ≡ mid.note_faults)) ⊎ (Begins note line × (result ≡ unwritten_status status) × Rose mid.note_faults new.note_faults)
-
-reported : (mid new : Outside) (line : List ℕ) (status result : ℕ) → Reports mid line status new result → Reported mid new line status result
-reported mid new line status result (inl wrote_all) = record {
-  lens = wrote_all.0;
-  note = line;
-  between = between_writes mid new Note wrote_all.0 line wrote_all.1 wrote_all.2;
-  ids = ap (λ o. o.open_ids) wrote_all.2;
-  doc = ap (λ o. o.doc_faults) wrote_all.2;
-  main = ap (λ o. o.main_faults) wrote_all.2;
-  out = ap (λ o. o.out_faults) wrote_all.2;
-  end = inl (refl, wrote_all.3, ap (λ o. o.note_faults) wrote_all.2);
-}
-reported mid new line status result (inr cut) =
-    let lens = cut.0 in
-    let n = cut.1 in
-    let bytes = take n line in
-    let some = wrote mid Note lens bytes in
-    let total : sum lens ≡ length bytes = omega (arith, cut.2, cut.3, length-take n line) in
-    let fault = cut.4 in
-    record {
-      lens = lens;
-      note = bytes;
-      between = subst (λ acts. Between mid new acts [] bytes) (append-nil (writes Note lens)) (subst (λ note. Between mid new (writes Note lens ++ []) [] note) (append-nil bytes)
-          (between_joins mid some new (writes Note lens) [] [] [] bytes [] (between_writes mid some Note lens bytes total refl) (between_fault some new Note fault)));
-      ids = ap (λ o. o.open_ids) fault.alone;
-      doc = ap (λ o. o.doc_faults) fault.alone;
-      main = ap (λ o. o.main_faults) fault.alone;
-      out = ap (λ o. o.out_faults) fault.alone;
-      end = inr ((drop n line, take-append-drop n line), cut.5, fault.count.rose);
-    }
-
--- a count that didn't change since
-rose_same : (a b c : ℕ) → c ≡ b → Rose a b → Rose a c
-rose_same a b c e rose = subst (Rose a) (sym e) rose
-
--- a failure's count rose in the whole call
-rose_for : (f : HostFault) (old mid new : Outside) → new.doc_faults ≡ mid.doc_faults → new.main_faults ≡ mid.main_faults → new.out_faults ≡ mid.out_faults
-    → (file : List ℕ) (offset : ℕ) → CountsBy (Host file f offset) old mid → RoseFor f old new
-rose_for fault.Doc old mid new d m o file offset by = rose_same old.doc_faults mid.doc_faults new.doc_faults d by.0
-rose_for fault.Read old mid new d m o file offset by = rose_same old.main_faults mid.main_faults new.main_faults m by.0
-rose_for fault.Write old mid new d m o file offset by = rose_same old.out_faults mid.out_faults new.out_faults o by.0
+use Rattle.stx_engine.proofs.Ran.{if-doc}
 
 some_rose : (f : HostFault) (old new : Outside) → RoseFor f old new → SomeRose old new
 some_rose fault.Doc old new rose = inl rose
 some_rose fault.Read old new rose = inr (inl rose)
 some_rose fault.Write old new rose = inr (inr (inl rose))
 
--- writing the line opens nothing, and reads nothing
-read_of-writes : (id : ℕ) (lens : List ℕ) → read_of id (writes Note lens) ≡ 0
-read_of-writes id [] = refl
-read_of-writes id (n ∷ lens) = read_of-writes id lens
+-- documents are told, with the ids that are open
+told_of : (ids : Option (List ℕ)) (documents : Option (List Doc)) (docs : List Doc) → IsSome ids → documents ≡ Some docs → option_and_then (λ ids. documents) ids ≡ Some docs
+told_of None documents docs some e = absurd (false≢true some)
+told_of (Some ids) documents docs some e = e
 
-read_of-then : (id : ℕ) (acts : List Act) (lens : List ℕ) → read_of id (acts ++ writes Note lens) ≡ read_of id acts
-read_of-then id [] lens = read_of-writes id lens
-read_of-then id (Open doc k ∷ acts) lens = read_of-then id acts lens
-read_of-then id (Read k got ∷ acts) lens = ap (λ n. (if k == id then got else 0) + n) (read_of-then id acts lens)
-read_of-then id (Close k ∷ acts) lens = read_of-then id acts lens
-read_of-then id (Write lane len ∷ acts) lens = read_of-then id acts lens
-
-read_of_opened-writes : (lens : List ℕ) → read_of_opened (writes Note lens) ≡ 0
-read_of_opened-writes [] = refl
-read_of_opened-writes (n ∷ lens) = read_of_opened-writes lens
-
-read_of_opened-then : (acts : List Act) (lens : List ℕ) → read_of_opened (acts ++ writes Note lens) ≡ read_of_opened acts
-read_of_opened-then [] lens = read_of_opened-writes lens
-read_of_opened-then (Open doc id ∷ acts) lens = ap (λ n. n + read_of_opened (acts ++ writes Note lens)) (read_of-then id acts lens) ∙ ap (λ n. read_of id acts + n) (read_of_opened-then acts lens)
-read_of_opened-then (Read k got ∷ acts) lens = read_of_opened-then acts lens
-read_of_opened-then (Close k ∷ acts) lens = read_of_opened-then acts lens
-read_of_opened-then (Write lane len ∷ acts) lens = read_of_opened-then acts lens
-
-failed-then : (words : List (List ℕ)) (o : Outcome) (acts : List Act) (lens out : List ℕ) → FailedIn words o acts out → FailedIn words o (acts ++ writes Note lens) out
-failed-then words (Host file fault.Doc offset) acts lens out f = (f.0, f.1 ∙ sym (read_of_opened-then acts lens))
-failed-then words (Host file fault.Read offset) acts lens out f = (f.0, f.1 ∙ omega (arith, main_read-append acts (writes Note lens), main_read-writes Note lens))
-failed-then words (Host file fault.Write offset) acts lens out f = f
-failed-then words Memory acts lens out f = f
-failed-then words Done acts lens out f = f
-failed-then words Usage acts lens out f = f
-failed-then words (Sheet reason) acts lens out f = f
-failed-then words (Run file code offset) acts lens out f = f
-failed-then words (Xml file fault) acts lens out f = f
-failed-then words (Fuel file offset) acts lens out f = f
+some_noted : (old new : Outside) → Rose old.note_faults new.note_faults → SomeRose old new
+some_noted old new rose = inr (inr (inr rose))
 
 -- no outcome that the host or want of memory brings
 abbrev IsOwn : Outcome → Type 0
@@ -160,74 +54,241 @@ IsOwn (Host file fault offset) = ⊥
 IsOwn Memory = ⊥
 IsOwn o = Unit {0}
 
-answered : (o : Outcome) → IsOwn o → (P : Type 0) → UnlessFailed o P → P
-answered (Host file fault offset) own P p = absurd own
-answered Memory own P p = absurd own
-answered Done own P p = p
-answered Usage own P p = p
-answered (Sheet reason) own P p = p
-answered (Run file code offset) own P p = p
-answered (Xml file fault) own P p = p
-answered (Fuel file offset) own P p = p
+abbrev EndsItself : RunEnd → Type 0
+EndsItself (Told o) = IsOwn o
+EndsItself (Sampled s) = Unit {0}
+EndsItself Unnoted = ⊥
 
--- an outcome is a failure, or the answer's
-abbrev IsEither : (failure : Type 0) → Outcome → Type 0
-IsEither failure o = failure ⊎ IsOwn o
+answered_by : (o : Outcome) → IsOwn o → (P : Type 0) → UnlessFailed o P → P
+answered_by (Host file fault offset) own P p = absurd own
+answered_by Memory own P p = absurd own
+answered_by Done own P p = p
+answered_by Usage own P p = p
+answered_by (Sheet reason) own P p = p
+answered_by (Run file code offset) own P p = p
+answered_by (Xml file fault) own P p = p
+answered_by (Fuel file offset) own P p = p
 
-module _ (words : List (List ℕ)) (old mid new : Outside) (end : RunEnd) (r : Runs words old mid end) (result : ℕ) (reports : Reports mid (line_in end) (status_of (outcome_in end)) new result) where
-  abbrev o : Outcome
-  o = outcome_in end
+answered : (e : RunEnd) → EndsItself e → (P : Type 0) → UnlessFailed (outcome_in e) P → P
+answered (Told o) own P p = answered_by o own P p
+answered (Sampled s) own P p = p
+answered Unnoted own P p = absurd own
 
-  abbrev line : Reported mid new (line_in end) (status_of (outcome_in end)) result
-  line = reported mid new (line_in end) (status_of (outcome_in end)) result reports
+-- a status of such an end is neither of these
+own_outcome : (o : Outcome) → IsOwn o → (status_of o ≡ 5) ⊎ (status_of o ≡ 7) → ⊥
+own_outcome (Host file fault offset) own is = own
+own_outcome Memory own is = own
+own_outcome Done own is = elim is [ inl e ↦ omega (arith, e) | inr e ↦ omega (arith, e) ]
+own_outcome Usage own is = elim is [ inl e ↦ omega (arith, e) | inr e ↦ omega (arith, e) ]
+own_outcome (Sheet reason) own is = elim is [ inl e ↦ omega (arith, e) | inr e ↦ omega (arith, e) ]
+own_outcome (Run file code offset) own is = elim is [ inl e ↦ omega (arith, e) | inr e ↦ omega (arith, e) ]
+own_outcome (Xml file fault) own is = elim is [ inl e ↦ omega (arith, e) | inr e ↦ omega (arith, e) ]
+own_outcome (Fuel file offset) own is = elim is [ inl e ↦ omega (arith, e) | inr e ↦ omega (arith, e) ]
+
+own_status : (e : RunEnd) → EndsItself e → (status_in e ≡ 5) ⊎ (status_in e ≡ 7) → ⊥
+own_status (Told o) own is = own_outcome o own is
+own_status (Sampled s) own is = elim is [ inl e ↦ omega (arith, e) | inr e ↦ omega (arith, e) ]
+own_status Unnoted own is = own
+
+-- the status of a line that couldn't be written, of an outcome that isn't want of memory
+unwritten_five : (n : ℕ) → n ≢ 7 → unwritten_status n ≡ 5
+unwritten_five n other = by_test (n == 7) refl where
+  by_test : (t : Bool) → (n == 7) ≡ t → ◌≡◌ {A = ℕ} (if t then 7 else 5) 5
+  by_test true e = absurd (other (eqb-true n 7 e))
+  by_test false e = refl
+
+own_unwritten : (e : RunEnd) → EndsItself e → unwritten_status (status_in e) ≡ 5
+own_unwritten e own = unwritten_five (status_in e) (λ is. own_status e own (inr is))
+
+-- first bytes of nothing are first bytes of anything
+begins_none : (xs ys : List ℕ) → Begins xs [] → Begins xs ys
+begins_none [] ys b = (ys, refl)
+begins_none (x ∷ xs) ys b = let e : (x ∷ xs) ++ b.0 ≡ [] = b.1 in absurd cc
+
+-- statuses are below 8
+below_eight : (o : Outcome) → status_of o < 8
+below_eight (Host file fault offset) = omega arith
+below_eight Memory = omega arith
+below_eight Done = omega arith
+below_eight Usage = omega arith
+below_eight (Sheet reason) = omega arith
+below_eight (Run file code offset) = omega arith
+below_eight (Xml file fault) = omega arith
+below_eight (Fuel file offset) = omega arith
+
+below_in : (e : RunEnd) → status_in e < 8
+below_in (Told o) = below_eight o
+below_in (Sampled s) = omega arith
+below_in Unnoted = omega arith
+
+below_unwritten : (n : ℕ) → unwritten_status n < 8
+below_unwritten n = by_test (n == 7) where
+  by_test : (t : Bool) → (if t then 7 else 5) < 8
+  by_test true = omega arith
+  by_test false = omega arith
+
+-- the statuses where the answer is said
+plain_outcome : (o : Outcome) → TakesParts o → IsPlainStatus (status_of o)
+plain_outcome (Host file fault offset) takes = refl
+plain_outcome Memory takes = refl
+plain_outcome Done takes = refl
+plain_outcome Usage takes = refl
+plain_outcome (Sheet reason) takes = refl
+plain_outcome (Run file code offset) takes = absurd takes
+plain_outcome (Xml file fault) takes = refl
+plain_outcome (Fuel file offset) takes = absurd takes
+
+plain_in : (e : RunEnd) → TakesParts (outcome_in e) → IsPlainStatus (status_in e)
+plain_in (Told o) takes = plain_outcome o takes
+plain_in (Sampled s) takes = refl
+plain_in Unnoted takes = refl
+
+plain_unwritten : (n : ℕ) → IsPlainStatus (unwritten_status n)
+plain_unwritten n = by_test (n == 7) where
+  by_test : (t : Bool) → IsPlainStatus (if t then 7 else 5)
+  by_test true = refl
+  by_test false = refl
+
+-- the status 0 is that of a run that is done
+zero_outcome : (o : Outcome) → status_of o ≡ 0 → o ≡ Done
+zero_outcome Done is = refl
+zero_outcome Usage is = absurd (omega (arith, is))
+zero_outcome (Sheet reason) is = absurd (omega (arith, is))
+zero_outcome (Run file code offset) is = absurd (omega (arith, is))
+zero_outcome (Xml file fault) is = absurd (omega (arith, is))
+zero_outcome (Fuel file offset) is = absurd (omega (arith, is))
+zero_outcome (Host file f offset) is = absurd (omega (arith, is))
+zero_outcome Memory is = absurd (omega (arith, is))
+
+zero_done : (e : RunEnd) → status_in e ≡ 0 → outcome_in e ≡ Done
+zero_done (Told o) is = zero_outcome o is
+zero_done (Sampled s) is = refl
+zero_done Unnoted is = absurd (omega (arith, is))
+
+unwritten_some : (n : ℕ) → unwritten_status n ≡ 0 → ⊥
+unwritten_some n = by_test (n == 7) where
+  by_test : (t : Bool) → ◌≡◌ {A = ℕ} (if t then 7 else 5) 0 → ⊥
+  by_test true e = omega (arith, e)
+  by_test false e = omega (arith, e)
+
+-- words that name a sheet aren't refused
+not_none : (o : Option (List ℕ)) → IsSome o → o ≡ None → ⊥
+not_none None some none = absurd cc
+not_none (Some name) some none = cc
+
+two_outcome : (words : List (List ℕ)) (o : Outcome) → RefusesWords words (Told o) → status_of o ≡ 2 → sheet_named words ≡ None
+two_outcome words Usage refuses two = refuses
+two_outcome words Memory refuses two = absurd (omega (arith, two))
+two_outcome words Done refuses two = absurd (omega (arith, two))
+two_outcome words (Sheet reason) refuses two = absurd (omega (arith, two))
+two_outcome words (Run file code offset) refuses two = absurd (omega (arith, two))
+two_outcome words (Xml file fault) refuses two = absurd (omega (arith, two))
+two_outcome words (Fuel file offset) refuses two = absurd (omega (arith, two))
+two_outcome words (Host file f offset) refuses two = absurd (omega (arith, two))
+
+two_none : (words : List (List ℕ)) (e : RunEnd) → RefusesWords words e → status_in e ≡ 2 → sheet_named words ≡ None
+two_none words (Told o) refuses two = two_outcome words o refuses two
+two_none words (Sampled s) refuses two = absurd (omega (arith, two))
+two_none words Unnoted refuses two = absurd (omega (arith, two))
+
+none_outcome : (words : List (List ℕ)) (o : Outcome) → RefusesWords words (Told o) → status_of o ≢ 7 → sheet_named words ≡ None → status_of o ≡ 2
+none_outcome words Usage refuses memory none = refl
+none_outcome words Memory refuses memory none = absurd (memory refl)
+none_outcome words Done refuses memory none = absurd (not_none (sheet_named words) refuses none)
+none_outcome words (Sheet reason) refuses memory none = absurd (not_none (sheet_named words) refuses none)
+none_outcome words (Run file code offset) refuses memory none = absurd (not_none (sheet_named words) refuses none)
+none_outcome words (Xml file fault) refuses memory none = absurd (not_none (sheet_named words) refuses none)
+none_outcome words (Fuel file offset) refuses memory none = absurd (not_none (sheet_named words) refuses none)
+none_outcome words (Host file f offset) refuses memory none = absurd (not_none (sheet_named words) refuses none)
+
+none_two : (words : List (List ℕ)) (e : RunEnd) → RefusesWords words e → status_in e ≢ 7 → sheet_named words ≡ None → status_in e ≡ 2
+none_two words (Told o) refuses memory none = none_outcome words o refuses memory none
+none_two words (Sampled s) refuses memory none = absurd (not_none (sheet_named words) refuses none)
+none_two words Unnoted refuses memory none = absurd (not_none (sheet_named words) refuses none)
+
+module _ (words : List (List ℕ)) (old mid new : Outside) (end : RunEnd) (r : Runs words old mid end) (result : ℕ) (reports : Reports mid (line_in end) (status_in end) new result) where
+  abbrev line : Reported mid new (line_in end) (status_in end) result
+  line = reported mid new (line_in end) (status_in end) result reports
 
   abbrev acts : List Act
   acts = r.acts ++ writes Note line.lens
 
-  between : Between old new acts r.out line.note
-  between = subst (λ out. Between old new acts out line.note) (append-nil r.out) (between_joins old mid new r.acts (writes Note line.lens) r.out [] [] line.note r.between line.between)
+  abbrev note : List ℕ
+  note = r.note ++ line.note
+
+  between : Between old new acts r.out note
+  between = subst (λ out. Between old new acts out note) (append-nil r.out) (between_joins old mid new r.acts (writes Note line.lens) r.out [] r.note line.note r.between line.between)
 
   pub gives_ids_back : new.open_ids ≡ old.open_ids
   gives_ids_back = line.ids ∙ r.ids
 
-  note_mid : mid.note_faults ≡ old.note_faults
-  note_mid = note_same o old mid r.counts
+  -- an outcome that the host or want of memory brings, on whichever document
+  abbrev Fails : Outcome → Type 0
+  Fails o = IsFailure (λ file offset. Unit {0}) old new acts r.out o
 
-  either : (x : Outcome) → CountsBy x old mid → FailedIn words x r.acts r.out → IsEither (IsFailure words old new acts r.out x) x
-  either (Host file f offset) by failed =
-      inl (rose_for f old mid new line.doc line.main line.out file offset by, failed-then words (Host file f offset) r.acts line.lens r.out failed)
-  either Memory by failed = inl tt
-  either Done by failed = inr tt
-  either Usage by failed = inr tt
-  either (Sheet reason) by failed = inr tt
-  either (Run file code offset) by failed = inr tt
-  either (Xml file fault) by failed = inr tt
-  either (Fuel file offset) by failed = inr tt
+  -- the end is a failure's, the run's own, or `Note` failed
+  abbrev Ended : RunEnd → Type 0
+  Ended e = ((o : Outcome) × ((e ≡ Told o) × Fails o)) ⊎ (EndsItself e ⊎ ((e ≡ Unnoted) × Rose old.note_faults mid.note_faults))
 
-  is_either : IsEither (IsFailure words old new acts r.out o) o
-  is_either = either o r.counts r.failed
+  host_ended : (f : HostFault) (file : List ℕ) (offset : ℕ) → CountsBy (Host file f offset) old mid → FailedIn (Host file f offset) r.acts r.out → Fails (Host file f offset)
+  host_ended fault.Doc file offset by failed = (rose_for fault.Doc old mid new line.doc line.main line.out file offset by, tt)
+  host_ended fault.Read file offset by failed = (rose_for fault.Read old mid new line.doc line.main line.out file offset by, failed-then fault.Read file offset r.acts line.lens r.out failed)
+  host_ended fault.Write file offset by failed = (rose_for fault.Write old mid new line.doc line.main line.out file offset by, failed-then fault.Write file offset r.acts line.lens r.out failed)
 
-  -- the line is whole where `Note` didn't fail
-  note_rose : Rose mid.note_faults new.note_faults → Rose old.note_faults new.note_faults
-  note_rose rose = subst (λ n. Rose n new.note_faults) note_mid rose
+  outcome_ended : (o : Outcome) → CountsBy o old mid → FailedIn o r.acts r.out → Ended (Told o)
+  outcome_ended (Host file f offset) by failed = inl (Host file f offset, (refl, host_ended f file offset by failed))
+  outcome_ended Memory by failed = inl (Memory, (refl, tt))
+  outcome_ended Done by failed = inr (inl tt)
+  outcome_ended Usage by failed = inr (inl tt)
+  outcome_ended (Sheet reason) by failed = inr (inl tt)
+  outcome_ended (Run file code offset) by failed = inr (inl tt)
+  outcome_ended (Xml file fault) by failed = inr (inl tt)
+  outcome_ended (Fuel file offset) by failed = inr (inl tt)
 
-  status_is : (result ≡ status_of o) ⊎ (result ≡ unwritten_status (status_of o))
+  ended : (e : RunEnd) → CountsIn e old mid → FailedIn (outcome_in e) r.acts r.out → Ended e
+  ended (Told o) by failed = outcome_ended o by failed
+  ended (Sampled s) by failed = inr (inl tt)
+  ended Unnoted by failed = inr (inr (refl, by.0))
+
+  is_ended : Ended end
+  is_ended = ended end r.counts r.failed
+
+  -- where the line isn't whole, `Note` failed
+  cut_rose : Rose mid.note_faults new.note_faults → 0 < length (line_in end) → Rose old.note_faults new.note_faults
+  cut_rose rose some = subst (λ n. Rose n new.note_faults) (note-kept end old mid r.counts some) rose
+
+  later_rose : new.note_faults ≡ mid.note_faults → Rose old.note_faults mid.note_faults → Rose old.note_faults new.note_faults
+  later_rose same rose = subst (Rose old.note_faults) (sym same) rose
+
+  status_is : (result ≡ status_in end) ⊎ (result ≡ unwritten_status (status_in end))
   status_is = elim line.end [ inl whole ↦ inl whole.1 | inr cut ↦ inr cut.1 ]
 
+  -- what is so of a status, and of one whose line couldn't be written, is so of the result
+  of_status : (P : ℕ → Type 0) → P (status_in end) → P (unwritten_status (status_in end)) → P result
+  of_status P here there = elim status_is [ inl e ↦ subst P (sym e) here | inr e ↦ subst P (sym e) there ]
+
   -- a failure keeps its status where its line can't be written
-  failure_status : (x : Outcome) → IsFailure words old new acts r.out x → (result ≡ status_of x) ⊎ (result ≡ unwritten_status (status_of x)) → status_of x ≡ result
-  failure_status (Host file f offset) failure is = elim is [ inl e ↦ sym e | inr e ↦ sym e ]
-  failure_status Memory failure is = elim is [ inl e ↦ sym e | inr e ↦ sym e ]
-  failure_status Done failure is = absurd failure
-  failure_status Usage failure is = absurd failure
-  failure_status (Sheet reason) failure is = absurd failure
-  failure_status (Run file code offset) failure is = absurd failure
-  failure_status (Xml file fault) failure is = absurd failure
-  failure_status (Fuel file offset) failure is = absurd failure
+  failure_kept : (o : Outcome) → Fails o → unwritten_status (status_of o) ≡ status_of o
+  failure_kept (Host file f offset) failure = refl
+  failure_kept Memory failure = refl
+  failure_kept Done failure = absurd failure
+  failure_kept Usage failure = absurd failure
+  failure_kept (Sheet reason) failure = absurd failure
+  failure_kept (Run file code offset) failure = absurd failure
+  failure_kept (Xml file fault) failure = absurd failure
+  failure_kept (Fuel file offset) failure = absurd failure
+
+  failure_status : (o : Outcome) → end ≡ Told o → Fails o → result ≡ status_of o
+  failure_status o is failure = elim status_is [ inl e ↦ e ∙ ap status_in is | inr e ↦ e ∙ ap (λ x. unwritten_status (status_in x)) is ∙ failure_kept o failure ]
+
+  failure_count : (f : HostFault) (file : List ℕ) (offset : ℕ) → Fails (Host file f offset) → SomeRose old new
+  failure_count fault.Doc file offset failure = some_rose fault.Doc old new failure.0
+  failure_count fault.Read file offset failure = some_rose fault.Read old new failure.0
+  failure_count fault.Write file offset failure = some_rose fault.Write old new failure.0
 
   -- where no count rose, the host didn't fail
-  failure_rose : (x : Outcome) → IsFailure words old new acts r.out x → (SomeRose old new → ⊥) → status_of x ≡ 7
-  failure_rose (Host file f offset) failure none = absurd (none (some_rose f old new failure.0))
+  failure_rose : (o : Outcome) → Fails o → (SomeRose old new → ⊥) → status_of o ≡ 7
+  failure_rose (Host file f offset) failure none = absurd (none (failure_count f file offset failure))
   failure_rose Memory failure none = refl
   failure_rose Done failure none = absurd failure
   failure_rose Usage failure none = absurd failure
@@ -236,9 +297,123 @@ module _ (words : List (List ℕ)) (old mid new : Outside) (end : RunEnd) (r : R
   failure_rose (Xml file fault) failure none = absurd failure
   failure_rose (Fuel file offset) failure none = absurd failure
 
-  module _ (docs : List Doc) (main : List ℕ) (tells : Tells old docs main) where
-    told : RunsTold words docs main r.acts r.ended r.out end
-    told = r.told docs main tells.documents tells.main_document
+  failure_five : (o : Outcome) → Fails o → status_of o ≡ 5 → SomeRose old new
+  failure_five (Host file f offset) failure five = failure_count f file offset failure
+  failure_five Memory failure five = absurd (omega (arith, five))
+  failure_five Done failure five = absurd failure
+  failure_five Usage failure five = absurd failure
+  failure_five (Sheet reason) failure five = absurd failure
+  failure_five (Run file code offset) failure five = absurd failure
+  failure_five (Xml file fault) failure five = absurd failure
+  failure_five (Fuel file offset) failure five = absurd failure
+
+  failure_either : (o : Outcome) → Fails o → (status_of o ≡ 5) ⊎ (status_of o ≡ 7)
+  failure_either (Host file f offset) failure = inl refl
+  failure_either Memory failure = inr refl
+  failure_either Done failure = absurd failure
+  failure_either Usage failure = absurd failure
+  failure_either (Sheet reason) failure = absurd failure
+  failure_either (Run file code offset) failure = absurd failure
+  failure_either (Xml file fault) failure = absurd failure
+  failure_either (Fuel file offset) failure = absurd failure
+
+  -- `Note` failed before the line, which is none
+  unnoted_status : end ≡ Unnoted → result ≡ 5
+  unnoted_status is = elim status_is [ inl e ↦ e ∙ ap status_in is | inr e ↦ e ∙ ap (λ x. unwritten_status (status_in x)) is ]
+
+  unnoted_rose : end ≡ Unnoted → Rose old.note_faults mid.note_faults → Rose old.note_faults new.note_faults
+  unnoted_rose is rose = elim line.end [
+    | inl whole ↦ later_rose whole.2 rose
+    | inr cut ↦ cut_rose cut.2 cut.3
+  ]
+
+  -- unless the status is that of a failure
+  not_failed : (P : Type 0) → UnlessFailed (outcome_in end) P → result ≢ 5 → result ≢ 7 → P
+  not_failed P p five seven = elim is_ended [
+    | inl f ↦ absurd (elim (failure_either f.0 f.1.1) [ inl e ↦ five (failure_status f.0 f.1.0 f.1.1 ∙ e) | inr e ↦ seven (failure_status f.0 f.1.0 f.1.1 ∙ e) ])
+    | inr other ↦ elim other [ inl own ↦ answered end own P p | inr u ↦ absurd (five (unnoted_status u.0)) ]
+  ]
+
+  pub refuses_unnamed : RefusesUnnamed old new words result
+  refuses_unnamed none memory = elim line.end [
+    | inl whole ↦ (
+      λ two. two_none words end r.refuses (sym whole.1 ∙ two),
+      λ unnamed. whole.1 ∙ none_two words end r.refuses (λ seven. memory (whole.1 ∙ seven)) unnamed,
+    )
+    | inr cut ↦ absurd (none (some_noted old new (cut_rose cut.2 cut.3)))
+  ]
+
+  -- 5 comes only where a count rose
+  five_rose : result ≡ 5 → SomeRose old new
+  five_rose five = elim is_ended [
+    | inl f ↦ failure_five f.0 f.1.1 (sym (failure_status f.0 f.1.0 f.1.1) ∙ five)
+    | inr other ↦ elim other [
+      | inl own ↦ elim line.end [
+        | inl whole ↦ absurd (own_status end own (inl (sym whole.1 ∙ five)))
+        | inr cut ↦ some_noted old new (cut_rose cut.2 cut.3)
+      ]
+      | inr u ↦ some_noted old new (unnoted_rose u.0 u.1)
+    ]
+  ]
+
+  -- where no count changed before, and the line is whole, none became greater
+  none_greater : SameCounts old mid → new.note_faults ≡ mid.note_faults → SomeGreater old new → ⊥
+  none_greater same note (inl h) = omega (arith, h, line.doc, same.doc)
+  none_greater same note (inr (inl h)) = omega (arith, h, line.main, same.main)
+  none_greater same note (inr (inr (inl h))) = omega (arith, h, line.out, same.out)
+  none_greater same note (inr (inr (inr h))) = omega (arith, h, note, same.note)
+
+  own_counts : (o : Outcome) → IsOwn o → CountsBy o old mid → SameCounts old mid
+  own_counts (Host file f offset) own by = absurd own
+  own_counts Memory own by = absurd own
+  own_counts Done own by = by
+  own_counts Usage own by = by
+  own_counts (Sheet reason) own by = by
+  own_counts (Run file code offset) own by = by
+  own_counts (Xml file fault) own by = by
+  own_counts (Fuel file offset) own by = by
+
+  own_same : (e : RunEnd) → EndsItself e → CountsIn e old mid → SameCounts old mid
+  own_same (Told o) own by = own_counts o own by
+  own_same (Sampled s) own by = by
+  own_same Unnoted own by = absurd own
+
+  greater_five : SomeGreater old new → (result ≡ 5) ⊎ (result ≡ 7)
+  greater_five greater = elim is_ended [
+    | inl f ↦ let is = failure_status f.0 f.1.0 f.1.1 in elim (failure_either f.0 f.1.1) [ inl e ↦ inl (is ∙ e) | inr e ↦ inr (is ∙ e) ]
+    | inr other ↦ elim other [
+      | inl own ↦ elim line.end [
+        | inl whole ↦ absurd (none_greater (own_same end own r.counts) whole.2 greater)
+        | inr cut ↦ inl (cut.1 ∙ own_unwritten end own)
+      ]
+      | inr u ↦ inl (unnoted_status u.0)
+    ]
+  ]
+
+  pub is_status : IsStatus old new words result
+  is_status = record {
+    some = of_status (λ n. n < 8) (below_in end) (below_unwritten (status_in end));
+    plain = λ no_run. of_status IsPlainStatus (plain_in end (r.takes no_run)) (plain_unwritten (status_in end));
+    five = five_rose;
+    greater = greater_five;
+  }
+
+  -- where it is known of the document on which it failed, the same outcome is a failure there
+  failed_there : (P : (file : List ℕ) → (offset : ℕ) → Type 0) (o : Outcome) → IfDocFailed o P → Fails o → IsFailure P old new acts r.out o
+  failed_there P (Host file fault.Doc offset) there failure = (failure.0, there)
+  failed_there P (Host file fault.Read offset) there failure = failure
+  failed_there P (Host file fault.Write offset) there failure = failure
+  failed_there P Memory there failure = tt
+  failed_there P Done there failure = absurd failure
+  failed_there P Usage there failure = absurd failure
+  failed_there P (Sheet reason) there failure = absurd failure
+  failed_there P (Run file code offset) there failure = absurd failure
+  failed_there P (Xml file fault) there failure = absurd failure
+  failed_there P (Fuel file offset) there failure = absurd failure
+
+  module _ (main : List ℕ) (tells : TellsMain old main) where
+    on_main : RunsMain words main r.acts r.ended r.out r.note end
+    on_main = r.main_told main tells.main_document
 
     log_is : since old.log new.log ≡ acts
     log_is = since_told old.log new.log acts tells.log between.log
@@ -246,208 +421,161 @@ module _ (words : List (List ℕ)) (old mid new : Outside) (end : RunEnd) (r : R
     out_is : since old.out new.out ≡ r.out
     out_is = since_told old.out new.out r.out tells.out between.out_lane
 
-    note_is : since old.note new.note ≡ line.note
-    note_is = since_told old.note new.note line.note tells.note between.note_lane
+    note_is : since old.note new.note ≡ note
+    note_is = since_told old.note new.note note tells.note between.note_lane
 
-    pub gives_answer : GivesAnswer old new result (answer words docs main)
-    gives_answer none memory = elim line.end [
-      | inl whole ↦ elim is_either [
-        | inl failure ↦ absurd (memory (whole.1 ∙ failure_rose o failure none))
-        | inr own ↦
-            let is = answered o own (IsAnswered r.out end (answer words docs main)) told.ends in
-            (out_is ∙ is.output, note_is ∙ whole.0 ∙ is.line, whole.1 ∙ is.code)
-      ]
-      | inr cut ↦ absurd (none (inr (inr (inr (note_rose cut.2)))))
-    ]
-
-    pub asks_settled : AsksSettled old new words docs main
-    asks_settled =
-        let P = Asks words docs main in
-        let here : AtMainReads acts (r.out ++ []) line.note P = main_reads_writes r.acts Note line.lens r.out [] [] line.note P r.between.out_written r.between.note_written told.reads in
+    -- what is so before each read stays so
+    reads_later : (P : Taken → Type 0) → AtMainReads r.acts r.out r.note P → AtMainReads (since old.log new.log) (since old.out new.out) (since old.note new.note) P
+    reads_later P reads =
+        let here : AtMainReads acts (r.out ++ []) note P = main_reads_writes r.acts Note line.lens r.out [] r.note line.note P r.between.out_written r.between.note_written reads in
         subst (λ log. AtMainReads log (since old.out new.out) (since old.note new.note) P) (sym log_is)
         (subst (λ out. AtMainReads acts out (since old.note new.note) P) (append-nil r.out ∙ sym out_is)
         (subst (λ note. AtMainReads acts (r.out ++ []) note P) (sym note_is) here))
 
-    pub begins_output : Begins (since old.out new.out) (answer words docs main).out
-    begins_output = subst (λ out. Begins out (answer words docs main).out) (sym out_is) told.prefix
-
-    -- the status 0 is that of a run that is done
-    zero_done : (x : Outcome) → (result ≡ status_of x) ⊎ (result ≡ unwritten_status (status_of x)) → result ≡ 0 → x ≡ Done
-    zero_done Done is zero = refl
-    zero_done Usage is zero = absurd (elim is [ inl e ↦ grind (arith, e, zero) | inr e ↦ grind (arith, e, zero) ])
-    zero_done (Sheet reason) is zero = absurd (elim is [ inl e ↦ grind (arith, e, zero) | inr e ↦ grind (arith, e, zero) ])
-    zero_done (Run file code offset) is zero = absurd (elim is [ inl e ↦ grind (arith, e, zero) | inr e ↦ grind (arith, e, zero) ])
-    zero_done (Xml file fault) is zero = absurd (elim is [ inl e ↦ grind (arith, e, zero) | inr e ↦ grind (arith, e, zero) ])
-    zero_done (Fuel file offset) is zero = absurd (elim is [ inl e ↦ grind (arith, e, zero) | inr e ↦ grind (arith, e, zero) ])
-    zero_done (Host file f offset) is zero = absurd (elim is [ inl e ↦ grind (arith, e, zero) | inr e ↦ grind (arith, e, zero) ])
-    zero_done Memory is zero = absurd (elim is [ inl e ↦ grind (arith, e, zero) | inr e ↦ grind (arith, e, zero) ])
+    pub begins_well : BeginsWell old new result
+    begins_well = record {
+      out = λ five seven. subst (λ out. (out ≡ []) ⊎ Begins head out) (sym out_is) (not_failed ((r.out ≡ []) ⊎ Begins head r.out) on_main.begins five seven);
+      reads = reads_later HasHead on_main.asks;
+    }
 
     pub reads_to_end : ReadsToEnd old new words main result
     reads_to_end = (
       r.ended,
       subst (λ log. EndOnce r.ended (main_gots log)) (sym log_is) (once-writes r.ended r.acts Note line.lens r.once),
       λ asks zero.
-          let all = told.all asks (zero_done o status_is zero) in
+          let done : outcome_in end ≡ Done = elim status_is [ inl e ↦ zero_done end (sym e ∙ zero) | inr e ↦ absurd (unwritten_some (status_in end) (sym e ∙ zero)) ] in
+          let all = on_main.all asks done in
           (all.0, ap main_read log_is ∙ omega (arith, main_read-append r.acts (writes Note line.lens), main_read-writes Note line.lens, all.1)),
     )
 
-    pub decides_sheet : DecidesSheet old new words docs
-    decides_sheet =
-        let sheet = option_and_then (document docs) (sheet_named words) in
-        subst (λ log. IfSome sheet (λ bytes. ReadsUndecided bytes 0 log)) (sym log_is)
-        (map_some sheet (λ bytes. ReadsUndecided bytes 0 r.acts) (λ bytes. ReadsUndecided bytes 0 (r.acts ++ writes Note line.lens))
-        (λ bytes so_far. undecided-then bytes 0 r.acts (writes Note line.lens) so_far (no_doc_read-writes Note line.lens)) told.sheet)
+  module _ (docs : List Doc) (main : List ℕ) (tells : Tells old docs main) where
+    abbrev on : TellsMain old main
+    on = record { main_document = tells.main_document; log = tells.log; out = tells.out; note = tells.note }
 
-    -- all names are opened, unless the status is that of a failure
-    all_opened : (x : Outcome) → IsEither (IsFailure words old new acts r.out x) x → (P : Type 0) → UnlessFailed x P → ((result ≡ status_of x) ⊎ (result ≡ unwritten_status (status_of x))) → result ≢ 5 → result ≢ 7 → P
-    all_opened x (inr own) P p is five seven = answered x own P p
-    all_opened (Host file f offset) (inl failure) P p is five seven = absurd (elim is [ inl e ↦ five e | inr e ↦ five e ])
-    all_opened Memory (inl failure) P p is five seven = absurd (elim is [ inl e ↦ seven e | inr e ↦ seven e ])
-    all_opened Done (inl failure) P p is five seven = absurd failure
-    all_opened Usage (inl failure) P p is five seven = absurd failure
-    all_opened (Sheet reason) (inl failure) P p is five seven = absurd failure
-    all_opened (Run file code offset) (inl failure) P p is five seven = absurd failure
-    all_opened (Xml file fault) (inl failure) P p is five seven = absurd failure
-    all_opened (Fuel file offset) (inl failure) P p is five seven = absurd failure
+    told : RunsTold words docs main r.acts r.out r.note end
+    told = r.told docs main (told_of old.open_ids old.documents docs tells.open_ids tells.documents) tells.main_document
 
-    pub opens_first : OpensFirst docs (answer words docs main).opened result (since old.log new.log)
-    opens_first =
-        let t = told.opened in (
-          t.0,
-          t.1,
-          ap opens log_is ∙ opens-append r.acts (writes Note line.lens) ∙ ap (λ l. opens r.acts ++ l) (opens-writes Note line.lens) ∙ append-nil (opens r.acts) ∙ t.2,
-          λ five seven. all_opened o is_either (t.0 ≡ (answer words docs main).opened) t.3 (elim line.end [ inl whole ↦ inl whole.1 | inr cut ↦ inr cut.1 ]) five seven,
-        )
+    -- what documents were opened, by the status
+    opens_by_status : (names : List (List ℕ)) (acts : List Act) → OpensNames docs names (outcome_in end) acts → OpensFirst docs names result acts
+    opens_by_status names acts n = (n.0, n.1, n.2, λ five seven. not_failed (n.0 ≡ names) n.3 five seven)
 
-    -- the line of a failure is its own
-    own_line : (x : RunEnd) → IsFailure words old new acts r.out (outcome_in x) → line_in x ≡ line_of (outcome_in x)
-    own_line (Told outcome) failure = refl
-    own_line (Sampled s) failure = absurd failure
+    pub reads_sheet_first : (reads : Reads) → ReadsSheetFirst old new reads words docs main result
+    reads_sheet_first reads =
+        let said : Option Answer = answer reads words docs main in
+        map_some (command_of words) (λ c. LoadsFirst reads docs c.sheet (OpensNames docs (loaded reads docs c).opened (outcome_in end)) said r.acts)
+        (λ c. LoadsFirst reads docs c.sheet (OpensFirst docs (loaded reads docs c).opened result) said (since old.log new.log))
+        (λ c h.
+        let names = (loaded reads docs c).opened in
+        subst (LoadsFirst reads docs c.sheet (OpensFirst docs names result) said) (sym (log_is main on))
+        (loads-then reads docs c.sheet (OpensFirst docs names result) said r.acts (writes Note line.lens) (no_doc_read-writes Note line.lens)
+        (loads-so reads docs c.sheet (OpensNames docs names (outcome_in end)) (OpensFirst docs names result) said r.acts (opens_by_status names) h))) (told.sheet reads)
+
+    pub ends_in_line : (reads : Reads) → EndsInLine old new reads words docs result
+    ends_in_line reads none memory = elim line.end [
+      | inl whole ↦ (r.note, end, sym whole.1, note_is main on ∙ ap (λ l. r.note ++ l) whole.0, told.own reads)
+      | inr cut ↦ absurd (none (some_noted old new (cut_rose cut.2 cut.3)))
+    ]
 
     -- the status 5 or 7 of a line that was written whole is a failure's
-    by_failure : (x : Outcome) → IsEither (IsFailure words old new acts r.out x) x → result ≡ status_of x → (result ≡ 5) ⊎ (result ≡ 7) → IsFailure words old new acts r.out x
-    by_failure x (inl failure) is some = failure
-    by_failure (Host file f offset) (inr own) is some = absurd own
-    by_failure Memory (inr own) is some = tt
-    by_failure Done (inr own) is some = absurd (elim some [ inl e ↦ grind (arith, is, e) | inr e ↦ grind (arith, is, e) ])
-    by_failure Usage (inr own) is some = absurd (elim some [ inl e ↦ grind (arith, is, e) | inr e ↦ grind (arith, is, e) ])
-    by_failure (Sheet reason) (inr own) is some = absurd (elim some [ inl e ↦ grind (arith, is, e) | inr e ↦ grind (arith, is, e) ])
-    by_failure (Run file code offset) (inr own) is some = absurd (elim some [ inl e ↦ grind (arith, is, e) | inr e ↦ grind (arith, is, e) ])
-    by_failure (Xml file fault) (inr own) is some = absurd (elim some [ inl e ↦ grind (arith, is, e) | inr e ↦ grind (arith, is, e) ])
-    by_failure (Fuel file offset) (inr own) is some = absurd (elim some [ inl e ↦ grind (arith, is, e) | inr e ↦ grind (arith, is, e) ])
+    whole_failure : (line.note ≡ line_in end) × (result ≡ status_in end) × (new.note_faults ≡ mid.note_faults) → (result ≡ 5) ⊎ (result ≡ 7) → (Rose old.note_faults new.note_faults → ⊥)
+        → (o : Outcome) × ((end ≡ Told o) × Fails o × (status_of o ≡ result) × (line.note ≡ line_of o))
+    whole_failure whole some kept = elim is_ended [
+      | inl f ↦ (f.0, (f.1.0, f.1.1, sym (failure_status f.0 f.1.0 f.1.1), whole.0 ∙ ap line_in f.1.0))
+      | inr other ↦ elim other [
+        | inl own ↦ absurd (own_status end own (elim some [ inl e ↦ inl (sym whole.1 ∙ e) | inr e ↦ inr (sym whole.1 ∙ e) ]))
+        | inr u ↦ absurd (kept (unnoted_rose u.0 u.1))
+      ]
+    ]
 
-    -- an answer's line was cut
-    own_status : (x : Outcome) → IsOwn x → (result ≡ status_of x) ⊎ (result ≡ unwritten_status (status_of x)) → (result ≡ 5) ⊎ (result ≡ 7) → result ≡ 5
-    own_status Done own is some = elim is [ inl e ↦ absurd (elim some [ inl f ↦ grind (arith, e, f) | inr f ↦ grind (arith, e, f) ]) | inr e ↦ e ]
-    own_status Usage own is some = elim is [ inl e ↦ absurd (elim some [ inl f ↦ grind (arith, e, f) | inr f ↦ grind (arith, e, f) ]) | inr e ↦ e ]
-    own_status (Sheet reason) own is some = elim is [ inl e ↦ absurd (elim some [ inl f ↦ grind (arith, e, f) | inr f ↦ grind (arith, e, f) ]) | inr e ↦ e ]
-    own_status (Run file code offset) own is some = elim is [ inl e ↦ absurd (elim some [ inl f ↦ grind (arith, e, f) | inr f ↦ grind (arith, e, f) ]) | inr e ↦ e ]
-    own_status (Xml file fault) own is some = elim is [ inl e ↦ absurd (elim some [ inl f ↦ grind (arith, e, f) | inr f ↦ grind (arith, e, f) ]) | inr e ↦ e ]
-    own_status (Fuel file offset) own is some = elim is [ inl e ↦ absurd (elim some [ inl f ↦ grind (arith, e, f) | inr f ↦ grind (arith, e, f) ]) | inr e ↦ e ]
-    own_status (Host file f offset) own is some = absurd own
-    own_status Memory own is some = absurd own
+    -- the same, of the lanes and the log
+    failure_is : (On : List Act → (file : List ℕ) → (offset : ℕ) → Type 0) (o : Outcome) → IsFailure (On acts) old new acts r.out o
+        → let log = since old.log new.log in IsFailure (On log) old new log (since old.out new.out) o
+    failure_is On o f =
+        subst (λ log. IsFailure (On log) old new log (since old.out new.out) o) (sym (log_is main on)) (subst (λ out. IsFailure (On acts) old new acts out o) (sym (out_is main on)) f)
 
-    notes : (result ≡ 5) ⊎ (result ≡ 7) → NotesFailure words old new acts r.out line.note result (answer words docs main)
-    notes some = record {
-      whole = λ kept. elim line.end [
-        | inl whole ↦ let failure = by_failure o is_either whole.1 some in (o, failure, sym whole.1, whole.0 ∙ own_line end failure)
-        | inr cut ↦ absurd (kept (note_rose cut.2))
-      ];
-      cut = λ rose. by_line (elim line.end [ inl whole ↦ subst (λ note. Begins note (line_in end)) (sym whole.0) (begins_all (line_in end)) | inr cut ↦ cut.0 ]) is_either;
-    } where
-      by_line : Begins line.note (line_in end) → IsEither (IsFailure words old new acts r.out o) o
-          → ((result ≡ 5) × Begins line.note (answer words docs main).note) ⊎ ((x : Outcome) × IsFailure words old new acts r.out x × (status_of x ≡ result) × Begins line.note (line_of x))
-      by_line begins (inl failure) = inr (o, failure, failure_status o failure status_is, subst (Begins line.note) (own_line end failure) begins)
-      by_line begins (inr own) = inl (own_status o own status_is some, subst (Begins line.note) (answered o own (IsAnswered r.out end (answer words docs main)) told.ends).line begins)
+    -- on which document it failed is known of the run's end
+    there : (P Q : (file : List ℕ) → (offset : ℕ) → Type 0) → ((file : List ℕ) (offset : ℕ) → P file offset → Q file offset) → IfDocFailed (outcome_in end) P
+        → (o : Outcome) → end ≡ Told o → Fails o → IsFailure Q old new acts r.out o
+    there P Q so known o is failure = failed_there Q o (if-doc o P Q so (subst (λ e. IfDocFailed (outcome_in e) P) is known)) failure
 
-    pub notes_failure : NotesAfterFailure old new words result (answer words docs main)
-    notes_failure some =
-        subst (λ log. NotesFailure words old new log (since old.out new.out) (since old.note new.note) result (answer words docs main)) (sym log_is)
-        (subst (λ out. NotesFailure words old new acts out (since old.note new.note) result (answer words docs main)) (sym out_is)
-        (subst (λ note. NotesFailure words old new acts r.out note result (answer words docs main)) (sym note_is) (notes some)))
+    pub notes_its_failure : (reads : Reads) → NotesItsFailure old new reads words docs result
+    notes_its_failure reads some kept = elim line.end [
+      | inl whole ↦
+          let f = whole_failure whole some kept in (
+            r.note,
+            f.0,
+            failure_is (FailedOn reads words docs) f.0
+                (there (FailedOn reads words docs r.acts) (FailedOn reads words docs acts) (failed-on-then reads words docs r.acts line.lens) (told.failed reads) f.0 f.1.0 f.1.1),
+            f.1.2,
+            note_is main on ∙ ap (λ l. r.note ++ l) f.1.3,
+          )
+      | inr cut ↦ absurd (kept (cut_rose cut.2 cut.3))
+    ]
 
-  -- The status
+    module _ (reads : Reads) (a : Answer) (is : answer reads words docs main ≡ Some a) where
+      pub gives_answer : GivesAnswer old new result a
+      gives_answer none memory = elim line.end [
+        | inl whole ↦ elim is_ended [
+          | inl f ↦ absurd (memory (failure_status f.0 f.1.0 f.1.1 ∙ failure_rose f.0 f.1.1 none))
+          | inr other ↦ elim other [
+            | inl own ↦
+                let t = told.answered reads a is in
+                let same = answered end own (IsAnswered r.out end a) t.ends in
+                (out_is main on ∙ same.output, note_is main on ∙ ap (λ l. l ++ line.note) t.quiet ∙ whole.0 ∙ same.line, whole.1 ∙ same.code)
+            | inr u ↦ absurd (none (some_noted old new (unnoted_rose u.0 u.1)))
+          ]
+        ]
+        | inr cut ↦ absurd (none (some_noted old new (cut_rose cut.2 cut.3)))
+      ]
 
-  is_among_statuses : (x : Outcome) → TakesParts x → (status : ℕ) → (status ≡ status_of x) ⊎ (status ≡ unwritten_status (status_of x)) → IsTrue (list_any (λ s. s == status) (0 ∷ 2 ∷ 3 ∷ 4 ∷ 5 ∷ 7 ∷ []))
-  is_among_statuses (Host file f offset) takes status is = elim is [ inl e ↦ rw e refl | inr e ↦ rw e refl ]
-  is_among_statuses Memory takes status is = elim is [ inl e ↦ rw e refl | inr e ↦ rw e refl ]
-  is_among_statuses Done takes status is = elim is [ inl e ↦ rw e refl | inr e ↦ rw e refl ]
-  is_among_statuses Usage takes status is = elim is [ inl e ↦ rw e refl | inr e ↦ rw e refl ]
-  is_among_statuses (Sheet reason) takes status is = elim is [ inl e ↦ rw e refl | inr e ↦ rw e refl ]
-  is_among_statuses (Run file code offset) takes status is = absurd takes
-  is_among_statuses (Xml file fault) takes status is = elim is [ inl e ↦ rw e refl | inr e ↦ rw e refl ]
-  is_among_statuses (Fuel file offset) takes status is = absurd takes
+      pub asks_settled : AsksSettled old new reads words docs main
+      asks_settled = reads_later main on (Asks reads words docs main) (told.answered reads a is).asks
 
-  -- 5 comes only where a count rose
-  five_rose : (x : Outcome) → IsEither (IsFailure words old new acts r.out x) x → result ≡ status_of x → result ≡ 5 → SomeRose old new
-  five_rose (Host file f offset) (inl failure) is five = some_rose f old new failure.0
-  five_rose Memory e is five = absurd (grind (arith, is, five))
-  five_rose Done e is five = absurd (grind (arith, is, five))
-  five_rose Usage e is five = absurd (grind (arith, is, five))
-  five_rose (Sheet reason) e is five = absurd (grind (arith, is, five))
-  five_rose (Run file code offset) e is five = absurd (grind (arith, is, five))
-  five_rose (Xml file fault) e is five = absurd (grind (arith, is, five))
-  five_rose (Fuel file offset) e is five = absurd (grind (arith, is, five))
-  five_rose (Host file f offset) (inr own) is five = absurd own
+      pub begins_output : Begins (since old.out new.out) a.out
+      begins_output = subst (λ out. Begins out a.out) (sym (out_is main on)) (told.answered reads a is).prefix
 
-  -- where the line was written and no failure came, no count became greater
-  none_greater : SameCounts old mid → new.note_faults ≡ mid.note_faults → SomeGreater old new → ⊥
-  none_greater same note (inl h) = omega (arith, h, line.doc, same.doc)
-  none_greater same note (inr (inl h)) = omega (arith, h, line.main, same.main)
-  none_greater same note (inr (inr (inl h))) = omega (arith, h, line.out, same.out)
-  none_greater same note (inr (inr (inr h))) = omega (arith, h, note, same.note)
+      pub opens_first : OpensFirst docs a.opened result (since old.log new.log)
+      opens_first =
+          let t = (told.answered reads a is).opened in
+          subst (OpensFirst docs a.opened result) (sym (log_is main on)) (opens_by_status a.opened acts (t.0, t.1, opens-then r.acts line.lens ∙ t.2, t.3))
 
-  greater_five : (x : Outcome) → CountsBy x old mid → ((result ≡ status_of x) × (new.note_faults ≡ mid.note_faults)) ⊎ (result ≡ unwritten_status (status_of x)) → SomeGreater old new → (result ≡ 5) ⊎ (result ≡ 7)
-  greater_five (Host file f offset) by (inl is) h = inl is.0
-  greater_five (Host file f offset) by (inr is) h = inl is
-  greater_five Memory by (inl is) h = inr is.0
-  greater_five Memory by (inr is) h = inr is
-  greater_five Done by (inl is) h = absurd (none_greater by is.1 h)
-  greater_five Done by (inr is) h = inl is
-  greater_five Usage by (inl is) h = absurd (none_greater by is.1 h)
-  greater_five Usage by (inr is) h = inl is
-  greater_five (Sheet reason) by (inl is) h = absurd (none_greater by is.1 h)
-  greater_five (Sheet reason) by (inr is) h = inl is
-  greater_five (Run file code offset) by (inl is) h = absurd (none_greater by is.1 h)
-  greater_five (Xml file fault) by (inl is) h = absurd (none_greater by is.1 h)
-  greater_five (Fuel file offset) by (inl is) h = absurd (none_greater by is.1 h)
-  greater_five (Run file code offset) by (inr is) h = inl is
-  greater_five (Xml file fault) by (inr is) h = inl is
-  greater_five (Fuel file offset) by (inr is) h = inl is
+      pub is_plain : IsPlainStatus result
+      is_plain = of_status IsPlainStatus (plain_in end (told.answered reads a is).takes) (plain_unwritten (status_in end))
 
-  pub is_status : IsStatus old new result
-  is_status = record {
-    some = is_among_statuses o r.takes result status_is;
-    five = λ five. elim line.end [ inl whole ↦ five_rose o is_either whole.1 five | inr cut ↦ inr (inr (inr (note_rose cut.2))) ];
-    greater = greater_five o r.counts (elim line.end [ inl whole ↦ inl (whole.1, whole.2) | inr cut ↦ inr cut.1 ]);
-  }
+      begins_line : Begins line.note (line_in end)
+      begins_line = elim line.end [ inl whole ↦ subst (λ note. Begins note (line_in end)) (sym whole.0) (begins_all (line_in end)) | inr cut ↦ cut.0 ]
 
-  -- words that name a sheet aren't refused
-  two_none : (x : Outcome) → RefusesWords words x → result ≡ status_of x → (result ≡ 2) → sheet_named words ≡ None
-  two_none Usage refuses is two = refuses
-  two_none Memory refuses is two = absurd (grind (arith, is, two))
-  two_none Done refuses is two = absurd (grind (arith, is, two))
-  two_none (Sheet reason) refuses is two = absurd (grind (arith, is, two))
-  two_none (Run file code offset) refuses is two = absurd (grind (arith, is, two))
-  two_none (Xml file fault) refuses is two = absurd (grind (arith, is, two))
-  two_none (Fuel file offset) refuses is two = absurd (grind (arith, is, two))
-  two_none (Host file f offset) refuses is two = absurd (grind (arith, is, two))
+      -- the status of an answer whose line was cut
+      own_five : EndsItself end → (result ≡ 5) ⊎ (result ≡ 7) → result ≡ 5
+      own_five own some = elim status_is [
+        | inl e ↦ absurd (own_status end own (elim some [ inl f ↦ inl (sym e ∙ f) | inr f ↦ inr (sym e ∙ f) ]))
+        | inr e ↦ e ∙ own_unwritten end own
+      ]
 
-  not_none : IsSome (sheet_named words) → sheet_named words ≡ None → ⊥
-  not_none some none = let e : IsSome {T = List ℕ} None = subst IsSome none some in absurd (false≢true e)
+      -- it failed where the sheet was read
+      failed_so : (o : Outcome) → end ≡ Told o → Fails o → let log = since old.log new.log in IsFailure (FailedOnSheet reads words docs log) old new log (since old.out new.out) o
+      failed_so o ended failure =
+          failure_is (FailedOnSheet reads words docs) o
+          (there (FailedOnSheet reads words docs r.acts) (FailedOnSheet reads words docs acts) (failed-on-sheet-then reads words docs r.acts line.lens) (told.answered reads a is).failed o ended failure)
 
-  none_two : (x : Outcome) → RefusesWords words x → result ≡ status_of x → result ≢ 7 → sheet_named words ≡ None → result ≡ 2
-  none_two Usage refuses is memory none = is
-  none_two Memory refuses is memory none = absurd (memory is)
-  none_two Done refuses is memory none = absurd (not_none refuses none)
-  none_two (Sheet reason) refuses is memory none = absurd (not_none refuses none)
-  none_two (Run file code offset) refuses is memory none = absurd (not_none refuses none)
-  none_two (Xml file fault) refuses is memory none = absurd (not_none refuses none)
-  none_two (Fuel file offset) refuses is memory none = absurd (not_none refuses none)
-  none_two (Host file f offset) refuses is memory none = absurd (not_none refuses none)
+      notes : (result ≡ 5) ⊎ (result ≡ 7)
+          → let log = since old.log new.log in NotesFailure (IsFailure (FailedOnSheet reads words docs log) old new log (since old.out new.out)) old new line.note result a
+      notes some = record {
+        whole = λ kept. elim line.end [
+          | inl whole ↦ let f = whole_failure whole some kept in (f.0, failed_so f.0 f.1.0 f.1.1, f.1.2, f.1.3)
+          | inr cut ↦ absurd (kept (cut_rose cut.2 cut.3))
+        ];
+        cut = λ rose. elim is_ended [
+          | inl f ↦ inr (f.0, failed_so f.0 f.1.0 f.1.1, sym (failure_status f.0 f.1.0 f.1.1), subst (λ e. Begins line.note (line_in e)) f.1.0 begins_line)
+          | inr other ↦ elim other [
+            | inl own ↦ inl (own_five own some, subst (Begins line.note) (answered end own (IsAnswered r.out end a) (told.answered reads a is).ends).line begins_line)
+            | inr u ↦ inl (unnoted_status u.0, begins_none line.note a.note (subst (λ e. Begins line.note (line_in e)) u.0 begins_line))
+          ]
+        ];
+      }
 
-  pub refuses_unnamed : RefusesUnnamed old new words result
-  refuses_unnamed none memory = elim line.end [
-    | inl whole ↦ (two_none o r.refuses whole.1, none_two o r.refuses whole.1 memory)
-    | inr cut ↦ absurd (none (inr (inr (inr (note_rose cut.2)))))
-  ]
+      pub notes_failure : NotesAfterFailure old new reads words docs result a
+      notes_failure some =
+          let log : List Act = since old.log new.log in
+          subst (λ note. NotesFailure (IsFailure (FailedOnSheet reads words docs log) old new log (since old.out new.out)) old new note result a)
+          (sym (note_is main on ∙ ap (λ l. l ++ line.note) (told.answered reads a is).quiet)) (notes some)

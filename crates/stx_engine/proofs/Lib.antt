@@ -9,10 +9,10 @@ pub mod Waiting
 pub mod Pumping
 pub mod Beginnings
 pub mod Prefixes
-pub mod Forms
-pub mod Loading
 pub mod Driven
 pub mod Ran
+pub mod RanAny
+pub mod LastLine
 pub mod Headed
 pub mod Markup
 pub mod Matching
@@ -23,6 +23,7 @@ pub mod Parts
 pub mod Accepted
 pub mod Declared
 pub mod Growing
+pub mod Idle
 pub mod Named
 pub mod SayableParts
 pub mod Sound
@@ -30,3 +31,4 @@ pub mod Nested
 pub mod Stopped
 pub mod Copied
 pub mod Untold
+pub mod Giving

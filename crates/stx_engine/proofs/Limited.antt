@@ -8,20 +8,16 @@ use Rattle.command_words.specs.Words.{command_by, command_in, command_of, free_i
 use Rattle.command_words.specs.declared.command.Command.{Command}
 use Rattle.command_words.specs.declared.command.Mode.{Mode}
 use Rattle.command_words.specs.declared.param.Param.{Param}
+use Rattle.stx_engine.specs.Doing.{AreUsual}
 
--- as many elements may be open of a result as of a document, and no document is too long to be counted
-pub record IsUsual (l : Limits) : Type 0 where
-  pub depth : l.depth ≤ l.elements
-  pub input : l.input ≤ 2 ^ 50
+usual-with : (f l i : Option ℕ) → AreUsual (with_limits f l i)
+usual-with f l i = record { below = omega arith; depth = omega arith; elements = omega arith; input = omega arith }
 
-usual-with : (f l i : Option ℕ) → IsUsual (with_limits f l i)
-usual-with f l i = record { depth = omega arith; input = omega arith }
-
-usual-map : (f l : Option ℕ) (o : Option (Option ℕ)) (limits : Limits) → option_map (λ i. with_limits f l i) o ≡ Some limits → IsUsual limits
+usual-map : (f l : Option ℕ) (o : Option (Option ℕ)) (limits : Limits) → option_map (λ i. with_limits f l i) o ≡ Some limits → AreUsual limits
 usual-map f l None limits e = absurd (none-some limits e)
-usual-map f l (Some i) limits e = subst IsUsual (same_Some (with_limits f l i) limits e) (usual-with f l i)
+usual-map f l (Some i) limits e = subst AreUsual (same_Some (with_limits f l i) limits e) (usual-with f l i)
 
-usual-limits : (said : List Said) (limits : Limits) → limits_in said ≡ Some limits → IsUsual limits
+usual-limits : (said : List Said) (limits : Limits) → limits_in said ≡ Some limits → AreUsual limits
 usual-limits said limits e =
     let i : Option (Option ℕ) = number_in 1 65536 (values_of instances said) in
     let by_lexeme : Option ℕ → Option ℕ → Option Limits = λ f l. option_map (λ i. with_limits f l i) i in
@@ -36,10 +32,10 @@ limits-by limits None operands c e = absurd (none-some c e)
 limits-by limits (Some mode) None c e = absurd (none-some c e)
 limits-by limits (Some mode) (Some operands) c e = ap (λ c. c.limits) (sym (same_Some (command_by limits mode operands) c e))
 
-usual-said : (said : List Said) (c : Command) → command_in said ≡ Some c → IsUsual c.limits
+usual-said : (said : List Said) (c : Command) → command_in said ≡ Some c → AreUsual c.limits
 usual-said said c e =
     option_and_then_some (λ limits. option_and_then (λ mode. option_map (command_by limits mode) (operands_of (free_in said))) (mode_in said)) (limits_in said) c e
-    (λ limits is then. subst IsUsual (sym (limits-by limits (mode_in said) (operands_of (free_in said)) c then)) (usual-limits said limits is))
+    (λ limits is then. subst AreUsual (sym (limits-by limits (mode_in said) (operands_of (free_in said)) c then)) (usual-limits said limits is))
 
-pub usual : (words : List Word) (c : Command) → command_of words ≡ Some c → IsUsual c.limits
+pub usual : (words : List Word) (c : Command) → command_of words ≡ Some c → AreUsual c.limits
 usual words c e = option_and_then_some command_in (said_from None words) c e (λ said is then. usual-said said c then)

@@ -15,6 +15,7 @@ use Rattle.xml_events.specs.Tree.{Bad, Need}
 use Rattle.xml_events.specs.declared.event.Event.{Event}
 use Rattle.xml_events.specs.declared.event.Event.TheVariants as event
 use Rattle.xml_events.specs.declared.event.Pull.TheVariants as pull
+use Rattle.run_engine.specs.Run.{head}
 use Rattle.stx_engine.specs.Copying.{Copying}
 use Rattle.stx_engine.specs.declared.copier.Turn.TheVariants.{More, Over}
 use Rattle.stx_engine.specs.declared.engine.Engine.{Engine}
@@ -27,7 +28,6 @@ use Rattle.fault_report.specs.declared.outcome.Outcome.TheVariants as out
 use Rattle.fault_report.specs.declared.outcome.Outcome.TheVariants.{Done, Run, Usage, Sheet, Xml, Host, Fuel}
 use Rattle.stx_engine.specs.Answer.{code_of}
 use Rattle.stx_engine.specs.Engine.{FailsBy, IsGoing, IsWaiting, Pumps, Reads, ReadsBy, StoppedBy, more, more_of}
-use Rattle.stx_engine.specs.Output.{head}
 use Rattle.stx_engine.specs.declared.engine.Piece.TheVariants.{Start}
 use Rattle.stx_engine.specs.More.{Given, Opened, Takes, ahead, given_by, given_on}
 use Rattle.stx_engine.proofs.Waiting.{end-alone, waits-so}

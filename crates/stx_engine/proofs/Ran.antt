@@ -1,57 +1,114 @@
--- What a run of the program did, by where it ended.
-use Rattle.std.proofs.Common.{◌≡◌, ◌==◌, ◌||◌, inl, inr, ℕ, true, false, List, [], ◌∷◌, ◌++◌, take, drop, Option, Some, None, IsSome, IfSome, Ok, Err, arith, refl, sym, ap, ◌∙◌, subst}
+-- What a run of the program did, by what it did with the sheet.
+use Rattle.std.proofs.Common.{◌≡◌, ◌⊎◌, inl, inr, ℕ, ◌+◌, ◌==◌, ◌||◌, Bool, true, false, List, [], ◌∷◌, ◌++◌, length, map, take, drop, Option, Some, None, IsSome, IfSome, Result, Ok, Err, arith, refl, sym, ap, ◌∙◌, subst, append_assoc}
 use Rattle.std.specs.List.{list_any}
 use Rattle.std.specs.Option.{option_map, option_map_or, option_and_then}
 use Rattle.std.proofs.lemmas.Bool.{false≢true}
 use Rattle.std.proofs.lemmas.List.{append-nil}
 use Rattle.std.proofs.lemmas.List.Folds.{list_any-append}
+use Rattle.std.proofs.lemmas.Option.{none-some, same_Some}
 use Rattle.stx_base.specs.Course.{Begins}
+use Rattle.stx_base.specs.StandardLimits.{standard_limits}
+use Rattle.stx_base.specs.declared.fault.SheetFault.{SheetFault}
 use Rattle.command_words.specs.Said.{Word}
 use Rattle.command_words.specs.Words.{command_of}
 use Rattle.command_words.specs.declared.command.Command.{Command}
 use Rattle.command_words.specs.declared.command.Mode.{Mode}
 use Rattle.command_words.specs.declared.command.Mode.TheVariants.{Run, Check, Sample}
-use Rattle.stx_base.specs.declared.fault.SheetFault.{SheetFault}
-use Rattle.stx_host.specs.Before.{before, is_main_read, main_read}
+use Rattle.stx_host.specs.Before.{AtMainReads, Between, Taken, before, is_main_read, main_read}
 use Rattle.stx_host.specs.Outside.{Outside, Rose, document, place}
 use Rattle.stx_host.specs.declared.act.Act.{Act}
 use Rattle.stx_host.specs.declared.act.Doc.{Doc}
 use Rattle.stx_host.proofs.Stretches.{between_joins, main_reads_join, main_read-append, nothing_between}
-use Rattle.stx_engine.specs.Passed as gives
-use Rattle.stx_engine.specs.Accepted.{DocumentsAreTaken}
-use Rattle.stx_engine.specs.Answer.{Answer, Plan, answer, answered, asked, asks_run, is_run, mode_answer, outcome_of, plan_by, plan_of, ran, result_of, run_answer, run_on, sampled, sheet_answer, sheet_named, words_answer}
-use Rattle.stx_engine.specs.Driving.{CountsBy, Drives, DrivesSample, EndOnce, FailedAt, IsSettledAt, RefusesSome, SameCounts, UnlessFailed, main_gots}
 use Rattle.fault_report.specs.Line.{line_of, status_of}
-use Rattle.stx_engine.specs.Loading.{LoadActs, LoadAnswers, LoadCounts, ReadsUndecided, opens}
-use Rattle.stx_engine.specs.Running.{Asks, FailedIn, IsAnswered, OpensNames, RefusesWords, Runs, TakesParts}
-use Rattle.stx_engine.specs.Sheets.{pass_of}
 use Rattle.fault_report.specs.declared.outcome.HostFault.TheVariants as fault
 use Rattle.fault_report.specs.declared.outcome.Outcome.{Outcome}
 use Rattle.fault_report.specs.declared.outcome.Outcome.TheVariants.{Done, Run as Stopped, Usage, Sheet, Xml, Host, Fuel, Memory}
+use Rattle.sheet_files.specs.Acts.{NoneBehindEnd, opens}
+use Rattle.sheet_files.specs.Loading.{DocCount, IsLoaded, LoadAnswers, OpensInOrder}
+use Rattle.sheet_files.specs.Opened.{AreOf, Seen, documents_told, names_in as names_of, whole}
+use Rattle.sheet_files.specs.Undecided.{ReadUndecided}
+use Rattle.sheet_files.specs.declared.load.Loaded.{Loaded}
+use Rattle.sheet_loader.specs.Files.{loads}
+use Rattle.sheet_loader.specs.Values.{Reads}
+use Rattle.sheet_model.specs.declared.sheet.Sheet as model
+use Rattle.sheet_runs.specs.Counts.{CountsAt, CountsBy, SameCounts}
+use Rattle.sheet_runs.specs.Reading.{EndOnce, main_gots}
+use Rattle.run_engine.specs.Run.{head}
+use Rattle.stx_engine.proofs.Driven.{counts-then, main_gots-append, opens-append}
+use Rattle.stx_engine.specs.Passed as gives
+use Rattle.stx_engine.specs.Accepted.{DocumentsAreTaken}
+use Rattle.stx_engine.specs.Answer.{Answer, Plan, accepted, answer, answered, asked, asks_any_run, asks_run, is_any_run, is_run, loaded, mode_answer, outcome_of, plan_by, plan_of, ran, result_of, run_on, sampled, sheet_answer, sheet_named, words_answer}
+use Rattle.stx_engine.specs.Doing.{Loads}
+use Rattle.stx_engine.specs.Driving.{Drives, DrivesSample, FailedAt, IsSettledAt, RefusesSome, UnlessFailed, is_doc_read}
+use Rattle.stx_engine.specs.Output.{output}
+use Rattle.stx_engine.specs.Plain.{pass_of}
+use Rattle.stx_engine.specs.RunEnd.{line_in, on_sample, outcome_in, sample_of, status_in, summary_of}
+use Rattle.stx_engine.specs.Running.{Asks, CountsIn, FailedIn, FailedOn, FailedOnSheet, HasHead, IfDocFailed, IsAnswered, IsOwn, LoadsFirst, OpensNames, RefusesWords, Runs, TakesParts}
 use Rattle.stx_engine.specs.declared.pass.Pass.{Pass}
-use Rattle.stx_engine.proofs.Driven.{main_gots-append, opens-append}
-use Rattle.stx_engine.proofs.Loading.{accepted_answer, accepted_asks, map_some, no_main_gots, no_main_reads, of_any, refused_answer, undecided-then}
-use Rattle.stx_engine.proofs.Prefixes.{begins_all, begins_nothing}
-use Rattle.stx_engine.proofs.Limited.{usual}
-use Rattle.stx_engine.proofs.Sampled.{outcome-on, unless-map}
-use Rattle.stx_engine.specs.RunEnd.{line_in, on_sample, outcome_in, sample_of, summary_of}
 use Rattle.stx_engine.specs.declared.run_end.RunEnd.{RunEnd}
-use Rattle.stx_engine.specs.declared.run_end.RunEnd.TheVariants.{Told}
+use Rattle.stx_engine.specs.declared.run_end.RunEnd.TheVariants.{Told, Sampled, Unnoted}
+use Rattle.stx_engine.specs.declared.run_end.Summary.{Summary}
+use Rattle.stx_engine.proofs.Idle.{no_main_gots, no_main_reads, nothing_read, of_any}
+use Rattle.stx_engine.proofs.Limited.{usual}
+use Rattle.stx_engine.proofs.Prefixes.{begins_all, begins_more, begins_nothing}
+use Rattle.stx_engine.proofs.Sampled.{outcome-on, unless-map}
 
 no_counts : (o : Outside) → SameCounts o o
 no_counts o = record { doc = refl; main = refl; out = refl; note = refl }
 
 -- acts without a main read
-none_once : (acts : List Act) → list_any is_main_read acts ≡ false → EndOnce false (main_gots acts)
+pub none_once : (acts : List Act) → list_any is_main_read acts ≡ false → EndOnce false (main_gots acts)
 none_once acts none = ap (list_any (λ got. got == 0)) (no_main_gots acts none)
 
--- a run that did nothing
-module _ (words : List (List ℕ)) (o : Outside) where
+pub unless : (o : Outcome) (P : Type 0) → P → UnlessFailed o P
+unless (Host file fault offset) P p = tt
+unless Memory P p = tt
+unless Done P p = p
+unless Usage P p = p
+unless (Sheet reason) P p = p
+unless (Stopped file code offset) P p = p
+unless (Xml file fault) P p = p
+unless (Fuel file offset) P p = p
+
+-- where documents are told it is told which ids are open
+told-ids : (ids : Option (List ℕ)) (documents : Option (List Doc)) (docs : List Doc) → option_and_then (λ ids. documents) ids ≡ Some docs → (P : Type 0) → IfSome ids (λ ids. P) → P
+told-ids None documents docs e P p = absurd (none-some docs e)
+told-ids (Some ids) documents docs e P p = p
+
+pub if-doc : (o : Outcome) (P Q : (file : List ℕ) → (offset : ℕ) → Type 0) → ((file : List ℕ) (offset : ℕ) → P file offset → Q file offset) → IfDocFailed o P → IfDocFailed o Q
+if-doc (Host file fault.Doc offset) P Q so p = so file offset p
+if-doc (Host file fault.Read offset) P Q so p = tt
+if-doc (Host file fault.Write offset) P Q so p = tt
+if-doc Memory P Q so p = tt
+if-doc Done P Q so p = tt
+if-doc Usage P Q so p = tt
+if-doc (Sheet reason) P Q so p = tt
+if-doc (Stopped file code offset) P Q so p = tt
+if-doc (Xml file fault) P Q so p = tt
+if-doc (Fuel file offset) P Q so p = tt
+
+-- no other document is read where documents are passed through
+never-on-doc : (o : Outcome) (acts : List Act) (out : List ℕ) → FailedAt o acts out → (P : (file : List ℕ) → (offset : ℕ) → Type 0) → IfDocFailed o P
+never-on-doc (Host file fault.Doc offset) acts out failed P = absurd failed
+never-on-doc (Host file fault.Read offset) acts out failed P = tt
+never-on-doc (Host file fault.Write offset) acts out failed P = tt
+never-on-doc Memory acts out failed P = tt
+never-on-doc Done acts out failed P = tt
+never-on-doc Usage acts out failed P = absurd failed
+never-on-doc (Sheet reason) acts out failed P = absurd failed
+never-on-doc (Stopped file code offset) acts out failed P = tt
+never-on-doc (Xml file fault) acts out failed P = tt
+never-on-doc (Fuel file offset) acts out failed P = tt
+
+-- A run that did nothing
+
+module _ (words : List Word) (o : Outside) where
   -- the words are refused
   pub ran-usage : command_of words ≡ None → Runs words o o (Told Usage)
   ran-usage none = record {
     acts = [];
     out = [];
+    note = [];
     between = nothing_between o;
     ended = false;
     once = refl;
@@ -59,24 +116,32 @@ module _ (words : List (List ℕ)) (o : Outside) where
     counts = no_counts o;
     failed = tt;
     refuses = ap (option_map (λ c. c.sheet)) none;
-    takes = tt;
-    told = λ docs main documents told.
-        let a : answer words docs main ≡ answered Usage [] [] = ap (λ c. words_answer c docs main) none in
-        record {
-          reads = λ k is_read. absurd (false≢true is_read);
-          prefix = begins_nothing (answer words docs main).out;
-          ends = record { output = sym (ap (λ x. x.out) a); line = sym (ap (λ x. x.note) a); code = sym (ap (λ x. x.status) a) };
-          sheet = subst (λ c. IfSome (option_and_then (document docs) (option_map (λ c. c.sheet) c)) (λ sheet. ReadsUndecided sheet 0 [])) (sym none) tt;
-          opened = ([], begins_nothing (answer words docs main).opened, refl, sym (ap (λ x. x.opened) a));
-          all = λ asks is. cc;
-        };
+    takes = λ no_run. tt;
+    told = λ docs main documents told. record {
+      answered = λ reads a e.
+          let is : answered Usage [] [] ≡ a = same_Some (answered Usage [] []) a (sym (ap (λ c. words_answer reads c docs main) none) ∙ e) in
+          record {
+            asks = λ k is_read. absurd (false≢true is_read);
+            prefix = begins_nothing a.out;
+            ends = record { output = ap (λ x. x.out) is; line = ap (λ x. x.note) is; code = ap (λ x. x.status) is };
+            opened = ([], begins_nothing a.opened, refl, ap (λ x. x.opened) is);
+            failed = tt;
+            takes = tt;
+            quiet = refl;
+          };
+      sheet = λ reads. subst (λ x. IfSome x (λ c. LoadsFirst reads docs c.sheet (OpensNames docs (loaded reads docs c).opened Usage) (answer reads words docs main) [])) (sym none) tt;
+      failed = λ reads. tt;
+      own = λ reads. subst (λ x. IfSome x (λ c. IsOwn (accepted (loaded reads docs c).result) (Told Usage))) (sym none) tt;
+    };
+    main_told = λ main told. record { all = λ asks is. cc; begins = inl refl; asks = λ k is_read. absurd (false≢true is_read) };
   }
 
-  -- memory was wanting
+  -- memory was wanting to read them
   pub ran-nothing : Runs words o o (Told Memory)
   ran-nothing = record {
     acts = [];
     out = [];
+    note = [];
     between = nothing_between o;
     ended = false;
     once = refl;
@@ -84,354 +149,514 @@ module _ (words : List (List ℕ)) (o : Outside) where
     counts = refl;
     failed = tt;
     refuses = tt;
-    takes = tt;
+    takes = λ no_run. tt;
     told = λ docs main documents told. record {
-      reads = λ k is_read. absurd (false≢true is_read);
-      prefix = begins_nothing (answer words docs main).out;
-      ends = tt;
-      sheet = of_any (option_and_then (document docs) (sheet_named words)) (λ sheet. ReadsUndecided sheet 0 []) (λ sheet. tt);
-      opened = ([], begins_nothing (answer words docs main).opened, refl, tt);
-      all = λ asks is. cc;
+      answered = λ reads a e. record {
+        asks = λ k is_read. absurd (false≢true is_read);
+        prefix = begins_nothing a.out;
+        ends = tt;
+        opened = ([], begins_nothing a.opened, refl, tt);
+        failed = tt;
+        takes = tt;
+        quiet = refl;
+      };
+      sheet = λ reads. any_command (λ c. LoadsFirst reads docs c.sheet (OpensNames docs (loaded reads docs c).opened Memory) (answer reads words docs main) []) (λ c. record {
+        loading = [];
+        running = [];
+        in_turn = refl;
+        opened = ([], begins_nothing (loaded reads docs c).opened, refl, tt);
+        undecided = tt;
+        once = tt;
+        no_main_read = refl;
+        no_write = refl;
+        alone = λ said. refl;
+      });
+      failed = λ reads. tt;
+      own = λ reads. any_command (λ c. IsOwn (accepted (loaded reads docs c).result) (Told Memory)) (λ c. tt);
     };
-  }
+    main_told = λ main told. record { all = λ asks is. cc; begins = tt; asks = λ k is_read. absurd (false≢true is_read) };
+  } where
+    any_command : (P : Command → Type 0) → ((c : Command) → P c) → IfSome (command_of words) P
+    any_command P all = of_any (command_of words) P all
 
--- a run that stopped at the sheet of this name
-module _ (words : List Word) (c : Command) (asked_for : command_of words ≡ Some c) (old new : Outside) (ids : new.open_ids ≡ old.open_ids) where
-  abbrev name : List ℕ
-  name = c.sheet
+-- A command
 
-  named : sheet_named words ≡ Some name
+module _ (words : List Word) (c : Command) (asked_for : command_of words ≡ Some c) where
+  pub named : sheet_named words ≡ Some c.sheet
   named = ap (option_map (λ c. c.sheet)) asked_for
 
-  answer-is : (docs : List Doc) (main : List ℕ) → answer words docs main ≡ sheet_answer c (document docs name) main
-  answer-is docs main = ap (λ c. words_answer c docs main) asked_for
+  pub for_command : (P : Command → Type 0) → P c → IfSome (command_of words) P
+  for_command P p = subst (λ x. IfSome x P) (sym asked_for) p
 
-  mode-opened : (mode : Mode) (pass : Pass) (main : List ℕ) → (mode_answer mode c.limits name pass main).opened ≡ name ∷ []
-  mode-opened Run pass main = refl
-  mode-opened Check pass main = refl
-  mode-opened (Sample records) pass main = refl
+  pub answer-is : (reads : Reads) (docs : List Doc) (main : List ℕ) → answer reads words docs main ≡ sheet_answer c (loaded reads docs c).opened (loaded reads docs c).result main
+  answer-is reads docs main = ap (λ x. words_answer reads x docs main) asked_for
 
-  -- the answer opens its name
-  name-opened : (sheet : Option (List ℕ)) (main : List ℕ) → (sheet_answer c sheet main).opened ≡ name ∷ []
-  name-opened None main = refl
-  name-opened (Some bytes) main = by_pass (pass_of bytes) where
-    by_pass : (p : Option Pass) → (run_answer c p main).opened ≡ name ∷ []
-    by_pass None = refl
-    by_pass (Some pass) = mode-opened c.mode pass main
+  -- no run on the main document is asked for
+  pub unasked : (mode : Mode) → c.mode ≡ mode → is_run mode ≡ false → asks_run words ≡ true → ⊥
+  unasked mode is other asks = false≢true (sym other ∙ sym (ap is_run is) ∙ sym (ap (λ o. option_map_or (λ c. is_run c.mode) o false) asked_for) ∙ asks)
 
-  opened-is : (docs : List Doc) (main : List ℕ) → (answer words docs main).opened ≡ name ∷ []
-  opened-is docs main = ap (λ x. x.opened) (answer-is docs main) ∙ name-opened (document docs name) main
+  -- some run is
+  pub asks_some : (mode : Mode) → c.mode ≡ mode → is_any_run mode ≡ true → asks_any_run words ≡ false → ⊥
+  asks_some mode is some none = false≢true (sym none ∙ ap (λ o. option_map_or (λ c. is_any_run c.mode) o false) asked_for ∙ ap is_any_run is ∙ some)
 
-  -- the place of the sheet's document
-  abbrev doc : Option ℕ
-  doc = option_and_then (λ docs. place docs name) old.documents
+  -- An answer opens the names of the sheet's files
 
-  -- its bytes
-  abbrev sheet : Option (List ℕ)
-  sheet = option_and_then (λ docs. document docs name) old.documents
+  mode-opened : (mode : Mode) (opened : List (List ℕ)) (p : Option Pass) (main : List ℕ) (a : Answer) → mode_answer mode c.limits c.sheet opened p main ≡ Some a → opened ≡ a.opened
+  mode-opened Check opened p main a e = ap (λ x. x.opened) (same_Some (answered Done [] opened) a e)
+  mode-opened Run opened None main a e = absurd (none-some a e)
+  mode-opened Run opened (Some pass) main a e = ap (λ x. x.opened) (same_Some (ran c.sheet opened (run_on c.limits pass main true)) a e)
+  mode-opened (Sample records) opened None main a e = absurd (none-some a e)
+  mode-opened (Sample records) opened (Some pass) main a e = ap (λ x. x.opened) (same_Some (sampled c.sheet opened records (run_on c.limits pass (sample_of records) true)) a e)
 
-  -- what holds of its bytes, where the documents are told
-  of-sheet : (docs : List Doc) (P : List ℕ → Type 0) → old.documents ≡ Some docs → IfSome sheet P → IfSome (option_and_then (document docs) (sheet_named words)) P
-  of-sheet docs P documents holds =
-      subst (λ n. IfSome (option_and_then (document docs) n) P) (sym named) (subst (λ d. IfSome (option_and_then (λ docs. document docs name) d) P) documents holds)
+  sheet-opened : (opened : List (List ℕ)) (r : Result model.Sheet SheetFault) (main : List ℕ) (a : Answer) → sheet_answer c opened r main ≡ Some a → opened ≡ a.opened
+  sheet-opened opened (Err fault) main a e = ap (λ x. x.opened) (same_Some (answered (Sheet fault) [] opened) a e)
+  sheet-opened opened (Ok sheet) main a e = mode-opened c.mode opened (pass_of sheet) main a e
 
-  module _ (acts : List Act) where
-    -- its document was opened
-    opens-name : (o : Outcome) (docs : List Doc) (main : List ℕ) → old.documents ≡ Some docs → opens acts ≡ doc ∷ [] → (docs_is : (front : List (List ℕ)) → front ≡ (answer words docs main).opened → UnlessFailed o (front ≡ (answer words docs main).opened))
-        → OpensNames docs (answer words docs main).opened o acts
-    opens-name o docs main documents is unless =
-        let names = sym (opened-is docs main) in
-        (name ∷ [], subst (Begins (name ∷ [])) names (begins_all (name ∷ [])), is ∙ ap (λ d. option_and_then (λ docs. place docs name) d ∷ []) documents, unless (name ∷ []) names)
+  pub answer-opened : (reads : Reads) (docs : List Doc) (main : List ℕ) (a : Answer) → answer reads words docs main ≡ Some a → (loaded reads docs c).opened ≡ a.opened
+  answer-opened reads docs main a e = sheet-opened (loaded reads docs c).opened (loaded reads docs c).result main a (sym (answer-is reads docs main) ∙ e)
 
-  -- the sheet is refused
-  pub ran-refused : (fault : SheetFault) (acts : List Act) → LoadAnswers (option_map (λ docs. document docs name) old.documents) name (Err (Sheet fault))
-      → LoadActs old new doc sheet (Err (Sheet fault)) acts → LoadCounts old new (Err (Sheet fault)) → Runs words old new (Told (Sheet fault))
-  ran-refused fault acts answers did counts = record {
-    acts = acts;
-    out = [];
-    between = did.between;
-    ended = false;
-    once = none_once acts did.no_main_read;
-    ids = ids;
-    counts = record { doc = counts.doc; main = counts.main; out = counts.out; note = counts.note };
-    failed = tt;
-    refuses = subst IsSome (sym named) refl;
-    takes = tt;
-    told = λ docs main documents told.
-        let a = answer-is docs main ∙ refused_answer old.documents docs c main fault documents answers in
+  -- What loading came to, where the documents are told
+
+  module _ (old mid : Outside) (docs : List Doc) (documents : documents_told old ≡ Some docs) (reads : Reads) where
+    in-order : (r : Result Loaded Outcome) (l : Loads c old mid r) → OpensInOrder (place docs) (loaded reads docs c).opened r l.acts
+    in-order r l =
+        let told = subst (λ t. IfSome t (λ docs. (reads : Reads) → OpensInOrder (place docs) (loaded reads docs c).opened r l.acts)) documents l.did.opens in told reads
+
+    agrees : (answer : Result model.Sheet SheetFault) (files : List Seen) → (is : IsLoaded (documents_told old) standard_limits c.sheet answer files) → loaded reads docs c ≡ loads (names_of files) answer
+    agrees answer files is = is.gives (document docs) (subst (λ t. IfSome t (λ docs. AreOf (document docs) files)) documents is.told_of) reads
+
+    -- the files of a sheet that is accepted
+    loaded-is : (x : Loaded) (l : Loads c old mid (Ok x)) → loaded reads docs c ≡ loads (names_of (map whole x.files)) (Ok x.sheet)
+    loaded-is x l = agrees (Ok x.sheet) (map whole x.files) l.answers
+
+    pub accepted-is : (x : Loaded) (l : Loads c old mid (Ok x)) → (loaded reads docs c).result ≡ Ok x.sheet
+    accepted-is x l = ap (λ r. r.result) (loaded-is x l)
+
+    -- all files of an accepted sheet are opened
+    pub opens-all : (x : Loaded) (l : Loads c old mid (Ok x)) (o : Outcome) → OpensNames docs (loaded reads docs c).opened o l.acts
+    opens-all x l o = let names = (loaded reads docs c).opened in (names, begins_all names, in-order (Ok x) l, unless o (names ≡ names) refl)
+
+    -- the files of the sheet come first
+    loads-first : (r : Result Loaded Outcome) (l : Loads c old mid r) (o : Outcome) → OpensNames docs (loaded reads docs c).opened o l.acts
+        → (said : Option Answer) (acts more : List Act) → acts ≡ l.acts ++ more → (IsSome said → list_any is_doc_read more ≡ false)
+        → LoadsFirst reads docs c.sheet (OpensNames docs (loaded reads docs c).opened o) said acts
+    loads-first r l o opened said acts more is alone = record {
+      loading = l.acts;
+      running = more;
+      in_turn = is;
+      opened = opened;
+      undecided = (subst (λ t. IfSome t (λ docs. (reads : Reads) → ReadUndecided reads standard_limits (document docs) c.sheet [] l.acts)) documents l.did.undecided) reads;
+      once = told-ids old.open_ids old.documents docs documents (NoneBehindEnd l.acts) l.did.once;
+      no_main_read = l.did.no_main_read;
+      no_write = l.did.no_write;
+      alone = alone;
+    }
+
+    -- and nothing else does
+    pub loads-alone : (r : Result Loaded Outcome) (l : Loads c old mid r) (o : Outcome) → OpensNames docs (loaded reads docs c).opened o l.acts
+        → (said : Option Answer) → LoadsFirst reads docs c.sheet (OpensNames docs (loaded reads docs c).opened o) said l.acts
+    loads-alone r l o opened said = loads-first r l o opened said l.acts [] (sym (append-nil l.acts)) (λ is. refl)
+
+  -- Loading stopped
+
+  module _ (old new : Outside) where
+    opens-stopped : (o : Outcome) (l : Loads c old new (Err o)) (docs : List Doc) → documents_told old ≡ Some docs → (reads : Reads) → OpensNames docs (loaded reads docs c).opened o l.acts
+    opens-stopped o l docs documents reads = by o l.answers (in-order old new docs documents reads (Err o) l) where
+      by : (o : Outcome) → LoadAnswers (documents_told old) standard_limits c.sheet (Err o) → OpensInOrder (place docs) (loaded reads docs c).opened (Err o) l.acts → OpensNames docs (loaded reads docs c).opened o l.acts
+      by (Sheet fault) h e = ((loaded reads docs c).opened, begins_all (loaded reads docs c).opened, e, refl)
+      by (Host file f offset) h e = (e.0, (e.1, e.2), e.3, tt)
+      by Memory h e = (e.0, (e.1, e.2), e.3, tt)
+      by Done h e = absurd h
+      by Usage h e = absurd h
+      by (Stopped file code offset) h e = absurd h
+      by (Xml file fault) h e = absurd h
+      by (Fuel file offset) h e = absurd h
+
+    counts-stopped : (o : Outcome) (l : Loads c old new (Err o)) → CountsBy o old new
+    counts-stopped o l = by o l.answers l.counts.doc where
+      by : (o : Outcome) → LoadAnswers (documents_told old) standard_limits c.sheet (Err o) → DocCount (Err o) old.doc_faults new.doc_faults → CountsBy o old new
+      by (Sheet fault) h d = record { doc = d; main = l.counts.main; out = l.counts.out; note = l.counts.note }
+      by (Host file fault.Doc offset) h d = (d, record { doc = refl; main = l.counts.main; out = l.counts.out; note = l.counts.note })
+      by (Host file fault.Read offset) h d = absurd h
+      by (Host file fault.Write offset) h d = absurd h
+      by Memory h d = l.counts.note
+      by Done h d = absurd h
+      by Usage h d = absurd h
+      by (Stopped file code offset) h d = absurd h
+      by (Xml file fault) h d = absurd h
+      by (Fuel file offset) h d = absurd h
+
+    failed-stopped : (o : Outcome) (acts : List Act) → LoadAnswers (documents_told old) standard_limits c.sheet (Err o) → FailedIn o acts []
+    failed-stopped (Sheet fault) acts h = tt
+    failed-stopped (Host file fault.Doc offset) acts h = tt
+    failed-stopped (Host file fault.Read offset) acts h = absurd h
+    failed-stopped (Host file fault.Write offset) acts h = absurd h
+    failed-stopped Memory acts h = tt
+    failed-stopped Done acts h = absurd h
+    failed-stopped Usage acts h = absurd h
+    failed-stopped (Stopped file code offset) acts h = absurd h
+    failed-stopped (Xml file fault) acts h = absurd h
+    failed-stopped (Fuel file offset) acts h = absurd h
+
+    failed-on-sheet : (o : Outcome) (l : Loads c old new (Err o)) (docs : List Doc) → documents_told old ≡ Some docs → (reads : Reads) → IfDocFailed o (FailedOnSheet reads words docs l.acts)
+    failed-on-sheet o l docs documents reads = by o (in-order old new docs documents reads (Err o) l) where
+      by : (o : Outcome) → OpensInOrder (place docs) (loaded reads docs c).opened (Err o) l.acts → IfDocFailed o (FailedOnSheet reads words docs l.acts)
+      by (Host file fault.Doc offset) e = (c, asked_for, e)
+      by (Host file fault.Read offset) e = tt
+      by (Host file fault.Write offset) e = tt
+      by (Sheet fault) e = tt
+      by Memory e = tt
+      by Done e = tt
+      by Usage e = tt
+      by (Stopped file code offset) e = tt
+      by (Xml file fault) e = tt
+      by (Fuel file offset) e = tt
+
+    refuses-stopped : (o : Outcome) → LoadAnswers (documents_told old) standard_limits c.sheet (Err o) → RefusesWords words (Told o)
+    refuses-stopped (Sheet fault) h = subst IsSome (sym named) refl
+    refuses-stopped (Host file f offset) h = subst IsSome (sym named) refl
+    refuses-stopped Memory h = tt
+    refuses-stopped Done h = absurd h
+    refuses-stopped Usage h = absurd h
+    refuses-stopped (Stopped file code offset) h = absurd h
+    refuses-stopped (Xml file fault) h = absurd h
+    refuses-stopped (Fuel file offset) h = absurd h
+
+    -- a refused sheet is answered
+    answered-stopped : (o : Outcome) (l : Loads c old new (Err o)) (docs : List Doc) → documents_told old ≡ Some docs → (reads : Reads) (main : List ℕ) (a : Answer) → answer reads words docs main ≡ Some a → UnlessFailed o (IsAnswered [] (Told o) a)
+    answered-stopped o l docs documents reads main a e = by o l.answers where
+      by : (o : Outcome) → LoadAnswers (documents_told old) standard_limits c.sheet (Err o) → UnlessFailed o (IsAnswered [] (Told o) a)
+      by (Sheet fault) h =
+          let names = names_of h.0 in
+          let loads_so = agrees old new docs documents reads (Err fault) h.0 h.1 in
+          let is : answered (Sheet fault) [] names ≡ a =
+          same_Some (answered (Sheet fault) [] names) a (sym (ap (λ r. sheet_answer c r.opened r.result main) loads_so) ∙ sym (answer-is reads docs main) ∙ e) in
+          record { output = ap (λ x. x.out) is; line = ap (λ x. x.note) is; code = ap (λ x. x.status) is }
+      by (Host file f offset) h = tt
+      by Memory h = tt
+      by Done h = absurd h
+      by Usage h = absurd h
+      by (Stopped file code offset) h = absurd h
+      by (Xml file fault) h = absurd h
+      by (Fuel file offset) h = absurd h
+
+    -- what is so of each end of loading
+    ends-stopped : (o : Outcome) → LoadAnswers (documents_told old) standard_limits c.sheet (Err o) → TakesParts o × ((sheet : Option model.Sheet) → IsOwn sheet (Told o)) × (o ≡ Done → ⊥) × UnlessFailed o ((◌≡◌ {A = List ℕ} [] []) ⊎ Begins head [])
+    ends-stopped (Sheet fault) h = (tt, λ sheet. tt, λ e. cc, inl refl)
+    ends-stopped (Host file f offset) h = (tt, λ sheet. tt, λ e. cc, tt)
+    ends-stopped Memory h = (tt, λ sheet. tt, λ e. cc, tt)
+    ends-stopped Done h = absurd h
+    ends-stopped Usage h = absurd h
+    ends-stopped (Stopped file code offset) h = absurd h
+    ends-stopped (Xml file fault) h = absurd h
+    ends-stopped (Fuel file offset) h = absurd h
+
+    pub ran-stopped : (o : Outcome) → Loads c old new (Err o) → Runs words old new (Told o)
+    ran-stopped o l =
+        let ends = ends-stopped o l.answers in
         record {
-          reads = no_main_reads acts [] [] (Asks words docs main) did.no_main_read;
-          prefix = begins_nothing (answer words docs main).out;
-          ends = record { output = sym (ap (λ x. x.out) a); line = sym (ap (λ x. x.note) a); code = sym (ap (λ x. x.status) a) };
-          sheet = of-sheet docs (λ sheet. ReadsUndecided sheet 0 acts) documents did.undecided;
-          opened = elim did.opens [
-            | inl is ↦ opens-name acts (Sheet fault) docs main documents is (λ front same. same)
-            | inr other ↦ absurd other.1
-          ];
-          all = λ asks is. cc;
-        };
-  }
+          acts = l.acts;
+          out = [];
+          note = [];
+          between = l.did.between;
+          ended = false;
+          once = none_once l.acts l.did.no_main_read;
+          ids = l.ids;
+          counts = counts-stopped o l;
+          failed = failed-stopped o l.acts l.answers;
+          refuses = refuses-stopped o l.answers;
+          takes = λ no_run. ends.0;
+          told = λ docs main documents told. record {
+            answered = λ reads a e. record {
+              asks = no_main_reads l.acts [] [] (Asks reads words docs main) l.did.no_main_read;
+              prefix = begins_nothing a.out;
+              ends = answered-stopped o l docs documents reads main a e;
+              opened = subst (λ names. OpensNames docs names o l.acts) (answer-opened reads docs main a e) (opens-stopped o l docs documents reads);
+              failed = failed-on-sheet o l docs documents reads;
+              takes = ends.0;
+              quiet = refl;
+            };
+            sheet = λ reads. for_command (λ c. LoadsFirst reads docs c.sheet (OpensNames docs (loaded reads docs c).opened o) (answer reads words docs main) l.acts)
+                (loads-alone old new docs documents reads (Err o) l o (opens-stopped o l docs documents reads) (answer reads words docs main));
+            failed = λ reads. if-doc o (FailedOnSheet reads words docs l.acts) (FailedOn reads words docs l.acts) (λ file offset. inl) (failed-on-sheet o l docs documents reads);
+            own = λ reads. for_command (λ c. IsOwn (accepted (loaded reads docs c).result) (Told o)) (ends.1 (accepted (loaded reads docs c).result));
+          };
+          main_told = λ main told. record { all = λ asks is. absurd (ends.2 is); begins = ends.3; asks = no_main_reads l.acts [] [] HasHead l.did.no_main_read };
+        }
 
-  -- the host failed on the sheet
-  pub ran-unread : (file : List ℕ) (offset : ℕ) (acts : List Act) → file ≡ name
-      → LoadActs old new doc sheet (Err (Host file fault.Doc offset)) acts → LoadCounts old new (Err (Host file fault.Doc offset)) → Runs words old new (Told (Host file fault.Doc offset))
-  ran-unread file offset acts is did counts = record {
-    acts = acts;
-    out = [];
-    between = did.between;
-    ended = false;
-    once = none_once acts did.no_main_read;
-    ids = ids;
-    counts = (counts.doc, record { doc = refl; main = counts.main; out = counts.out; note = counts.note });
-    failed = (named ∙ ap Some (sym is), did.fails);
-    refuses = subst IsSome (sym named) refl;
-    takes = tt;
-    told = λ docs main documents told. record {
-      reads = no_main_reads acts [] [] (Asks words docs main) did.no_main_read;
-      prefix = begins_nothing (answer words docs main).out;
-      ends = tt;
-      sheet = of-sheet docs (λ sheet. ReadsUndecided sheet 0 acts) documents did.undecided;
-      opened = elim did.opens [
-        | inl opened ↦ opens-name acts (Host file fault.Doc offset) docs main documents opened (λ front same. tt)
-        | inr other ↦ ([], begins_nothing (answer words docs main).opened, other.0, tt)
-      ];
-      all = λ asks is. cc;
-    };
-  }
+    -- The sheet alone was asked for
 
-  -- memory was wanting
-  pub ran-wanting : (acts : List Act) → LoadActs old new doc sheet (Err Memory) acts → LoadCounts old new (Err Memory) → Runs words old new (Told Memory)
-  ran-wanting acts did counts = record {
-    acts = acts;
-    out = [];
-    between = did.between;
-    ended = false;
-    once = none_once acts did.no_main_read;
-    ids = ids;
-    counts = counts.note;
-    failed = tt;
-    refuses = tt;
-    takes = tt;
-    told = λ docs main documents told. record {
-      reads = no_main_reads acts [] [] (Asks words docs main) did.no_main_read;
-      prefix = begins_nothing (answer words docs main).out;
-      ends = tt;
-      sheet = of-sheet docs (λ sheet. ReadsUndecided sheet 0 acts) documents did.undecided;
-      opened = elim did.opens [
-        | inl opened ↦ opens-name acts Memory docs main documents opened (λ front same. tt)
-        | inr other ↦ ([], begins_nothing (answer words docs main).opened, other.0, tt)
-      ];
-      all = λ asks is. cc;
-    };
-  }
-
-  -- it stopped there
-  pub ran-stopped : (o : Outcome) (acts : List Act) → LoadAnswers (option_map (λ docs. document docs name) old.documents) name (Err o)
-      → LoadActs old new doc sheet (Err o) acts → LoadCounts old new (Err o) → Runs words old new (Told o)
-  ran-stopped (Sheet fault) acts answers did counts = ran-refused fault acts answers did counts
-  ran-stopped (Host file fault.Doc offset) acts answers did counts = ran-unread file offset acts answers did counts
-  ran-stopped Memory acts answers did counts = ran-wanting acts did counts
-  ran-stopped (Host file fault.Read offset) acts answers did counts = absurd answers
-  ran-stopped (Host file fault.Write offset) acts answers did counts = absurd answers
-  ran-stopped Done acts answers did counts = absurd answers
-  ran-stopped Usage acts answers did counts = absurd answers
-  ran-stopped (Xml file fault) acts answers did counts = absurd answers
-  ran-stopped (Fuel file offset) acts answers did counts = absurd answers
-  ran-stopped (Stopped file code offset) acts answers did counts = absurd answers
+    pub ran-checked : c.mode ≡ Check → (x : Loaded) → Loads c old new (Ok x) → Runs words old new (Told Done)
+    ran-checked alone x l = record {
+      acts = l.acts;
+      out = [];
+      note = [];
+      between = l.did.between;
+      ended = false;
+      once = none_once l.acts l.did.no_main_read;
+      ids = l.ids;
+      counts = record { doc = l.counts.doc; main = l.counts.main; out = l.counts.out; note = l.counts.note };
+      failed = tt;
+      refuses = subst IsSome (sym named) refl;
+      takes = λ no_run. tt;
+      told = λ docs main documents told. record {
+        answered = λ reads a e.
+            let names = names_of (map whole x.files) in
+            let loads_so = loaded-is old new docs documents reads x l in
+            let is : answered Done [] names ≡ a =
+            same_Some (answered Done [] names) a (sym (ap (λ r. sheet_answer c r.opened r.result main) loads_so ∙ ap (λ m. mode_answer m c.limits c.sheet names (pass_of x.sheet) main) alone) ∙ sym (answer-is reads docs main) ∙ e) in
+            record {
+              asks = no_main_reads l.acts [] [] (Asks reads words docs main) l.did.no_main_read;
+              prefix = begins_nothing a.out;
+              ends = record { output = ap (λ x. x.out) is; line = ap (λ x. x.note) is; code = ap (λ x. x.status) is };
+              opened = subst (λ names. OpensNames docs names Done l.acts) (answer-opened reads docs main a e) (opens-all old new docs documents reads x l Done);
+              failed = tt;
+              takes = tt;
+              quiet = refl;
+            };
+        sheet = λ reads. for_command (λ c. LoadsFirst reads docs c.sheet (OpensNames docs (loaded reads docs c).opened Done) (answer reads words docs main) l.acts)
+            (loads-alone old new docs documents reads (Ok x) l Done (opens-all old new docs documents reads x l Done) (answer reads words docs main));
+        failed = λ reads. tt;
+        own = λ reads. for_command (λ c. IsOwn (accepted (loaded reads docs c).result) (Told Done)) tt;
+      };
+      main_told = λ main told. record { all = λ asks is. absurd (unasked Check alone refl asks); begins = inl refl; asks = no_main_reads l.acts [] [] HasHead l.did.no_main_read };
+    }
 
   -- What follows a sheet that is accepted
 
-  counts_after : (mid : Outside) (o : Outcome) → SameCounts old mid → CountsBy o mid new → CountsBy o old new
-  counts_after mid (Host file fault.Doc offset) same by =
-      (subst (λ n. Rose n new.doc_faults) same.doc by.0, record { doc = refl; main = by.1.main ∙ same.main; out = by.1.out ∙ same.out; note = by.1.note ∙ same.note })
-  counts_after mid (Host file fault.Read offset) same by =
-      (subst (λ n. Rose n new.main_faults) same.main by.0, record { doc = by.1.doc ∙ same.doc; main = refl; out = by.1.out ∙ same.out; note = by.1.note ∙ same.note })
-  counts_after mid (Host file fault.Write offset) same by =
-      (subst (λ n. Rose n new.out_faults) same.out by.0, record { doc = by.1.doc ∙ same.doc; main = by.1.main ∙ same.main; out = refl; note = by.1.note ∙ same.note })
-  counts_after mid Memory same by = by ∙ same.note
-  counts_after mid Done same by = record { doc = by.doc ∙ same.doc; main = by.main ∙ same.main; out = by.out ∙ same.out; note = by.note ∙ same.note }
-  counts_after mid Usage same by = record { doc = by.doc ∙ same.doc; main = by.main ∙ same.main; out = by.out ∙ same.out; note = by.note ∙ same.note }
-  counts_after mid (Sheet fault) same by = record { doc = by.doc ∙ same.doc; main = by.main ∙ same.main; out = by.out ∙ same.out; note = by.note ∙ same.note }
-  counts_after mid (Stopped file code offset) same by = record { doc = by.doc ∙ same.doc; main = by.main ∙ same.main; out = by.out ∙ same.out; note = by.note ∙ same.note }
-  counts_after mid (Xml file fault) same by = record { doc = by.doc ∙ same.doc; main = by.main ∙ same.main; out = by.out ∙ same.out; note = by.note ∙ same.note }
-  counts_after mid (Fuel file offset) same by = record { doc = by.doc ∙ same.doc; main = by.main ∙ same.main; out = by.out ∙ same.out; note = by.note ∙ same.note }
+  module _ (old mid new : Outside) (x : Loaded) (l : Loads c old mid (Ok x)) where
+    same : SameCounts old mid
+    same = record { doc = l.counts.doc; main = l.counts.main; out = l.counts.out; note = l.counts.note }
 
-  failed_after : (o : Outcome) (first acts : List Act) (out : List ℕ) → main_read first ≡ 0 → FailedAt o acts out → FailedIn words o (first ++ acts) out
-  failed_after (Host file fault.Doc offset) first acts out none failed = absurd failed
-  failed_after (Host file fault.Read offset) first acts out none failed = (failed.0, failed.1 ∙ omega (arith, none, main_read-append first acts))
-  failed_after (Host file fault.Write offset) first acts out none failed = failed
-  failed_after Memory first acts out none failed = tt
-  failed_after Done first acts out none failed = tt
-  failed_after Usage first acts out none failed = absurd failed
-  failed_after (Sheet reason) first acts out none failed = absurd failed
-  failed_after (Stopped file code offset) first acts out none failed = tt
-  failed_after (Xml file fault) first acts out none failed = tt
-  failed_after (Fuel file offset) first acts out none failed = tt
+    unread : main_read l.acts ≡ 0
+    unread = nothing_read l.acts l.did.no_main_read
 
-  -- words that name a sheet aren't refused
-  not_refused : (o : Outcome) (acts : List Act) (out : List ℕ) → FailedAt o acts out → RefusesWords words o
-  not_refused Usage acts out failed = absurd failed
-  not_refused (Sheet reason) acts out failed = absurd failed
-  not_refused Memory acts out failed = tt
-  not_refused Done acts out failed = subst IsSome (sym named) refl
-  not_refused (Stopped file code offset) acts out failed = subst IsSome (sym named) refl
-  not_refused (Xml file fault) acts out failed = subst IsSome (sym named) refl
-  not_refused (Fuel file offset) acts out failed = subst IsSome (sym named) refl
-  not_refused (Host file fault offset) acts out failed = subst IsSome (sym named) refl
+    pub counts_after : (o : Outcome) → CountsBy o mid new → CountsBy o old new
+    counts_after (Host file fault.Doc offset) by =
+        (subst (λ n. Rose n new.doc_faults) same.doc by.0, record { doc = refl; main = by.1.main ∙ same.main; out = by.1.out ∙ same.out; note = by.1.note ∙ same.note })
+    counts_after (Host file fault.Read offset) by =
+        (subst (λ n. Rose n new.main_faults) same.main by.0, record { doc = by.1.doc ∙ same.doc; main = refl; out = by.1.out ∙ same.out; note = by.1.note ∙ same.note })
+    counts_after (Host file fault.Write offset) by =
+        (subst (λ n. Rose n new.out_faults) same.out by.0, record { doc = by.1.doc ∙ same.doc; main = by.1.main ∙ same.main; out = refl; note = by.1.note ∙ same.note })
+    counts_after Memory by = by ∙ same.note
+    counts_after Done by = counts-then old mid new same by
+    counts_after Usage by = counts-then old mid new same by
+    counts_after (Sheet reason) by = counts-then old mid new same by
+    counts_after (Stopped file code offset) by = counts-then old mid new same by
+    counts_after (Xml file fault) by = counts-then old mid new same by
+    counts_after (Fuel file offset) by = counts-then old mid new same by
 
-  unless : (o : Outcome) (P : Type 0) → P → UnlessFailed o P
-  unless (Host file fault offset) P p = tt
-  unless Memory P p = tt
-  unless Done P p = p
-  unless Usage P p = p
-  unless (Sheet reason) P p = p
-  unless (Stopped file code offset) P p = p
-  unless (Xml file fault) P p = p
-  unless (Fuel file offset) P p = p
+    failed_after : (o : Outcome) (acts : List Act) (out : List ℕ) → FailedAt o acts out → FailedIn o (l.acts ++ acts) out
+    failed_after (Host file fault.Doc offset) acts out failed = absurd failed
+    failed_after (Host file fault.Read offset) acts out failed = (failed.0, failed.1 ∙ omega (arith, unread, main_read-append l.acts acts))
+    failed_after (Host file fault.Write offset) acts out failed = failed
+    failed_after Memory acts out failed = tt
+    failed_after Done acts out failed = tt
+    failed_after Usage acts out failed = absurd failed
+    failed_after (Sheet reason) acts out failed = absurd failed
+    failed_after (Stopped file code offset) acts out failed = tt
+    failed_after (Xml file fault) acts out failed = tt
+    failed_after (Fuel file offset) acts out failed = tt
 
-  takes_parts : DocumentsAreTaken → (pass : Pass) (o : Outcome) → RefusesSome c.limits pass o → TakesParts o
-  takes_parts taken pass (Stopped file code offset) r = taken c.limits pass r.0 r.1 r.2 (usual words c asked_for).depth r.3
-  takes_parts taken pass (Host file fault offset) r = tt
-  takes_parts taken pass Memory r = tt
-  takes_parts taken pass Done r = tt
-  takes_parts taken pass Usage r = tt
-  takes_parts taken pass (Sheet reason) r = tt
-  takes_parts taken pass (Xml file fault) r = tt
-  takes_parts taken pass (Fuel file offset) r = absurd r
+    -- words that name a sheet aren't refused
+    not_refused : (o : Outcome) (acts : List Act) (out : List ℕ) → FailedAt o acts out → RefusesWords words (Told o)
+    not_refused Usage acts out failed = absurd failed
+    not_refused (Sheet reason) acts out failed = absurd failed
+    not_refused Memory acts out failed = tt
+    not_refused Done acts out failed = subst IsSome (sym named) refl
+    not_refused (Stopped file code offset) acts out failed = subst IsSome (sym named) refl
+    not_refused (Xml file fault) acts out failed = subst IsSome (sym named) refl
+    not_refused (Fuel file offset) acts out failed = subst IsSome (sym named) refl
+    not_refused (Host file fault offset) acts out failed = subst IsSome (sym named) refl
 
-  -- no run on the main document is asked for
-  unasked : (mode : Mode) → c.mode ≡ mode → is_run mode ≡ false → asks_run words ≡ true → ⊥
-  unasked mode is other asks = false≢true (sym other ∙ sym (ap is_run is) ∙ sym (ap (λ o. option_map_or (λ c. is_run c.mode) o false) asked_for) ∙ asks)
+    takes_parts : DocumentsAreTaken → (pass : Pass) (o : Outcome) → RefusesSome c.limits pass o → TakesParts o
+    takes_parts taken pass (Stopped file code offset) r = taken c.limits pass r.0 r.1 r.2 (usual words c asked_for).below r.3
+    takes_parts taken pass (Host file fault offset) r = tt
+    takes_parts taken pass Memory r = tt
+    takes_parts taken pass Done r = tt
+    takes_parts taken pass Usage r = tt
+    takes_parts taken pass (Sheet reason) r = tt
+    takes_parts taken pass (Xml file fault) r = tt
+    takes_parts taken pass (Fuel file offset) r = absurd r
 
-  -- the sheet alone was asked for
-  pub ran-checked : c.mode ≡ Check → (pass : Pass) (acts : List Act) → LoadAnswers (option_map (λ docs. document docs name) old.documents) name (Ok pass)
-      → LoadActs old new doc sheet (Ok pass) acts → LoadCounts old new (Ok pass) → Runs words old new (Told Done)
-  ran-checked alone pass acts answers did counts = record {
-    acts = acts;
-    out = [];
-    between = did.between;
-    ended = false;
-    once = none_once acts did.no_main_read;
-    ids = ids;
-    counts = record { doc = counts.doc; main = counts.main; out = counts.out; note = counts.note };
-    failed = tt;
-    refuses = subst IsSome (sym named) refl;
-    takes = tt;
-    told = λ docs main documents told.
-        let a : answer words docs main ≡ answered Done [] (name ∷ []) =
-        answer-is docs main ∙ accepted_answer old.documents docs c main pass documents answers ∙ ap (λ m. mode_answer m c.limits name pass main) alone in
+    -- where no part was refused none is told at an instruction
+    own_so : (sheet : Option model.Sheet) (o : Outcome) → TakesParts o → IsOwn sheet (Told o)
+    own_so sheet (Stopped file code offset) t = absurd t
+    own_so sheet (Fuel file offset) t = absurd t
+    own_so sheet (Host file fault offset) t = tt
+    own_so sheet Memory t = tt
+    own_so sheet Done t = tt
+    own_so sheet Usage t = tt
+    own_so sheet (Sheet reason) t = tt
+    own_so sheet (Xml file fault) t = tt
+
+    pub once_after : (ended : Bool) (acts : List Act) → EndOnce ended (main_gots acts) → EndOnce ended (main_gots (l.acts ++ acts))
+    once_after ended acts once = subst (EndOnce ended) (sym (main_gots-append l.acts acts ∙ ap (λ g. g ++ main_gots acts) (no_main_gots l.acts l.did.no_main_read))) once
+
+    pub between_after : (acts : List Act) (out note : List ℕ) → Between mid new acts out note → Between old new (l.acts ++ acts) out note
+    between_after acts out note b = between_joins old mid new l.acts acts [] out [] note l.did.between b
+
+    -- the main document is as it was
+    pub main_after : (main : List ℕ) → old.to_come 0 ≡ Some main → mid.to_come 0 ≡ Some main
+    main_after main told = l.did.between.main ∙ ap (λ n. option_map (λ bytes. drop n bytes) (old.to_come 0)) unread ∙ ap (option_map (λ bytes. drop 0 bytes)) told
+
+    pub reads_after : (acts : List Act) (out note : List ℕ) (P : Taken → Type 0) → AtMainReads acts out note P → AtMainReads (l.acts ++ acts) out note P
+    reads_after acts out note P reads =
+        main_reads_join l.acts acts [] out [] note P l.did.between.out_written l.did.between.note_written (no_main_reads l.acts [] [] P l.did.no_main_read)
+        (λ k is_read. subst P (ap (λ n. record { out = (before acts out note k).out; note = (before acts out note k).note; main_read = n }) (omega (arith, unread))) (reads k is_read))
+
+    opens_after : (docs : List Doc) (documents : documents_told old ≡ Some docs) (reads : Reads) (acts : List Act) (o : Outcome) → opens acts ≡ [] → OpensNames docs (loaded reads docs c).opened o (l.acts ++ acts)
+    opens_after docs documents reads acts o none =
+        let n = opens-all old mid docs documents reads x l o in
+        (n.0, n.1, opens-append l.acts acts ∙ ap (λ g. opens l.acts ++ g) none ∙ append-nil (opens l.acts) ∙ n.2, n.3)
+
+    pub loads_sheet : (docs : List Doc) (documents : documents_told old ≡ Some docs) (reads : Reads) (acts : List Act) (o : Outcome) (said : Option Answer) → (IsSome said → list_any is_doc_read acts ≡ false)
+        → IfSome (command_of words) (λ c. LoadsFirst reads docs c.sheet (OpensNames docs (loaded reads docs c).opened o) said (l.acts ++ acts))
+    loads_sheet docs documents reads acts o said alone =
+        for_command (λ c. LoadsFirst reads docs c.sheet (OpensNames docs (loaded reads docs c).opened o) said (l.acts ++ acts))
+        (loads-first old mid docs documents reads (Ok x) l o (opens-all old mid docs documents reads x l o) said (l.acts ++ acts) acts refl alone)
+
+    -- a result that is whole begins with its head
+    begins_result : (run : gives.Run) (out : List ℕ) → out ≡ result_of run → Begins head out
+    begins_result run out is = (_, sym is)
+
+    -- The document was passed through
+
+    pub ran-driven : c.mode ≡ Run → (pass : Pass) → pass_of x.sheet ≡ Some pass → (o : Outcome) → Drives c.limits pass c.sheet mid new o → DocumentsAreTaken → Runs words old new (Told o)
+    ran-driven plain pass passes o d taken = record {
+      acts = l.acts ++ d.acts;
+      out = d.out;
+      note = [];
+      between = between_after d.acts d.out [] d.between;
+      ended = d.ended;
+      once = once_after d.ended d.acts d.once;
+      ids = d.ids ∙ l.ids;
+      counts = counts_after o d.counts;
+      failed = failed_after o d.acts d.out d.failed;
+      refuses = not_refused o d.acts d.out d.failed;
+      takes = λ no_run. takes_parts taken pass o d.refused;
+      told = λ docs main documents told.
+          let run = run_on c.limits pass main true in
+          let result = d.told main (main_after main told) in
+          let takes = takes_parts taken pass o d.refused in
+          record {
+            answered = λ reads a e.
+                let names = (loaded reads docs c).opened in
+                let plan : Plan = record { limits = c.limits; pass = pass } in
+                let sheet_is : (loaded reads docs c).result ≡ Ok x.sheet = accepted-is old mid docs documents reads x l in
+                let asks : asked reads words docs ≡ Some plan =
+                ap (option_and_then (plan_of reads docs)) asked_for ∙ ap (λ m. plan_by m c.limits (option_and_then pass_of (accepted (loaded reads docs c).result))) plain
+                ∙ ap (λ r. plan_by Run c.limits (option_and_then pass_of (accepted r))) sheet_is ∙ ap (plan_by Run c.limits) passes in
+                let is : ran c.sheet names run ≡ a =
+                same_Some (ran c.sheet names run) a
+                (sym (ap (λ r. sheet_answer c names r main) sheet_is ∙ ap (λ m. mode_answer m c.limits c.sheet names (pass_of x.sheet) main) plain ∙ ap (λ p. mode_answer Run c.limits c.sheet names p main) passes)
+                ∙ sym (answer-is reads docs main) ∙ e) in
+                record {
+                  asks = reads_after d.acts d.out [] (Asks reads words docs main) (λ k is_read. (plan, asks, result.reads k is_read));
+                  prefix = subst (Begins d.out) (ap (λ x. x.out) is) result.prefix;
+                  ends = unless-map o ((d.out ≡ result_of run) × (o ≡ outcome_of c.sheet run.ending)) (IsAnswered d.out (Told o) a)
+                      (λ both. record {
+                        output = both.0 ∙ ap (λ x. x.out) is;
+                        line = ap line_of both.1 ∙ ap (λ x. x.note) is;
+                        code = ap status_of both.1 ∙ ap (λ x. x.status) is;
+                      }) result.ends;
+                  opened = subst (λ names. OpensNames docs names o (l.acts ++ d.acts)) (answer-opened reads docs main a e) (opens_after docs documents reads d.acts o d.opened);
+                  failed = never-on-doc o d.acts d.out d.failed (FailedOnSheet reads words docs (l.acts ++ d.acts));
+                  takes = takes;
+                  quiet = refl;
+                };
+            sheet = λ reads. loads_sheet docs documents reads d.acts o (answer reads words docs main) (λ is. d.no_doc_read);
+            failed = λ reads. never-on-doc o d.acts d.out d.failed (FailedOn reads words docs (l.acts ++ d.acts));
+            own = λ reads. for_command (λ c. IsOwn (accepted (loaded reads docs c).result) (Told o)) (own_so (accepted (loaded reads docs c).result) o takes);
+          };
+      main_told = λ main told.
+          let run = run_on c.limits pass main true in
+          let result = d.told main (main_after main told) in
+          record {
+            all = λ asks done. let to_end = result.all done in (to_end.0, omega (arith, main_read-append l.acts d.acts, unread, to_end.1));
+            begins = unless-map o ((d.out ≡ result_of run) × (o ≡ outcome_of c.sheet run.ending)) ((d.out ≡ []) ⊎ Begins head d.out) (λ both. inr (begins_result run d.out both.0)) result.ends;
+            asks = reads_after d.acts d.out [] HasHead (λ k is_read. (_, sym (result.reads k is_read).out));
+          };
+    }
+
+    -- The sample was
+
+    pub ran-sampled : (records : ℕ) → c.mode ≡ Sample records → (pass : Pass) → pass_of x.sheet ≡ Some pass → (end : RunEnd) → DrivesSample c.limits pass c.sheet records mid new end → DocumentsAreTaken → Runs words old new end
+    ran-sampled records sample pass passes end d taken =
+        let o : Outcome = outcome_in end in
+        let none : list_any is_main_read (l.acts ++ d.acts) ≡ false = list_any-append is_main_read l.acts d.acts ∙ ap (λ b. b || list_any is_main_read d.acts) l.did.no_main_read ∙ d.no_main_read in
+        let run = run_on c.limits pass (sample_of records) true in
         record {
-          reads = no_main_reads acts [] [] (Asks words docs main) did.no_main_read;
-          prefix = begins_nothing (answer words docs main).out;
-          ends = record { output = sym (ap (λ x. x.out) a); line = sym (ap (λ x. x.note) a); code = sym (ap (λ x. x.status) a) };
-          sheet = of-sheet docs (λ sheet. ReadsUndecided sheet 0 acts) documents did.undecided;
-          opened = elim did.opens [
-            | inl is ↦ opens-name acts Done docs main documents is (λ front same. same)
-            | inr other ↦ absurd other.1
-          ];
-          all = λ asks is. absurd (unasked Check alone refl asks);
-        };
-  }
+          acts = l.acts ++ d.acts;
+          out = d.out;
+          note = [];
+          between = between_after d.acts d.out [] d.between;
+          ended = false;
+          once = none_once (l.acts ++ d.acts) none;
+          ids = d.ids ∙ l.ids;
+          counts = counts_in end d.noted (counts_after o d.counts);
+          failed = failed_after o d.acts d.out d.failed;
+          refuses = refuses_in end d.noted (not_refused o d.acts d.out d.failed);
+          takes = λ no_run. takes_parts taken pass o d.refused;
+          told = λ docs main documents told.
+              let takes = takes_parts taken pass o d.refused in
+              record {
+                answered = λ reads a e.
+                    let names = (loaded reads docs c).opened in
+                    let sheet_is : (loaded reads docs c).result ≡ Ok x.sheet = accepted-is old mid docs documents reads x l in
+                    let is : sampled c.sheet names records run ≡ a =
+                    same_Some (sampled c.sheet names records run) a
+                    (sym (ap (λ r. sheet_answer c names r main) sheet_is ∙ ap (λ m. mode_answer m c.limits c.sheet names (pass_of x.sheet) main) sample ∙ ap (λ p. mode_answer (Sample records) c.limits c.sheet names p main) passes)
+                    ∙ sym (answer-is reads docs main) ∙ e) in
+                    let said : Outcome → RunEnd = on_sample (summary_of records (result_of run)) in
+                    record {
+                      asks = no_main_reads (l.acts ++ d.acts) d.out [] (Asks reads words docs main) none;
+                      prefix = subst (Begins d.out) (ap (λ x. x.out) is) d.prefix;
+                      ends = unless-map o ((d.out ≡ result_of run) × (end ≡ on_sample (summary_of records d.out) (outcome_of c.sheet run.ending))) (IsAnswered d.out end a)
+                          (λ both.
+                          let told : end ≡ said (outcome_of c.sheet run.ending) = both.1 ∙ ap (λ b. on_sample (summary_of records b) (outcome_of c.sheet run.ending)) both.0 in
+                          record {
+                            output = both.0 ∙ ap (λ x. x.out) is;
+                            line = ap line_in told ∙ ap (λ x. x.note) is;
+                            code = ap status_in told ∙ status-on (summary_of records (result_of run)) (outcome_of c.sheet run.ending) ∙ ap (λ x. x.status) is;
+                          }) d.ends;
+                      opened = subst (λ names. OpensNames docs names o (l.acts ++ d.acts)) (answer-opened reads docs main a e) (opens_after docs documents reads d.acts o d.opened);
+                      failed = never-on-doc o d.acts d.out d.failed (FailedOnSheet reads words docs (l.acts ++ d.acts));
+                      takes = takes;
+                      quiet = refl;
+                    };
+                sheet = λ reads. loads_sheet docs documents reads d.acts o (answer reads words docs main) (λ is. d.no_doc_read);
+                failed = λ reads. never-on-doc o d.acts d.out d.failed (FailedOn reads words docs (l.acts ++ d.acts));
+                own = λ reads. for_command (λ c. IsOwn (accepted (loaded reads docs c).result) end) (own_in (accepted (loaded reads docs c).result) end (own_so (accepted (loaded reads docs c).result) o takes));
+              };
+          main_told = λ main told. record {
+            all = λ asks is. absurd (unasked (Sample records) sample refl asks);
+            begins = unless-map o ((d.out ≡ result_of run) × (end ≡ on_sample (summary_of records d.out) (outcome_of c.sheet run.ending))) ((d.out ≡ []) ⊎ Begins head d.out)
+                (λ both. inr (begins_result run d.out both.0)) d.ends;
+            asks = no_main_reads (l.acts ++ d.acts) d.out [] HasHead none;
+          };
+        } where
+          counts_in : (end : RunEnd) → (end ≡ Unnoted → ⊥) → CountsBy (outcome_in end) old new → CountsIn end old new
+          counts_in (Told o) some by = by
+          counts_in (Sampled s) some by = by
+          counts_in Unnoted some by = absurd (some refl)
 
-  -- the document was read through the engine
-  pub ran-driven : c.mode ≡ Run → (mid : Outside) (pass : Pass) (o : Outcome) (acts : List Act) → LoadAnswers (option_map (λ docs. document docs name) old.documents) name (Ok pass)
-      → LoadActs old mid doc sheet (Ok pass) acts → LoadCounts old mid (Ok pass) → Drives c.limits pass name mid new o → DocumentsAreTaken → Runs words old new (Told o)
-  ran-driven plain mid pass o acts answers did counts d taken = record {
-    acts = acts ++ d.acts;
-    out = d.out;
-    between = between_joins old mid new acts d.acts [] d.out [] [] did.between d.between;
-    ended = d.ended;
-    once = subst (EndOnce d.ended) (sym (main_gots-append acts d.acts ∙ ap (λ l. l ++ main_gots d.acts) (no_main_gots acts did.no_main_read))) d.once;
-    ids = ids;
-    counts = counts_after mid o (record { doc = counts.doc; main = counts.main; out = counts.out; note = counts.note }) d.counts;
-    failed = failed_after o acts d.acts d.out did.main_read d.failed;
-    refuses = not_refused o d.acts d.out d.failed;
-    takes = takes_parts taken pass o d.refused;
-    told = λ docs main documents told.
-        let run = run_on c.limits pass main true in
-        let a : answer words docs main ≡ ran name run =
-        answer-is docs main ∙ accepted_answer old.documents docs c main pass documents answers ∙ ap (λ m. mode_answer m c.limits name pass main) plain in
-        let plan : Plan = record { limits = c.limits; pass = pass } in
-        let asks : asked words docs ≡ Some plan =
-        ap (option_and_then (plan_of docs)) asked_for ∙ ap (λ m. plan_by m c.limits (option_and_then pass_of (document docs name))) plain
-        ∙ ap (plan_by Run c.limits) (accepted_asks old.documents docs name pass documents answers) in
-        let main_is : mid.to_come 0 ≡ Some main = did.between.main ∙ ap (λ n. option_map (λ bytes. drop n bytes) (old.to_come 0)) did.main_read ∙ ap (option_map (λ bytes. drop 0 bytes)) told in
-        let result = d.told main main_is in
-        record {
-          reads = main_reads_join acts d.acts [] d.out [] [] (Asks words docs main) did.between.out_written did.between.note_written
-              (no_main_reads acts [] [] (Asks words docs main) did.no_main_read)
-              (λ k is_read. (
-                plan,
-                asks,
-                subst (λ taken. IsSettledAt c.limits pass (take taken.main_read main) taken)
-                    (ap (λ n. record { out = (before d.acts d.out [] k).out; note = (before d.acts d.out [] k).note; main_read = n }) (omega (arith, did.main_read)))
-                    (result.reads k is_read),
-              ));
-          prefix = subst (Begins d.out) (sym (ap (λ x. x.out) a)) result.prefix;
-          ends = answered-by (answer words docs main) run d.out a result.ends;
-          sheet = of-sheet docs (λ sheet. ReadsUndecided sheet 0 (acts ++ d.acts)) documents
-              (map_some sheet (λ sheet. ReadsUndecided sheet 0 acts) (λ sheet. ReadsUndecided sheet 0 (acts ++ d.acts))
-              (λ bytes so_far. undecided-then bytes 0 acts d.acts so_far d.no_doc_read) did.undecided);
-          opened = elim did.opens [
-            | inl is ↦ opens-name (acts ++ d.acts) o docs main documents (opens-append acts d.acts ∙ ap (λ l. opens acts ++ l) d.opened ∙ append-nil (opens acts) ∙ is) (λ front same. unless o (front ≡ (answer words docs main).opened) same)
-            | inr other ↦ absurd other.1
-          ];
-          all = λ asks done. let to_end = result.all done in (to_end.0, omega (arith, main_read-append acts d.acts, did.main_read, to_end.1));
-        };
-  } where
-    answered-by : (a : Answer) (run : gives.Run) (out : List ℕ) → a ≡ ran name run
-        → UnlessFailed o ((out ≡ result_of run) × (o ≡ outcome_of name run.ending)) → UnlessFailed o (IsAnswered out (Told o) a)
-    answered-by a run out is ends = unless-map o ((out ≡ result_of run) × (o ≡ outcome_of name run.ending)) (IsAnswered out (Told o) a)
-        (λ both. record {
-          output = both.0 ∙ sym (ap (λ x. x.out) is);
-          line = ap line_of both.1 ∙ sym (ap (λ x. x.note) is);
-          code = ap status_of both.1 ∙ sym (ap (λ x. x.status) is);
-        }) ends
+          refuses_in : (end : RunEnd) → (end ≡ Unnoted → ⊥) → RefusesWords words (Told (outcome_in end)) → RefusesWords words end
+          refuses_in (Told o) some r = r
+          refuses_in (Sampled s) some r = r
+          refuses_in Unnoted some r = absurd (some refl)
 
-  -- the sample was run through the engine
-  pub ran-sampled : (records : ℕ) → c.mode ≡ Sample records → (mid : Outside) (pass : Pass) (end : RunEnd) (acts : List Act) → LoadAnswers (option_map (λ docs. document docs name) old.documents) name (Ok pass)
-      → LoadActs old mid doc sheet (Ok pass) acts → LoadCounts old mid (Ok pass) → DrivesSample c.limits pass name records mid new end → DocumentsAreTaken → Runs words old new end
-  ran-sampled records sample mid pass end acts answers did counts d taken =
-      let o : Outcome = outcome_in end in
-      let none : list_any is_main_read (acts ++ d.acts) ≡ false = list_any-append is_main_read acts d.acts ∙ ap (λ b. b || list_any is_main_read d.acts) did.no_main_read ∙ d.no_main_read in
-      record {
-        acts = acts ++ d.acts;
-        out = d.out;
-        between = between_joins old mid new acts d.acts [] d.out [] [] did.between d.between;
-        ended = false;
-        once = none_once (acts ++ d.acts) none;
-        ids = ids;
-        counts = counts_after mid o (record { doc = counts.doc; main = counts.main; out = counts.out; note = counts.note }) d.counts;
-        failed = failed_after o acts d.acts d.out did.main_read d.failed;
-        refuses = not_refused o d.acts d.out d.failed;
-        takes = takes_parts taken pass o d.refused;
-        told = λ docs main documents told.
-            let run = run_on c.limits pass (sample_of records) true in
-            let a : answer words docs main ≡ sampled name records run =
-            answer-is docs main ∙ accepted_answer old.documents docs c main pass documents answers ∙ ap (λ m. mode_answer m c.limits name pass main) sample in
-            record {
-              reads = no_main_reads (acts ++ d.acts) d.out [] (Asks words docs main) none;
-              prefix = subst (Begins d.out) (sym (ap (λ x. x.out) a)) d.prefix;
-              ends = answered-by (answer words docs main) a;
-              sheet = of-sheet docs (λ sheet. ReadsUndecided sheet 0 (acts ++ d.acts)) documents
-                  (map_some sheet (λ sheet. ReadsUndecided sheet 0 acts) (λ sheet. ReadsUndecided sheet 0 (acts ++ d.acts))
-                  (λ bytes so_far. undecided-then bytes 0 acts d.acts so_far d.no_doc_read) did.undecided);
-              opened = elim did.opens [
-                | inl is ↦ opens-name (acts ++ d.acts) o docs main documents (opens-append acts d.acts ∙ ap (λ l. opens acts ++ l) d.opened ∙ append-nil (opens acts) ∙ is) (λ front same. unless o (front ≡ (answer words docs main).opened) same)
-                | inr other ↦ absurd other.1
-              ];
-              all = λ asks is. absurd (unasked (Sample records) sample refl asks);
-            };
-      } where
-        answered-by : (a : Answer) → a ≡ sampled name records (run_on c.limits pass (sample_of records) true) → UnlessFailed (outcome_in end) (IsAnswered d.out end a)
-        answered-by a is =
-            let run = run_on c.limits pass (sample_of records) true in
-            let said : Outcome → RunEnd = on_sample (summary_of records (result_of run)) in
-            unless-map (outcome_in end) ((d.out ≡ result_of run) × (end ≡ on_sample (summary_of records d.out) (outcome_of name run.ending))) (IsAnswered d.out end a)
-            (λ both.
-            let told : end ≡ said (outcome_of name run.ending) = both.1 ∙ ap (λ l. on_sample (summary_of records l) (outcome_of name run.ending)) both.0 in
-            record {
-              output = both.0 ∙ sym (ap (λ x. x.out) is);
-              line = ap line_in told ∙ sym (ap (λ x. x.note) is);
-              code = ap (λ e. status_of (outcome_in e)) told ∙ ap status_of (outcome-on (summary_of records (result_of run)) (outcome_of name run.ending)) ∙ sym (ap (λ x. x.status) is);
-            }) d.ends
+          own_in : (sheet : Option model.Sheet) (end : RunEnd) → IsOwn sheet (Told (outcome_in end)) → IsOwn sheet end
+          own_in sheet (Told o) h = h
+          own_in sheet (Sampled s) h = tt
+          own_in sheet Unnoted h = tt
+
+          status-on : (s : Summary) (o : Outcome) → status_in (on_sample s o) ≡ status_of o
+          status-on s Done = refl
+          status-on s (Stopped file code offset) = refl
+          status-on s Usage = refl
+          status-on s (Sheet reason) = refl
+          status-on s (Xml file fault) = refl
+          status-on s (Host file fault offset) = refl
+          status-on s (Fuel file offset) = refl
+          status-on s Memory = refl

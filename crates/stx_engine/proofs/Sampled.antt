@@ -22,17 +22,19 @@ use Rattle.fault_report.specs.declared.outcome.HostFault.TheVariants as fault
 use Rattle.fault_report.specs.declared.outcome.Outcome.{Outcome}
 use Rattle.fault_report.specs.declared.outcome.Outcome.TheVariants.{Done, Run, Usage, Sheet, Xml, Host, Fuel, Memory}
 use Rattle.stx_engine.specs.Answer.{outcome_of, result_of, run_on}
-use Rattle.stx_engine.specs.Driving.{CountsBy, DrivesSample, FailedAt, FailsBy, RefusesSome, UnlessFailed}
+use Rattle.sheet_runs.specs.Counts.{CountsBy, FailsBy}
+use Rattle.sheet_runs.specs.Writing.{counted}
+use Rattle.stx_engine.specs.Driving.{DrivesSample, FailedAt, RefusesSome, UnlessFailed}
 use Rattle.stx_engine.specs.Engine.{Means, Pumps, more, more_of}
 use Rattle.stx_engine.specs.More.{Given}
-use Rattle.stx_engine.specs.RunEnd.{counted, on_sample, outcome_in, sample_of, summary_of}
+use Rattle.stx_engine.specs.RunEnd.{on_sample, outcome_in, sample_of, summary_of}
 use Rattle.stx_engine.specs.declared.engine.Engine.{Engine}
 use Rattle.stx_engine.specs.declared.engine.Piece.TheVariants.{Start, End}
 use Rattle.stx_engine.specs.declared.engine.Pumped.{Pumped}
 use Rattle.stx_engine.specs.declared.engine.Pumped.TheVariants as pumped
 use Rattle.stx_engine.specs.declared.pass.Pass.{Pass}
 use Rattle.stx_engine.specs.declared.run_end.RunEnd.{RunEnd}
-use Rattle.stx_engine.specs.declared.run_end.RunEnd.TheVariants.{Told, Sampled}
+use Rattle.stx_engine.specs.declared.run_end.RunEnd.TheVariants.{Told, Sampled, Unnoted}
 use Rattle.stx_engine.specs.declared.run_end.Summary.{Summary}
 use Rattle.stx_engine.proofs.Driven.{Goes, StopsBy, begins-result, counted_more, ends-so, fails-by, goes-piece, is_done, known, no_doc_read-writes, opens-writes, stops-by, wrote-counts}
 use Rattle.stx_engine.proofs.Prefixes.{begins_front}
@@ -52,6 +54,17 @@ outcome-on s (Xml file fault) = refl
 outcome-on s (Host file fault offset) = refl
 outcome-on s (Fuel file offset) = refl
 outcome-on s Memory = refl
+
+-- no run that ends so has failed on `Note`
+never-unnoted : (s : Summary) (o : Outcome) → on_sample s o ≡ Unnoted → ⊥
+never-unnoted s Done e = cc
+never-unnoted s (Run file code offset) e = cc
+never-unnoted s Usage e = cc
+never-unnoted s (Sheet reason) e = cc
+never-unnoted s (Xml file fault) e = cc
+never-unnoted s (Host file fault offset) e = cc
+never-unnoted s (Fuel file offset) e = cc
+never-unnoted s Memory e = cc
 
 -- what was read and written is told of a run that is done alone
 same-end : (s t : Summary) (o : Outcome) → (o ≡ Done → s ≡ t) → on_sample s o ≡ on_sample t o
@@ -241,6 +254,7 @@ module _ (limits : Limits) (pass : Pass) (start : Engine) (records : ℕ) where
           prefix = begins_front (d.out ++ bytes) (drop taken next) (result_of (run_on limits pass document true))
               (subst (λ l. Begins l (result_of (run_on limits pass document true))) (ap (λ l. d.out ++ l) (sym (take-append-drop taken next)) ∙ sym (append_assoc d.out bytes (drop taken next)))
               (begins-result limits pass start means document d.handed (d.out ++ next) e p d.goes));
+          noted = λ e. cc;
           ends = unless-fails fault.Write offset
               ((out ≡ result_of (run_on limits pass document true)) × (Told o ≡ on_sample (summary_of records out) (outcome_of start.sheet (run_on limits pass document true).ending))) o told_by;
         }
@@ -265,6 +279,7 @@ module _ (limits : Limits) (pass : Pass) (start : Engine) (records : ℕ) where
       refused = tt;
       prefix = begins-here old now e left input written p d;
       ends = tt;
+      noted = λ e. cc;
     }
 
     -- the engine is done, or was stopped
@@ -297,6 +312,7 @@ module _ (limits : Limits) (pass : Pass) (start : Engine) (records : ℕ) where
           failed = subst (λ y. FailedAt y acts d.out) outcome_is at_end.1;
           refused = subst (RefusesSome limits pass) outcome_is at_end.2;
           prefix = begins-here old now e left input written p d;
+          noted = λ unnoted. never-unnoted s o (sym end_is ∙ unnoted);
           ends = subst (λ y. UnlessFailed y Q) outcome_is
               (unless-map x P Q (λ both. (both.0, told ∙ ap (on_sample t) both.1)) (ends-so limits pass start means e document d.handed d.out p goes last));
         }

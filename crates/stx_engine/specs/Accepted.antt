@@ -1,5 +1,5 @@
 -- Documents whose copies a result accepts.
-use Rattle.std.specs.Prelude.{◌≡◌, ◌≢◌, ℕ, ◌-◌, ◌≤◌, Bool, true, ◌&&◌, nat_lt, List}
+use Rattle.std.specs.Prelude.{◌≡◌, ◌≢◌, ℕ, ◌-◌, ◌≤◌, Bool, true, ◌&&◌, nat_lt, List, Some}
 use Rattle.std.specs.List.{list_all}
 use Rattle.stx_base.specs.Course.{Begins}
 use Rattle.stx_base.specs.declared.limits.Limits.{Limits}
@@ -8,7 +8,8 @@ use Rattle.result_writer.specs.Allowed.{are_chars, is_good_attribute, is_good_co
 use Rattle.result_writer.specs.declared.fault.ResultFault.{ResultFault}
 use Rattle.xml_events.specs.Tree.{Leaf, Chars, CData, Comment, Pi, Element, Forest, End, Cut, Single, Nested}
 use Rattle.stx_host.specs.declared.act.Doc.{Doc}
-use Rattle.stx_engine.specs.Answer.{answer, result_of, run_of, run_on}
+use Rattle.sheet_loader.specs.Values.{Reads}
+use Rattle.stx_engine.specs.Answer.{Answer, answer, result_of, run_of, run_on}
 use Rattle.stx_engine.specs.Meaning.{Refused, outcome}
 use Rattle.stx_engine.specs.Nesting.{EndsHaveStarts}
 use Rattle.stx_engine.specs.Output.{output}
@@ -68,8 +69,8 @@ DocumentsNest =
 
 -- So it is with all that the program writes.
 abbrev pub AnswersNest : Type 0
-AnswersNest = (words : List (List ℕ)) (docs : List Doc) (main front : List ℕ) → Begins front (answer words docs main).out → EndsHaveStarts front
+AnswersNest = (reads : Reads) (words : List (List ℕ)) (docs : List Doc) (main front : List ℕ) (a : Answer) → answer reads words docs main ≡ Some a → Begins front a.out → EndsHaveStarts front
 
 -- So that no answer is that the result refuses a part.
 abbrev pub AnswersAreTaken : Type 0
-AnswersAreTaken = (words : List (List ℕ)) (docs : List Doc) (main : List ℕ) → (answer words docs main).status ≢ 1
+AnswersAreTaken = (reads : Reads) (words : List (List ℕ)) (docs : List Doc) (main : List ℕ) (a : Answer) → answer reads words docs main ≡ Some a → a.status ≢ 1

@@ -1,6 +1,6 @@
 -- What the program answers: words, documents and a main document in, and what it writes, its status and the names that it
 -- opens out. Nothing here knows in which pieces the bytes come.
-use Rattle.std.specs.Prelude.{ℕ, Bool, true, false, List, [], ◌∷◌, Option, Some, None, option_map, codes}
+use Rattle.std.specs.Prelude.{ℕ, Bool, true, false, List, [], ◌∷◌, Option, Some, None, option_map, codes, Result, Ok, Err}
 use Rattle.std.specs.Option.{option_and_then, option_map_or}
 use Rattle.command_words.specs.Said.{Word}
 use Rattle.command_words.specs.Words.{command_of}
@@ -10,8 +10,8 @@ use Rattle.command_words.specs.declared.command.Mode.TheVariants.{Run, Check, Sa
 use Rattle.stx_base.specs.Course.{Answer as Came, Given, Over, Unknown}
 use Rattle.stx_base.specs.declared.fault.RunCode.{RunCode}
 use Rattle.stx_base.specs.declared.fault.RunCode.TheVariants as run
-use Rattle.stx_base.specs.declared.fault.SheetCode.{SheetCode}
-use Rattle.stx_base.specs.declared.fault.SheetCode.TheVariants as code
+use Rattle.stx_base.specs.StandardLimits.{standard_limits}
+use Rattle.stx_base.specs.declared.fault.SheetFault.{SheetFault}
 use Rattle.stx_base.specs.declared.limits.Limits.{Limits}
 use Rattle.stx_base.specs.declared.part.Part.{Part}
 use Rattle.stx_host.specs.Outside.{document}
@@ -28,7 +28,10 @@ use Rattle.stx_engine.specs.Meaning.{Said, Put, Ending, Complete, Unready, Refus
 use Rattle.stx_engine.specs.Output.{output}
 use Rattle.stx_engine.specs.Passed.{Run as Gives}
 use Rattle.stx_engine.specs.RunEnd.{line_in, on_sample, sample_of, summary_of}
-use Rattle.stx_engine.specs.Sheets.{pass_of}
+use Rattle.sheet_loader.specs.Files.{Loads, load}
+use Rattle.sheet_loader.specs.Values.{Reads}
+use Rattle.sheet_model.specs.declared.sheet.Sheet as model
+use Rattle.stx_engine.specs.Plain.{pass_of}
 
 -- the parts that were put
 abbrev pub parts_put : List Said → List Part
@@ -96,54 +99,65 @@ is_run mode = false
 abbrev pub asks_run : (words : List Word) → Bool
 asks_run words = option_map_or (λ c. is_run c.mode) (command_of words) false
 
+-- what is to be done is a run, on the main document or on the sample
+abbrev pub is_any_run : Mode → Bool
+is_any_run Check = false
+is_any_run mode = true
+
+-- the words ask for one
+abbrev pub asks_any_run : (words : List Word) → Bool
+asks_any_run words = option_map_or (λ c. is_any_run c.mode) (command_of words) false
+
 -- what a run is made with
 pub record Plan : Type 0 where
   pub limits : Limits
   pub pass : Pass
 
--- the run on the main document that is asked for, where the words and the sheet are accepted
+-- what comes of the sheet that a command names: the names of its files, in the order in which they are opened, and the sheet or its
+-- first fault
+abbrev pub loaded : Reads → List Doc → Command → Loads
+loaded reads docs c = load reads standard_limits (document docs) c.sheet
+
+abbrev pub accepted : Result model.Sheet SheetFault → Option model.Sheet
+accepted (Ok sheet) = Some sheet
+accepted (Err fault) = None
+
+-- the run on the main document that is asked for, where the words and the sheet are accepted, and the sheet passes documents through
 abbrev pub plan_by : Mode → Limits → Option Pass → Option Plan
 plan_by Run limits pass = option_map (λ pass. record { limits = limits; pass = pass }) pass
 plan_by mode limits pass = None
 
-abbrev pub plan_of : List Doc → Command → Option Plan
-plan_of docs c = plan_by c.mode c.limits (option_and_then pass_of (document docs c.sheet))
+abbrev pub plan_of : Reads → List Doc → Command → Option Plan
+plan_of reads docs c = plan_by c.mode c.limits (option_and_then pass_of (accepted (loaded reads docs c).result))
 
-abbrev pub asked : (words : List Word) → List Doc → Option Plan
-asked words docs = option_and_then (plan_of docs) (command_of words)
-
--- a sheet is refused at its beginning
-abbrev pub refused : (name : List ℕ) → SheetCode → Answer
-refused name reason = answered (Sheet (record { file = name; code = reason; offset = 0 })) [] (name ∷ [])
+abbrev pub asked : Reads → (words : List Word) → List Doc → Option Plan
+asked reads words docs = option_and_then (plan_of reads docs) (command_of words)
 
 -- what a run on a document answers
-abbrev pub ran : (name : List ℕ) → Gives → Answer
-ran name run = answered (outcome_of name run.ending) (result_of run) (name ∷ [])
+abbrev pub ran : (name : List ℕ) → (opened : List (List ℕ)) → Gives → Answer
+ran name opened run = answered (outcome_of name run.ending) (result_of run) opened
 
 -- what a run on the sample answers: where it is done it says what it read and wrote
-abbrev pub sampled : (name : List ℕ) → (records : ℕ) → Gives → Answer
-sampled name records run =
-    record (ran name run) { note = line_in (on_sample (summary_of records (result_of run)) (outcome_of name run.ending)) }
+abbrev pub sampled : (name : List ℕ) → (opened : List (List ℕ)) → (records : ℕ) → Gives → Answer
+sampled name opened records run =
+    record (ran name opened run) { note = line_in (on_sample (summary_of records (result_of run)) (outcome_of name run.ending)) }
 
--- what is answered with a sheet that is accepted
-abbrev pub mode_answer : Mode → Limits → (name : List ℕ) → Pass → (main : List ℕ) → Answer
-mode_answer Run limits name pass main = ran name (run_on limits pass main true)
-mode_answer Check limits name pass main = answered Done [] (name ∷ [])
-mode_answer (Sample records) limits name pass main = sampled name records (run_on limits pass (sample_of records) true)
+-- what is answered with a sheet that is accepted: to a run only where it passes documents through
+abbrev pub mode_answer : Mode → Limits → (name : List ℕ) → (opened : List (List ℕ)) → Option Pass → (main : List ℕ) → Option Answer
+mode_answer Check limits name opened pass main = Some (answered Done [] opened)
+mode_answer Run limits name opened pass main = option_map (λ pass. ran name opened (run_on limits pass main true)) pass
+mode_answer (Sample records) limits name opened pass main =
+    option_map (λ pass. sampled name opened records (run_on limits pass (sample_of records) true)) pass
 
-abbrev pub run_answer : Command → Option Pass → (main : List ℕ) → Answer
-run_answer c None main = refused c.sheet code.NotBuilt
-run_answer c (Some pass) main = mode_answer c.mode c.limits c.sheet pass main
+abbrev pub sheet_answer : Command → (opened : List (List ℕ)) → Result model.Sheet SheetFault → (main : List ℕ) → Option Answer
+sheet_answer c opened (Err fault) main = Some (answered (Sheet fault) [] opened)
+sheet_answer c opened (Ok sheet) main = mode_answer c.mode c.limits c.sheet opened (pass_of sheet) main
 
--- the same by the sheet's bytes, if there is one
-abbrev pub sheet_answer : Command → Option (List ℕ) → (main : List ℕ) → Answer
-sheet_answer c None main = refused c.sheet code.NoDocument
-sheet_answer c (Some bytes) main = run_answer c (pass_of bytes) main
+abbrev pub words_answer : Reads → Option Command → List Doc → (main : List ℕ) → Option Answer
+words_answer reads None docs main = Some (answered Usage [] [])
+words_answer reads (Some c) docs main = let l = loaded reads docs c in sheet_answer c l.opened l.result main
 
-abbrev pub words_answer : Option Command → List Doc → (main : List ℕ) → Answer
-words_answer None docs main = answered Usage [] []
-words_answer (Some c) docs main = sheet_answer c (document docs c.sheet) main
-
--- the answer: words and documents are lists of bytes, texts and names lists of characters
-abbrev pub answer : (words : List Word) → List Doc → (main : List ℕ) → Answer
-answer words docs main = words_answer (command_of words) docs main
+-- The answer, but to a run of a sheet that does more than to pass documents through: words and documents are lists of bytes, texts and names
+-- lists of characters.
+abbrev pub answer : Reads → (words : List Word) → List Doc → (main : List ℕ) → Option Answer
+answer reads words docs main = words_answer reads (command_of words) docs main

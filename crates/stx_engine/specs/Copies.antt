@@ -8,9 +8,9 @@ use Rattle.result_writer.specs.Nodes.{Nodes, parts_of, written}
 use Rattle.result_writer.specs.declared.escape.Context.TheVariants.{Content}
 use Rattle.xml_events.specs.Document.{doc}
 use Rattle.xml_events.specs.Tree.{Chars, CData, Comment, Pi, Forest, End, Cut, Single, Nested}
+use Rattle.run_engine.specs.Run.{head}
 use Rattle.stx_engine.specs.Answer.{result_of, run_of, run_on}
 use Rattle.stx_engine.specs.Meaning.{Complete, outcome}
-use Rattle.stx_engine.specs.Output.{head}
 use Rattle.stx_engine.specs.Scope.{scope_within}
 use Rattle.stx_engine.specs.declared.pass.Pass.TheVariants as pass
 

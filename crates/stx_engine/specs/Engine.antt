@@ -8,10 +8,10 @@ use Rattle.result_writer.specs.Target.{text}
 use Rattle.xml_tokens.specs.Reader.{Reader, fed}
 use Rattle.xml_events.specs.Source.{future}
 use Rattle.xml_events.specs.Tree.{Need, Bad}
+use Rattle.run_engine.specs.Run.{head}
 use Rattle.stx_engine.specs.Answer.{code_of, run_on}
 use Rattle.stx_engine.specs.Meaning.{Complete, Unready, Refused}
 use Rattle.stx_engine.specs.More.{Given, ahead, given_on}
-use Rattle.stx_engine.specs.Output.{head}
 use Rattle.stx_engine.specs.declared.engine.Engine.{Engine}
 use Rattle.stx_engine.specs.declared.engine.Piece.{Piece}
 use Rattle.stx_engine.specs.declared.engine.Piece.TheVariants.{Start, Bytes, End}

@@ -1,10 +1,11 @@
 -- What a run gives of a document's first bytes stays so.
-use Rattle.std.specs.Prelude.{◌≡◌, ◌≢◌, ℕ, Bool, false, List, ◌++◌, Some}
+use Rattle.std.specs.Prelude.{◌≡◌, ◌≢◌, ℕ, Bool, false, List, ◌++◌, Some, IfSome}
 use Rattle.stx_base.specs.Course.{Begins}
 use Rattle.stx_base.specs.declared.limits.Limits.{Limits}
 use Rattle.stx_host.specs.declared.act.Doc.{Doc}
 use Rattle.xml_events.specs.Growing.{Grows}
 use Rattle.xml_events.specs.Tree.{Forest, Need}
+use Rattle.sheet_loader.specs.Values.{Reads}
 use Rattle.stx_engine.specs.Answer.{Plan, answer, asked, result_of, run_of, run_on, settled}
 use Rattle.stx_engine.specs.Meaning.{Unready, outcome}
 use Rattle.stx_engine.specs.Output.{output}
@@ -41,6 +42,6 @@ RunStays =
 -- So it is with the program's whole answer, where a plain run is asked for.
 abbrev pub AnswerStays : Type 0
 AnswerStays =
-    (words : List (List ℕ)) (docs : List Doc) (plan : Plan) (bytes more : List ℕ)
-    → asked words docs ≡ Some plan
-    → Begins (settled plan.limits plan.pass bytes) (answer words docs (bytes ++ more)).out
+    (reads : Reads) (words : List (List ℕ)) (docs : List Doc) (plan : Plan) (bytes more : List ℕ)
+    → asked reads words docs ≡ Some plan
+    → IfSome (answer reads words docs (bytes ++ more)) (λ a. Begins (settled plan.limits plan.pass bytes) a.out)

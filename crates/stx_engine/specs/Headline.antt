@@ -1,24 +1,38 @@
 -- What the program promises of a whole call.
-use Rattle.std.specs.Prelude.{◌≡◌, ◌≢◌, ◌↔◌, ℕ, ◌<◌, ◌==◌, ◌⊎◌, Bool, true, IsTrue, List, [], ◌∷◌, length, map, Some, None, IsSome}
+use Rattle.std.specs.Prelude.{◌≡◌, ◌≢◌, ◌↔◌, ℕ, ◌<◌, ◌==◌, ◌⊎◌, Bool, true, false, IsTrue, List, [], ◌∷◌, ◌++◌, length, map, Some, None, IsSome, IfSome}
 use Rattle.std.specs.List.{list_any}
 use Rattle.stx_base.specs.Course.{Begins}
 use Rattle.stx_host.specs.Before.{AtMainReads, main_read, since}
 use Rattle.stx_host.specs.Outside.{Outside, Rose, place}
 use Rattle.stx_host.specs.declared.act.Act.{Act}
 use Rattle.stx_host.specs.declared.act.Doc.{Doc}
-use Rattle.stx_engine.specs.Answer.{Answer, asks_run, sheet_named}
-use Rattle.stx_engine.specs.Driving.{EndOnce, main_gots}
+use Rattle.run_engine.specs.Run.{head}
+use Rattle.stx_engine.specs.Answer.{Answer, accepted, answer, asks_any_run, asks_run, loaded, sheet_named}
+use Rattle.stx_engine.specs.Driving.{FailedAt}
+use Rattle.sheet_runs.specs.Reading.{EndOnce, main_gots}
 use Rattle.fault_report.specs.Line.{line_of, status_of}
-use Rattle.stx_engine.specs.Loading.{opens}
-use Rattle.stx_engine.specs.Running.{Asks, FailedIn, ReadsSheet}
+use Rattle.command_words.specs.Words.{command_of}
+use Rattle.sheet_files.specs.Acts.{opens}
+use Rattle.sheet_loader.specs.Values.{Reads}
+use Rattle.stx_engine.specs.RunEnd.{line_in, status_in}
+use Rattle.stx_engine.specs.Running.{Asks, FailedOn, FailedOnSheet, HasHead, IsOwn, LoadsFirst}
+use Rattle.stx_engine.specs.declared.run_end.RunEnd.{RunEnd}
 use Rattle.fault_report.specs.declared.outcome.HostFault.{HostFault}
 use Rattle.fault_report.specs.declared.outcome.HostFault.TheVariants as fault
 use Rattle.fault_report.specs.declared.outcome.Outcome.{Outcome}
 use Rattle.fault_report.specs.declared.outcome.Outcome.TheVariants.{Host, Memory}
 
--- the host tells its documents, its main document, its log and its lanes
+-- the host tells its main document, its log and its lanes
+pub record TellsMain (o : Outside) (main : List ℕ) : Type 0 where
+  pub main_document : o.to_come 0 ≡ Some main
+  pub log : IsSome o.log
+  pub out : IsSome o.out
+  pub note : IsSome o.note
+
+-- and its documents, and which ids are open
 pub record Tells (o : Outside) (docs : List Doc) (main : List ℕ) : Type 0 where
   pub documents : o.documents ≡ Some docs
+  pub open_ids : IsSome o.open_ids
   pub main_document : o.to_come 0 ≡ Some main
   pub log : IsSome o.log
   pub out : IsSome o.out
@@ -40,12 +54,22 @@ GivesAnswer old new status a =
     (SomeRose old new → ⊥) → status ≢ 7 → (since old.out new.out ≡ a.out) × (since old.note new.note ≡ a.note) × (status ≡ a.status)
 
 -- whenever the main document is read, all that the bytes read so far settle was written, and no more; and more is needed
-abbrev pub AsksSettled : (old new : Outside) → (words : List (List ℕ)) → List Doc → (main : List ℕ) → Type 0
-AsksSettled old new words docs main = AtMainReads (since old.log new.log) (since old.out new.out) (since old.note new.note) (Asks words docs main)
+abbrev pub AsksSettled : (old new : Outside) → Reads → (words : List (List ℕ)) → List Doc → (main : List ℕ) → Type 0
+AsksSettled old new reads words docs main = AtMainReads (since old.log new.log) (since old.out new.out) (since old.note new.note) (Asks reads words docs main)
 
--- the sheet is read no further than it takes to decide whether it is accepted
-abbrev pub DecidesSheet : (old new : Outside) → (words : List (List ℕ)) → List Doc → Type 0
-DecidesSheet old new words docs = ReadsSheet words docs (since old.log new.log)
+-- where the status is neither 5 nor 7 nothing is written, or what is written begins with the head of a result; and before the main document is
+-- read it was written
+pub record BeginsWell (old new : Outside) (status : ℕ) : Type 0 where
+  pub out : status ≢ 5 → status ≢ 7 → (since old.out new.out ≡ []) ⊎ Begins head (since old.out new.out)
+  pub reads : AtMainReads (since old.log new.log) (since old.out new.out) (since old.note new.note) HasHead
+
+-- Where no count of faults rose and memory sufficed, the last line on `Note`, behind the messages, is that of an end with this status; one
+-- that stopped at an instruction stopped in a file of the sheet.
+abbrev pub EndsInLine : (old new : Outside) → Reads → (words : List (List ℕ)) → List Doc → (status : ℕ) → Type 0
+EndsInLine old new reads words docs status =
+    (SomeRose old new → ⊥) → status ≢ 7
+    → (messages : List ℕ) × (end : RunEnd) × (status_in end ≡ status) × (since old.note new.note ≡ messages ++ line_in end)
+    × IfSome (command_of words) (λ c. IsOwn (accepted (loaded reads docs c).result) end)
 
 -- where the status of a run on the main document is 0 it was read to its end; once its end is known it isn't read any more
 abbrev pub ReadsToEnd : (old new : Outside) → (words : List (List ℕ)) → (main : List ℕ) → (status : ℕ) → Type 0
@@ -60,9 +84,21 @@ abbrev pub OpensFirst : List Doc → (names : List (List ℕ)) → (status : ℕ
 OpensFirst docs names status acts =
     (front : List (List ℕ)) × Begins front names × (opens acts ≡ map (place docs) front) × (status ≢ 5 → status ≢ 7 → front ≡ names)
 
--- the statuses there are: none is that the result refuses a part; 5 comes only where a count rose, and where one became greater the status is 5 or 7
-pub record IsStatus (old new : Outside) (status : ℕ) : Type 0 where
-  pub some : IsTrue (list_any (λ s. s == status) (0 ∷ 2 ∷ 3 ∷ 4 ∷ 5 ∷ 7 ∷ []))
+-- the files of the sheet are opened and read before all else, in their order, and no further than it takes to decide it: first ones of them, and
+-- all where the status is neither 5 nor 7
+abbrev pub ReadsSheetFirst : (old new : Outside) → Reads → (words : List (List ℕ)) → List Doc → (main : List ℕ) → (status : ℕ) → Type 0
+ReadsSheetFirst old new reads words docs main status =
+    IfSome (command_of words) (λ c. LoadsFirst reads docs c.sheet (OpensFirst docs (loaded reads docs c).opened status) (answer reads words docs main) (since old.log new.log))
+
+-- the statuses there are where the answer is said: none is that the result refuses a part, or that fuel is spent
+abbrev pub IsPlainStatus : (status : ℕ) → Type 0
+IsPlainStatus status = IsTrue (list_any (λ s. s == status) (0 ∷ 2 ∷ 3 ∷ 4 ∷ 5 ∷ 7 ∷ []))
+
+-- the statuses there are: that the result refuses a part, or that fuel is spent, comes of runs alone; 5 comes only where a count rose, and
+-- where one became greater the status is 5 or 7
+pub record IsStatus (old new : Outside) (words : List (List ℕ)) (status : ℕ) : Type 0 where
+  pub some : status < 8
+  pub plain : asks_any_run words ≡ false → IsPlainStatus status
   pub five : status ≡ 5 → SomeRose old new
   pub greater : SomeGreater old new → (status ≡ 5) ⊎ (status ≡ 7)
 
@@ -76,19 +112,31 @@ RoseFor fault.Doc old new = Rose old.doc_faults new.doc_faults
 RoseFor fault.Read old new = Rose old.main_faults new.main_faults
 RoseFor fault.Write old new = Rose old.out_faults new.out_faults
 
--- an outcome that the host or want of memory brings: of a fault its count rose, and it is told with its place
-abbrev pub IsFailure : (words : List (List ℕ)) → (old new : Outside) → List Act → (out : List ℕ) → Outcome → Type 0
-IsFailure words old new acts out (Host file fault offset) = RoseFor fault old new × FailedIn words (Host file fault offset) acts out
-IsFailure words old new acts out Memory = Unit {0}
-IsFailure words old new acts out outcome = ⊥
+-- An outcome that the host or want of memory brings: of a fault its count rose, and it is told with its place. On a document that isn't the
+-- main one it is a place of which this holds.
+abbrev pub IsFailure : (OnDoc : (file : List ℕ) → (offset : ℕ) → Type 0) → (old new : Outside) → List Act → (out : List ℕ) → Outcome → Type 0
+IsFailure OnDoc old new acts out (Host file fault.Doc offset) = RoseFor fault.Doc old new × OnDoc file offset
+IsFailure OnDoc old new acts out (Host file fault offset) = RoseFor fault old new × FailedAt (Host file fault offset) acts out
+IsFailure OnDoc old new acts out Memory = Unit {0}
+IsFailure OnDoc old new acts out outcome = ⊥
 
--- What `Note` took where the status is 5 or 7: the line of such an outcome with this status. Where `Note` itself failed it is
--- a beginning of such a line, or, with the status 5, of the answer's line.
-pub record NotesFailure (words : List (List ℕ)) (old new : Outside) (acts : List Act) (out note : List ℕ) (status : ℕ) (a : Answer) : Type 0 where
-  pub whole : (Rose old.note_faults new.note_faults → ⊥) → (o : Outcome) × IsFailure words old new acts out o × (status_of o ≡ status) × (note ≡ line_of o)
-  pub cut : Rose old.note_faults new.note_faults → ((status ≡ 5) × Begins note a.note) ⊎ ((o : Outcome) × IsFailure words old new acts out o × (status_of o ≡ status) × Begins note (line_of o))
+-- What `Note` took where the status is 5 or 7 and the answer is said: the line of such an outcome with this status. Where `Note` itself failed
+-- it is a beginning of such a line, or, with the status 5, of the answer's line.
+pub record NotesFailure (Is : Outcome → Type 0) (old new : Outside) (note : List ℕ) (status : ℕ) (a : Answer) : Type 0 where
+  pub whole : (Rose old.note_faults new.note_faults → ⊥) → (o : Outcome) × Is o × (status_of o ≡ status) × (note ≡ line_of o)
+  pub cut : Rose old.note_faults new.note_faults → ((status ≡ 5) × Begins note a.note) ⊎ ((o : Outcome) × Is o × (status_of o ≡ status) × Begins note (line_of o))
 
--- the same of what the host tells
-abbrev pub NotesAfterFailure : (old new : Outside) → (words : List (List ℕ)) → (status : ℕ) → Answer → Type 0
-NotesAfterFailure old new words status a =
-    (status ≡ 5) ⊎ (status ≡ 7) → NotesFailure words old new (since old.log new.log) (since old.out new.out) (since old.note new.note) status a
+-- the same of what the host tells: on a document that isn't the main one it failed where the sheet was read
+abbrev pub NotesAfterFailure : (old new : Outside) → Reads → (words : List (List ℕ)) → List Doc → (status : ℕ) → Answer → Type 0
+NotesAfterFailure old new reads words docs status a =
+    let acts = since old.log new.log in
+    (status ≡ 5) ⊎ (status ≡ 7)
+    → NotesFailure (IsFailure (FailedOnSheet reads words docs acts) old new acts (since old.out new.out)) old new (since old.note new.note) status a
+
+-- What it took whatever the sheet does, where `Note` itself didn't fail: the messages, and then that line.
+abbrev pub NotesItsFailure : (old new : Outside) → Reads → (words : List (List ℕ)) → List Doc → (status : ℕ) → Type 0
+NotesItsFailure old new reads words docs status =
+    let acts = since old.log new.log in
+    (status ≡ 5) ⊎ (status ≡ 7) → (Rose old.note_faults new.note_faults → ⊥)
+    → (messages : List ℕ) × (o : Outcome) × IsFailure (FailedOn reads words docs acts) old new acts (since old.out new.out) o × (status_of o ≡ status)
+    × (since old.note new.note ≡ messages ++ line_of o)

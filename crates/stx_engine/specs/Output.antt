@@ -1,19 +1,16 @@
 -- The bytes of a whole result.
-use Rattle.std.specs.Prelude.{◌≡◌, ℕ, Bool, true, List, ◌++◌, None, codes}
+use Rattle.std.specs.Prelude.{◌≡◌, ℕ, Bool, true, List, ◌++◌, None}
 use Rattle.std.specs.List.{list_all}
 use Rattle.stx_base.specs.Character.{is_cdata_text}
 use Rattle.stx_base.specs.Course.{Begins}
 use Rattle.stx_base.specs.declared.part.Part.{Part}
 use Rattle.stx_base.specs.declared.part.Part.TheVariants as part
+use Rattle.run_engine.specs.Run.{head}
 use Rattle.result_writer.specs.Allowed.{is_prefix}
 use Rattle.result_writer.specs.Target.{first_fault, nothing, text}
 use Rattle.stx_engine.specs.Nesting.{EndsHaveStarts}
 
--- what a result begins with
-abbrev pub head : List ℕ
-head = codes "<?xml version=\"1.0\" encoding=\"UTF-8\"?>\n"
-
--- and then its parts
+-- the bytes of a result: its head, and then its parts
 abbrev pub output : List Part → List ℕ
 output ps = head ++ text ps
 

@@ -1,40 +1,80 @@
 -- What a run of the program does to the outside, before its last line is written.
-use Rattle.std.specs.Prelude.{◌≡◌, ℕ, ◌<◌, ◌⊎◌, ◌==◌, Bool, true, if◌then◌else◌, List, [], length, map, take, sum, Some, None, IsSome, IfSome}
-use Rattle.std.specs.Option.{option_and_then}
+use Rattle.std.specs.Prelude.{◌≡◌, ℕ, ◌<◌, ◌⊎◌, ◌==◌, Bool, true, false, if◌then◌else◌, List, [], ◌++◌, length, map, slice_get, take, sum, Option, Some, None, IsSome, IfSome, Ok, Err, codes}
+use Rattle.std.specs.List.{list_any}
 use Rattle.stx_base.specs.Course.{Begins}
-use Rattle.stx_host.specs.Before.{AtMainReads, Between, Taken}
-use Rattle.stx_host.specs.Outside.{Outside, NoteFault, document, place, wrote}
+use Rattle.stx_base.specs.StandardLimits.{standard_limits}
+use Rattle.stx_host.specs.Before.{AtMainReads, Between, Taken, is_main_read}
+use Rattle.stx_host.specs.Outside.{Outside, NoteFault, Rose, document, place, wrote}
 use Rattle.stx_host.specs.declared.act.Act.{Act}
 use Rattle.stx_host.specs.declared.act.Doc.{Doc}
 use Rattle.stx_host.specs.declared.act.Lane.TheVariants.{Note}
-use Rattle.stx_engine.specs.Answer.{Answer, Plan, answer, asked, asks_run, sheet_named}
-use Rattle.stx_engine.specs.Driving.{CountsBy, EndOnce, FailedAt, IsSettledAt, ReadsAll, UnlessFailed, main_gots}
+use Rattle.command_words.specs.Words.{command_of}
+use Rattle.command_words.specs.declared.command.Command.{Command}
 use Rattle.fault_report.specs.Line.{status_of}
-use Rattle.stx_engine.specs.Loading.{ReadsUndecided, opens, read_of_opened}
 use Rattle.fault_report.specs.declared.outcome.HostFault.TheVariants as fault
 use Rattle.fault_report.specs.declared.outcome.Outcome.{Outcome}
 use Rattle.fault_report.specs.declared.outcome.Outcome.TheVariants.{Run, Usage, Sheet, Host, Fuel, Memory}
-use Rattle.stx_engine.specs.RunEnd.{line_in, outcome_in}
+use Rattle.run_engine.specs.Run as engine
+use Rattle.sheet_files.specs.Acts.{NoneBehindEnd, is_write, opens}
+use Rattle.sheet_files.specs.Loading.{OpensInOrder}
+use Rattle.sheet_files.specs.Opened.{documents_told}
+use Rattle.sheet_files.specs.Undecided.{ReadUndecided}
+use Rattle.sheet_loader.specs.Values.{Reads}
+use Rattle.sheet_model.specs.declared.sheet.Sheet as model
+use Rattle.sheet_runs.specs.Counts.{CountsBy, SameCounts}
+use Rattle.sheet_runs.specs.Reading.{EndOnce, main_gots}
+use Rattle.sheet_runs.specs.Runs.{FailsOn}
+use Rattle.sheet_runs.specs.Talk.{Exchange, Leads}
+use Rattle.run_engine.specs.Run.{head}
+use Rattle.stx_engine.specs.Answer.{Answer, Plan, accepted, answer, asked, asks_any_run, asks_run, loaded, sheet_named}
+use Rattle.stx_engine.specs.Driving.{FailedAt, IsSettledAt, ReadsAll, UnlessFailed, is_doc_read}
+use Rattle.stx_engine.specs.Plain.{pass_of}
+use Rattle.stx_engine.specs.RunEnd.{line_in, outcome_in, status_in}
 use Rattle.stx_engine.specs.declared.run_end.RunEnd.{RunEnd}
+use Rattle.stx_engine.specs.declared.run_end.RunEnd.TheVariants.{Told, Sampled, Unnoted}
 
 -- Before a read of the main document: the words and the sheet were accepted, all that the bytes read so far settle of the
 -- result was written to `Out`, and no more, and the run waits for more.
-abbrev pub Asks : (words : List (List ℕ)) → List Doc → (main : List ℕ) → Taken → Type 0
-Asks words docs main taken =
-    (plan : Plan) × (asked words docs ≡ Some plan) × IsSettledAt plan.limits plan.pass (take taken.main_read main) taken
+abbrev pub Asks : Reads → (words : List (List ℕ)) → List Doc → (main : List ℕ) → Taken → Type 0
+Asks reads words docs main taken =
+    (plan : Plan) × (asked reads words docs ≡ Some plan) × IsSettledAt plan.limits plan.pass (take taken.main_read main) taken
 
--- the host failed on the sheet, after all that was read of it, on the main document, or on `Out`
-abbrev pub FailedIn : (words : List (List ℕ)) → Outcome → List Act → (out : List ℕ) → Type 0
-FailedIn words (Host file fault.Doc offset) acts out = (sheet_named words ≡ Some file) × (offset ≡ read_of_opened acts)
-FailedIn words Usage acts out = Unit {0}
-FailedIn words (Sheet reason) acts out = Unit {0}
-FailedIn words outcome acts out = FailedAt outcome acts out
+-- Before a read of the main document, whatever the sheet does: the head of the result was written.
+abbrev pub HasHead : Taken → Type 0
+HasHead taken = Begins head taken.out
+
+-- the host failed on a file of the sheet, after all that was read of it, or where the next one was to be opened
+abbrev pub FailedOnSheet : Reads → (words : List (List ℕ)) → List Doc → List Act → (file : List ℕ) → (offset : ℕ) → Type 0
+FailedOnSheet reads words docs acts file offset =
+    (c : Command) × (command_of words ≡ Some c) × OpensInOrder (place docs) (loaded reads docs c).opened (Err (Host file fault.Doc offset)) acts
+
+-- or on another document that the sheet, which was accepted, asked for
+abbrev pub FailedOnOther : Reads → (words : List (List ℕ)) → List Doc → (file : List ℕ) → (offset : ℕ) → Type 0
+FailedOnOther reads words docs file offset =
+    (c : Command) × (sheet : model.Sheet) × (talk : List Exchange) × (run : engine.Run)
+    × (command_of words ≡ Some c) × ((loaded reads docs c).result ≡ Ok sheet) × (pass_of sheet ≡ None)
+    × Leads (engine.at_start sheet c.limits) talk run × FailsOn run file offset
+
+abbrev pub FailedOn : Reads → (words : List (List ℕ)) → List Doc → List Act → (file : List ℕ) → (offset : ℕ) → Type 0
+FailedOn reads words docs acts file offset = FailedOnSheet reads words docs acts file offset ⊎ FailedOnOther reads words docs file offset
+
+-- this holds where the host failed on a document that isn't the main one
+abbrev pub IfDocFailed : Outcome → (P : (file : List ℕ) → (offset : ℕ) → Type 0) → Type 0
+IfDocFailed (Host file fault.Doc offset) P = P file offset
+IfDocFailed outcome P = Unit {0}
+
+-- where it failed on the main document, or on `Out`, it was after all that was read or taken
+abbrev pub FailedIn : Outcome → List Act → (out : List ℕ) → Type 0
+FailedIn (Host file fault.Doc offset) acts out = Unit {0}
+FailedIn Usage acts out = Unit {0}
+FailedIn (Sheet reason) acts out = Unit {0}
+FailedIn outcome acts out = FailedAt outcome acts out
 
 -- the words are refused exactly where they name no sheet, if memory suffices
-abbrev pub RefusesWords : (words : List (List ℕ)) → Outcome → Type 0
-RefusesWords words Usage = sheet_named words ≡ None
-RefusesWords words Memory = Unit {0}
-RefusesWords words outcome = IsSome (sheet_named words)
+abbrev pub RefusesWords : (words : List (List ℕ)) → RunEnd → Type 0
+RefusesWords words (Told Usage) = sheet_named words ≡ None
+RefusesWords words (Told Memory) = Unit {0}
+RefusesWords words end = IsSome (sheet_named words)
 
 -- no part was refused, and no fuel was spent
 abbrev pub TakesParts : Outcome → Type 0
@@ -42,43 +82,87 @@ TakesParts (Run file code offset) = ⊥
 TakesParts (Fuel file offset) = ⊥
 TakesParts outcome = Unit {0}
 
+-- the counts of faults, by how a run ended
+abbrev pub CountsIn : RunEnd → (old new : Outside) → Type 0
+CountsIn (Told outcome) old new = CountsBy outcome old new
+CountsIn (Sampled s) old new = SameCounts old new
+CountsIn Unnoted old new = Rose old.note_faults new.note_faults × SameCounts (record old { note_faults = new.note_faults }) new
+
+-- a run was stopped at an instruction of the sheet: in one of its files
+abbrev pub StopsInside : (sheet : Option model.Sheet) → (file : List ℕ) → (offset : ℕ) → Type 0
+StopsInside None file offset = ⊥
+StopsInside (Some sheet) file offset = engine.IsAt sheet.files file offset
+
+abbrev pub IsOwn : (sheet : Option model.Sheet) → RunEnd → Type 0
+IsOwn sheet (Told (Run file code offset)) = StopsInside sheet file offset
+IsOwn sheet (Told (Fuel file offset)) = StopsInside sheet file offset
+IsOwn sheet end = Unit {0}
+
 -- the end is the answer's, and all of the answer's output was written
 pub record IsAnswered (out : List ℕ) (end : RunEnd) (a : Answer) : Type 0 where
   pub output : out ≡ a.out
   pub line : line_in end ≡ a.note
-  pub code : status_of (outcome_in end) ≡ a.status
+  pub code : status_in end ≡ a.status
 
 -- the documents of the first of these names were opened, in order; of all of them, unless the run failed
 abbrev pub OpensNames : List Doc → (names : List (List ℕ)) → Outcome → List Act → Type 0
 OpensNames docs names outcome acts =
     (front : List (List ℕ)) × Begins front names × (opens acts ≡ map (place docs) front) × UnlessFailed outcome (front ≡ names)
 
--- the sheet that the words name is read no further than it takes to decide
-abbrev pub ReadsSheet : (words : List (List ℕ)) → List Doc → List Act → Type 0
-ReadsSheet words docs acts = IfSome (option_and_then (document docs) (sheet_named words)) (λ sheet. ReadsUndecided sheet 0 acts)
+-- The files of the sheet of this name come before all else: in the first acts documents are opened so, each is read on only while the sheet
+-- isn't decided, and not behind its end, nothing of the main document is read, and nothing is written. Where the answer is said, no document
+-- but the main one is read after them.
+pub record LoadsFirst (reads : Reads) (docs : List Doc) (name : List ℕ) (Opens : List Act → Type 0) (said : Option Answer) (acts : List Act) : Type 0 where
+  pub loading : List Act
+  pub running : List Act
+  pub in_turn : acts ≡ loading ++ running
+  pub opened : Opens loading
+  pub undecided : ReadUndecided reads standard_limits (document docs) name [] loading
+  pub once : NoneBehindEnd loading
+  pub no_main_read : list_any is_main_read loading ≡ false
+  pub no_write : list_any is_write loading ≡ false
+  pub alone : IsSome said → list_any is_doc_read running ≡ false
 
--- what a run did where the host tells the documents and the main document
-pub record RunsTold (words : List (List ℕ)) (docs : List Doc) (main : List ℕ) (acts : List Act) (ended : Bool) (out : List ℕ) (end : RunEnd) : Type 0 where
-  pub reads : AtMainReads acts out [] (Asks words docs main)
-  pub prefix : Begins out (answer words docs main).out
-  pub ends : UnlessFailed (outcome_in end) (IsAnswered out end (answer words docs main))
-  pub sheet : ReadsSheet words docs acts
-  pub opened : OpensNames docs (answer words docs main).opened (outcome_in end) acts
+-- what a run did where its answer is said
+pub record RunsAnswered (reads : Reads) (words : List (List ℕ)) (docs : List Doc) (main : List ℕ) (acts : List Act) (out note : List ℕ) (end : RunEnd) (a : Answer) : Type 0 where
+  pub asks : AtMainReads acts out note (Asks reads words docs main)
+  pub prefix : Begins out a.out
+  pub ends : UnlessFailed (outcome_in end) (IsAnswered out end a)
+  pub opened : OpensNames docs a.opened (outcome_in end) acts
+  pub failed : IfDocFailed (outcome_in end) (FailedOnSheet reads words docs acts)
+  pub takes : TakesParts (outcome_in end)
+  pub quiet : note ≡ []
+
+-- what a run did where the host tells the main document
+pub record RunsMain (words : List (List ℕ)) (main : List ℕ) (acts : List Act) (ended : Bool) (out note : List ℕ) (end : RunEnd) : Type 0 where
   pub all : asks_run words ≡ true → ReadsAll main acts ended (outcome_in end)
+  -- nothing is written, or it begins with the head, which is written before the main document is read
+  pub begins : UnlessFailed (outcome_in end) ((out ≡ []) ⊎ Begins head out)
+  pub asks : AtMainReads acts out note HasHead
+
+-- and where it tells the documents and which ids are open
+pub record RunsTold (words : List (List ℕ)) (docs : List Doc) (main : List ℕ) (acts : List Act) (out note : List ℕ) (end : RunEnd) : Type 0 where
+  pub answered : (reads : Reads) (a : Answer) → answer reads words docs main ≡ Some a → RunsAnswered reads words docs main acts out note end a
+  pub sheet : (reads : Reads)
+      → IfSome (command_of words) (λ c. LoadsFirst reads docs c.sheet (OpensNames docs (loaded reads docs c).opened (outcome_in end)) (answer reads words docs main) acts)
+  pub failed : (reads : Reads) → IfDocFailed (outcome_in end) (FailedOn reads words docs acts)
+  pub own : (reads : Reads) → IfSome (command_of words) (λ c. IsOwn (accepted (loaded reads docs c).result) end)
 
 -- what a run did, and how it ended
 pub record Runs (words : List (List ℕ)) (old new : Outside) (end : RunEnd) : Type 0 where
   pub acts : List Act
   pub out : List ℕ
-  pub between : Between old new acts out []
+  pub note : List ℕ
+  pub between : Between old new acts out note
   pub ended : Bool
   pub once : EndOnce ended (main_gots acts)
   pub ids : new.open_ids ≡ old.open_ids
-  pub counts : CountsBy (outcome_in end) old new
-  pub failed : FailedIn words (outcome_in end) acts out
-  pub refuses : RefusesWords words (outcome_in end)
-  pub takes : TakesParts (outcome_in end)
-  pub told : (docs : List Doc) (main : List ℕ) → old.documents ≡ Some docs → old.to_come 0 ≡ Some main → RunsTold words docs main acts ended out end
+  pub counts : CountsIn end old new
+  pub failed : FailedIn (outcome_in end) acts out
+  pub refuses : RefusesWords words end
+  pub takes : asks_any_run words ≡ false → TakesParts (outcome_in end)
+  pub main_told : (main : List ℕ) → old.to_come 0 ≡ Some main → RunsMain words main acts ended out note end
+  pub told : (docs : List Doc) (main : List ℕ) → documents_told old ≡ Some docs → old.to_come 0 ≡ Some main → RunsTold words docs main acts out note end
 
 -- the status where the line couldn't be written: want of memory stays
 abbrev pub unwritten_status : ℕ → ℕ

@@ -1,58 +1,78 @@
-ghost use Rattle.std.specs.Prelude.{◌≡◌, ◌≤◌, ◌^◌, IfOk, ℕ, List};
+ghost use Rattle.std.specs.Prelude.{◌≡◌, ◌≤◌, ◌^◌, IfOk, ℕ, List, Some, false, map};
 ghost use Rattle.stx_base.specs.Course.{Begins};
 ghost use Rattle.stx_base.specs.declared.limits.Limits.{Limits};
 ghost use Rattle.stx_host.specs.Before.{since};
 ghost use Rattle.stx_host.specs.declared.act.Doc.{Doc};
-ghost use Rattle.stx_engine.specs.Answer.{answer};
-ghost use Rattle.stx_engine.specs.Driving.{Drives, DrivesSample, FailsBy, TakesPieces, WritesOn};
+ghost use Rattle.command_words.specs.declared.command.Mode.TheVariants as mode;
+ghost use Rattle.run_engine.specs.Run.{at_start};
+ghost use Rattle.sheet_loader.specs.Values.{Reads};
+ghost use Rattle.sheet_model.specs.Sound.{IsSound};
+ghost use Rattle.stx_engine.specs.Answer.{Answer, answer};
+ghost use Rattle.stx_engine.specs.Doing.{AreUsual, Does, DoesCommand, RunsAny, asked_by, param_of};
+ghost use Rattle.stx_engine.specs.Driving.{Drives, DrivesSample};
 ghost use Rattle.stx_engine.specs.Engine.{GoesOn, IsWaiting, Means};
-ghost use Rattle.stx_engine.specs.Headline.{AsksSettled, DecidesSheet, GivesAnswer, IsStatus, NotesAfterFailure, OpensFirst, ReadsToEnd, RefusesUnnamed, Tells};
+ghost use Rattle.stx_engine.specs.Headline.{AsksSettled, BeginsWell, EndsInLine, GivesAnswer, IsPlainStatus, IsStatus, NotesAfterFailure, NotesItsFailure, OpensFirst, ReadsSheetFirst, ReadsToEnd, RefusesUnnamed, Tells, TellsMain};
 ghost use Rattle.stx_engine.specs.Nesting.{EndsHaveStarts};
 ghost use Rattle.stx_engine.specs.Running.{Reports, Runs};
 ghost use Rattle.stx_engine.specs.Words.{spelled};
+ghost use Rattle.xml_events.specs.Source.{source};
 ghost use Rattle.stx_engine.specs.declared.pass.Pass.{Pass};
+ghost use Rattle.stx_engine.specs.declared.run_end.RunEnd.TheVariants as end;
+ghost use Rattle.fault_report.specs.declared.outcome.Outcome.TheVariants as outcome;
 
+use crate::asked::Asked;
 use crate::engine::{Engine, Piece, Pumped};
 use crate::law;
-use crate::run_end::{RunEnd, Summary};
-use crate::sheet::{PIECE, load_sheet};
-use command_words::{Command, Mode, WordsFault, read_words};
+use crate::pass::Pass;
+use crate::plain::pass_of;
+use crate::run_end::{HOST_FAILED, RunEnd, Summary, end_of_run, end_of_sample};
+use command_words::{Command, Mode, Param as Given, WordsFault, read_words};
 use fault_report::{HostFault, OUT_OF_MEMORY, Outcome};
-use sample_maker::{Sample, make_sample};
+use run_engine::Engine as SheetEngine;
+use sample_maker::make_sample;
+use sheet_files::{Loaded, load_sheet};
+use sheet_model::Sheet;
+use sheet_runs::{End, Main, PIECE, Ran, failure, next_chunk, run_sheet, write};
 use std::alloc::Global;
-use stx_base::{Memory, Text};
-use stx_host::{Got, Host, Lane, Put};
-
-/// The status where the host failed.
-const HOST_FAILED: u8 = 5;
+use stx_base::{Limits, List, Memory};
+use stx_host::{Got, Host, Lane};
+use template_machine::Param;
 
 /// The status where memory was wanting.
 const MEMORY_WANTING: u8 = 7;
 
 /// Does all that the program does with the words after its name: it transforms the main document, or with `--sample` a
 /// sample in its place, or with `--check` looks at the sheet alone. It answers the status that the program ends with: 0
-/// where the document was read to its end and all was written, or the sheet is accepted; 2 where the words are refused, 3
-/// where the sheet is, 4 where the document has a fault, 5 where the host failed, 7 where memory was wanting. What stopped
-/// the run stands in one line on the lane `Note`, and so does what a run on the sample that is done read and wrote.
+/// where the document was read to its end and all was written, or the sheet is accepted; 1 where an instruction of the sheet has
+/// a fault, 2 where the words are refused, 3 where the sheet is, 4 where a document has a fault, 5 where the host failed, 6 where
+/// fuel is spent, 7 where memory was wanting. Messages stand on the lane `Note`; what stopped the run stands behind them in one
+/// line, and so does what a run on the sample that is done read and wrote.
 pub fn transform<H: Host>(alloc: Global, words: &[String], host: &mut H) -> u8
     // Where no count of faults rose and memory sufficed, the lanes and the status are exactly the answer.
-    ensures answer { (docs : List Doc) (main : List ℕ) → Tells (H.outside host.old) docs main → GivesAnswer (H.outside host.old) (H.outside host.new) result (answer (spelled words.now) docs main) }
+    ensures answer { (reads : Reads) (docs : List Doc) (main : List ℕ) (a : Answer) → Tells (H.outside host.old) docs main → answer reads (spelled words.now) docs main ≡ Some a → GivesAnswer (H.outside host.old) (H.outside host.new) result a }
     // Whenever the main document is read, exactly what the bytes read so far settle was written, and more is needed.
-    ensures reads { (docs : List Doc) (main : List ℕ) → Tells (H.outside host.old) docs main → AsksSettled (H.outside host.old) (H.outside host.new) (spelled words.now) docs main }
+    ensures reads { (reads : Reads) (docs : List Doc) (main : List ℕ) (a : Answer) → Tells (H.outside host.old) docs main → answer reads (spelled words.now) docs main ≡ Some a → AsksSettled (H.outside host.old) (H.outside host.new) reads (spelled words.now) docs main }
     // Where the status of a run on the main document is 0 it was read to its end; once its end is known it isn't read any more.
-    ensures ends { (docs : List Doc) (main : List ℕ) → Tells (H.outside host.old) docs main → ReadsToEnd (H.outside host.old) (H.outside host.new) (spelled words.now) main result }
+    ensures ends { (main : List ℕ) → TellsMain (H.outside host.old) main → ReadsToEnd (H.outside host.old) (H.outside host.new) (spelled words.now) main result }
     // After any stop the output is a beginning of the answer's.
-    ensures prefix { (docs : List Doc) (main : List ℕ) → Tells (H.outside host.old) docs main → Begins (since (H.outside host.old).out (H.outside host.new).out) (answer (spelled words.now) docs main).out }
+    ensures prefix { (reads : Reads) (docs : List Doc) (main : List ℕ) (a : Answer) → Tells (H.outside host.old) docs main → answer reads (spelled words.now) docs main ≡ Some a → Begins (since (H.outside host.old).out (H.outside host.new).out) a.out }
     // No end tag in it lacks its start tag.
-    ensures nested { (docs : List Doc) (main : List ℕ) → Tells (H.outside host.old) docs main → EndsHaveStarts (since (H.outside host.old).out (H.outside host.new).out) }
+    ensures nested { (reads : Reads) (docs : List Doc) (main : List ℕ) (a : Answer) → Tells (H.outside host.old) docs main → answer reads (spelled words.now) docs main ≡ Some a → EndsHaveStarts (since (H.outside host.old).out (H.outside host.new).out) }
     // Only documents that the answer opens are opened, in its order.
-    ensures opened { (docs : List Doc) (main : List ℕ) → Tells (H.outside host.old) docs main → OpensFirst docs (answer (spelled words.now) docs main).opened result (since (H.outside host.old).log (H.outside host.new).log) }
-    // The sheet is read no further than it takes to decide whether it is accepted.
-    ensures sheet { (docs : List Doc) (main : List ℕ) → Tells (H.outside host.old) docs main → DecidesSheet (H.outside host.old) (H.outside host.new) (spelled words.now) docs }
+    ensures opened { (reads : Reads) (docs : List Doc) (main : List ℕ) (a : Answer) → Tells (H.outside host.old) docs main → answer reads (spelled words.now) docs main ≡ Some a → OpensFirst docs a.opened result (since (H.outside host.old).log (H.outside host.new).log) }
     // Where the host failed or memory was wanting, the line says which and where.
-    ensures failure { (docs : List Doc) (main : List ℕ) → Tells (H.outside host.old) docs main → NotesAfterFailure (H.outside host.old) (H.outside host.new) (spelled words.now) result (answer (spelled words.now) docs main) }
+    ensures failure { (reads : Reads) (docs : List Doc) (main : List ℕ) (a : Answer) → Tells (H.outside host.old) docs main → answer reads (spelled words.now) docs main ≡ Some a → NotesAfterFailure (H.outside host.old) (H.outside host.new) reads (spelled words.now) docs result a }
+    // Then no part is refused, and no fuel is spent.
+    ensures plain { (reads : Reads) (docs : List Doc) (main : List ℕ) (a : Answer) → Tells (H.outside host.old) docs main → answer reads (spelled words.now) docs main ≡ Some a → IsPlainStatus result }
+    // Whatever the sheet does: its files are opened before all else, in their order, and read no further than it takes to decide it;
+    ensures sheet { (reads : Reads) (docs : List Doc) (main : List ℕ) → Tells (H.outside host.old) docs main → ReadsSheetFirst (H.outside host.old) (H.outside host.new) reads (spelled words.now) docs main result }
+    // the output begins with its head, which is written before the main document is read;
+    ensures begins { (main : List ℕ) → TellsMain (H.outside host.old) main → BeginsWell (H.outside host.old) (H.outside host.new) result }
+    // the last line is that of an end with this status, also where the host failed or memory was wanting.
+    ensures line { (reads : Reads) (docs : List Doc) (main : List ℕ) → Tells (H.outside host.old) docs main → EndsInLine (H.outside host.old) (H.outside host.new) reads (spelled words.now) docs result }
+    ensures failed { (reads : Reads) (docs : List Doc) (main : List ℕ) → Tells (H.outside host.old) docs main → NotesItsFailure (H.outside host.old) (H.outside host.new) reads (spelled words.now) docs result }
     // For every host, whatever it tells: the statuses that there are, when words are refused, and that each id is given back.
-    ensures status { IsStatus (H.outside host.old) (H.outside host.new) result }
+    ensures status { IsStatus (H.outside host.old) (H.outside host.new) (spelled words.now) result }
     ensures words { RefusesUnnamed (H.outside host.old) (H.outside host.new) (spelled words.now) result }
     ensures ids { (H.outside host.new).open_ids ≡ (H.outside host.old).open_ids }
 {
@@ -78,33 +98,174 @@ fn run<H: Host>(alloc: Global, words: &[String], host: &mut H) -> RunEnd
     ensures { Runs (spelled words.now) (H.outside host.old) (H.outside host.new) result }
 {
     law::documents();
-    let command = match read_words(alloc, words) {
-        Ok(command) => command,
-        Err(WordsFault::Usage) => return RunEnd::Told(Outcome::Usage),
-        Err(WordsFault::Memory) => return RunEnd::Told(Outcome::Memory),
-    };
-    // Parameters are for what a sheet declares, and these sheets declare nothing.
-    let Command {
-        sheet,
-        limits,
-        mode,
-        ..
-    } = command;
-    let pass = match load_sheet(alloc, host, &sheet) {
-        Ok(pass) => pass,
-        Err(outcome) => return RunEnd::Told(outcome),
-    };
-    match mode {
-        Mode::Run => {
-            let engine = Engine::new(alloc, sheet, pass, limits);
-            RunEnd::Told(drive(alloc, engine, host))
-        }
-        Mode::Check => RunEnd::Told(Outcome::Done),
-        Mode::Sample(records) => {
-            let engine = Engine::new(alloc, sheet, pass, limits);
-            drive_sample(alloc, engine, records, host)
+    match read_words(alloc, words) {
+        Ok(command) => run_command(alloc, command, host),
+        Err(WordsFault::Usage) => RunEnd::Told(Outcome::Usage),
+        Err(WordsFault::Memory) => RunEnd::Told(Outcome::Memory),
+    }
+}
+
+// Loads the sheet, and does with it what is asked for.
+fn run_command<H: Host>(alloc: Global, command: Command, host: &mut H) -> RunEnd
+    requires { AreUsual command.limits }
+    ensures { DoesCommand command (H.outside host.old) (H.outside host.new) result }
+{
+    match load_sheet(alloc, host, &command.sheet, Limits::standard()) {
+        Ok(loaded) => run_loaded(alloc, command, sheet_of(loaded), host),
+        Err(outcome) => {
+            drop(command);
+            RunEnd::Told(outcome)
         }
     }
+}
+
+// Does what is asked for with a sheet that was accepted.
+fn run_loaded<H: Host>(alloc: Global, command: Command, loaded: Sheet, host: &mut H) -> RunEnd
+    requires sound { IsSound loaded }
+    requires limits { AreUsual command.limits }
+    ensures { Does command loaded (H.outside host.old) (H.outside host.new) result }
+{
+    let Command {
+        sheet: name,
+        params,
+        limits,
+        mode,
+    } = command;
+    let asked = Asked {
+        name,
+        params,
+        limits,
+    };
+    match mode {
+        Mode::Check => check(asked, loaded),
+        Mode::Run => run_main(alloc, asked, loaded, host),
+        Mode::Sample(records) => run_sample(alloc, asked, loaded, records, host),
+    }
+}
+
+fn sheet_of(loaded: Loaded) -> Sheet
+    ensures { result ≡ loaded.sheet }
+{
+    let Loaded { sheet, .. } = loaded;
+    sheet
+}
+
+// The sheet was accepted, and that is all that is asked.
+fn check(asked: Asked, sheet: Sheet) -> RunEnd
+    ensures { result ≡ end.Told outcome.Done }
+{
+    drop(asked);
+    drop(sheet);
+    RunEnd::Told(Outcome::Done)
+}
+
+// Transforms the main document of the host.
+fn run_main<H: Host>(alloc: Global, asked: Asked, sheet: Sheet, host: &mut H) -> RunEnd
+    requires sound { IsSound sheet }
+    requires limits { AreUsual asked.limits }
+    ensures { Does (asked_by asked mode.Run) sheet (H.outside host.old) (H.outside host.new) result }
+{
+    match pass_of(&sheet) {
+        Some(pass) => {
+            drop(sheet);
+            RunEnd::Told(drive(alloc, passing(alloc, asked, pass), host))
+        }
+        None => end_of_run(run_any(alloc, asked, sheet, Main::Host, host)),
+    }
+}
+
+// Transforms the sample of so many records.
+fn run_sample<H: Host>(
+    alloc: Global,
+    asked: Asked,
+    sheet: Sheet,
+    records: u64,
+    host: &mut H,
+) -> RunEnd
+    requires sound { IsSound sheet }
+    requires limits { AreUsual asked.limits }
+    ensures { Does (asked_by asked (mode.Sample records)) sheet (H.outside host.old) (H.outside host.new) result }
+{
+    match pass_of(&sheet) {
+        Some(pass) => {
+            drop(sheet);
+            drive_sample(alloc, passing(alloc, asked, pass), records, host)
+        }
+        None => {
+            let main = Main::Sample(make_sample(records));
+            end_of_sample(records, run_any(alloc, asked, sheet, main, host))
+        }
+    }
+}
+
+// An engine that passes documents through.
+fn passing(alloc: Global, asked: Asked, pass: Pass) -> Engine
+    ensures reader { result.reader ≡ source asked.limits false }
+    ensures sheet { result.sheet ≡ asked.name }
+    ensures waits { IsWaiting result }
+    ensures meaning { Means asked.limits pass result }
+{
+    let Asked {
+        name,
+        params,
+        limits,
+    } = asked;
+    drop(params);
+    Engine::new(alloc, name, pass, limits)
+}
+
+// Runs any sheet.
+fn run_any<H: Host>(alloc: Global, asked: Asked, sheet: Sheet, main: Main, host: &mut H) -> Ran
+    requires sound { IsSound sheet }
+    requires limits { AreUsual asked.limits }
+    ensures { RunsAny asked.limits sheet main (H.outside host.old) (H.outside host.new) result }
+{
+    match engine_of(alloc, asked, sheet) {
+        Ok(engine) => run_sheet(alloc, engine, main, host),
+        Err(Memory) => Ran {
+            end: End::Told(Outcome::Memory),
+            input: 0,
+            output: 0,
+        },
+    }
+}
+
+fn engine_of(alloc: Global, asked: Asked, sheet: Sheet) -> Result<SheetEngine, Memory>
+    requires sound { IsSound sheet }
+    requires limits { AreUsual asked.limits }
+    ensures { IfOk result (λ engine. engine ≡ at_start sheet asked.limits) }
+{
+    let Asked {
+        name,
+        params,
+        limits,
+    } = asked;
+    drop(name);
+    match params_of(alloc, params) {
+        Ok(params) => SheetEngine::new(alloc, sheet, params, limits),
+        Err(Memory) => {
+            drop(sheet);
+            Err(Memory)
+        }
+    }
+}
+
+// The parameters, as a sheet takes them.
+fn params_of(alloc: Global, given: List<Given>) -> Result<List<Param>, Memory>
+    ensures { IfOk result (λ params. params ≡ map param_of given) }
+{
+    let mut params = Vec::new(alloc);
+    for param in given.into_vec() {
+        params.push(param_from(param))?;
+    }
+    Ok(List::from_vec(params))
+}
+
+fn param_from(given: Given) -> Param
+    ensures { result ≡ param_of given }
+{
+    let Given { name, value } = given;
+    Param { name, value }
 }
 
 // Reads the main document, hands it to the engine, and writes what is settled before each read.
@@ -191,54 +352,4 @@ fn drive_sample<H: Host>(alloc: Global, engine: Engine, records: u64, host: &mut
             }
         };
     }
-}
-
-// The next pieces of the sample, joined to about as many bytes as a read asks for; none after its last.
-fn next_chunk(alloc: Global, sample: &mut Sample) -> Result<Option<Text>, Memory>
-    ensures { IfOk result (λ chunk. TakesPieces sample.old sample.new chunk) }
-{
-    let Some(mut chunk) = sample.next(alloc)? else {
-        return Ok(None);
-    };
-    while chunk.as_str().len() < PIECE {
-        match sample.next(alloc)? {
-            Some(piece) => chunk.push_str(piece.as_str())?,
-            None => break,
-        }
-    }
-    Ok(Some(chunk))
-}
-
-// The host failed after so many bytes of the main document, or of the lane `Out`.
-fn failure(alloc: Global, fault: HostFault, offset: u64) -> Outcome
-    ensures { FailsBy fault offset result }
-{
-    match Text::of(alloc, "-") {
-        Ok(file) => Outcome::Host {
-            file,
-            fault,
-            offset,
-        },
-        Err(Memory) => Outcome::Memory,
-    }
-}
-
-// A write failed, after `taken` of the bytes were taken.
-#[derive(Clone, Copy, Debug)]
-struct Refused {
-    taken: usize,
-}
-
-// Writes on until all bytes are taken.
-fn write<H: Host>(host: &mut H, lane: Lane, bytes: &[u8]) -> Result<(), Refused>
-    ensures { WritesOn (H.outside host.old) lane bytes.now result (H.outside host.new) }
-{
-    let mut taken = 0;
-    while taken < bytes.len() {
-        match host.write(lane, &bytes[taken..]) {
-            Put::Took(count) => taken += count,
-            Put::Failed => return Err(Refused { taken }),
-        }
-    }
-    Ok(())
 }

@@ -1,15 +1,16 @@
-//! Sheets applied to documents: the engine, a pure step over pieces of a document, and `transform`, which does all
-//! that the program does over a host.
+//! Sheets applied to documents: `transform`, which does all that the program does over a host, and the engine of sheets that do
+//! nothing but pass documents through, a pure step over pieces of a document.
 #![tactic(auto)]
 
+mod asked;
 mod copier;
 mod driver;
 mod engine;
 pub mod law;
 mod pass;
+mod plain;
 mod run_end;
 mod scope;
-mod sheet;
 
 pub use driver::transform;
 pub use pass::Pass;

@@ -4,10 +4,10 @@ use Rattle.std.specs.Prelude.{encode_utf8_all, unwrap_or}
 use Rattle.fault_report.specs.declared.outcome.Outcome.TheVariants.{Memory}
 use Rattle.stx_engine.specs.declared.engine.Piece.TheVariants.{Start, End}
 use Rattle.stx_engine.specs.declared.engine.Pumped.TheVariants as pumped
-use Rattle.stx_engine.specs.Driving.{TakesPieces}
+use Rattle.sheet_runs.specs.Reading.{TakesPieces}
 use Rattle.stx_engine.specs.Engine.{GoesOn, Pumps, more, more_of}
 use Rattle.stx_engine.specs.More.{Given}
-use Rattle.stx_engine.specs.RunEnd.{counted}
+use Rattle.sheet_runs.specs.Writing.{counted}
 use Rattle.stx_engine.proofs.Driven.{waits_where}
 use Rattle.stx_engine.proofs.Sampled.{Sampling, starts, writes-on, hands-on, hands-end, write-fails, lacks, ends}
 use Rattle.stx_engine.proofs.driver.drive_sample.Goals as goal

@@ -1,215 +1,74 @@
-use Rattle.std.proofs.Common.{◌∙◌, subst}
+use Rattle.std.proofs.Common.{◌≡◌, ◌∙◌, subst}
 use Rattle.stx_host.specs.Before.{since}
-use Rattle.fault_report.specs.Line.{status_of}
 use Rattle.fault_report.specs.declared.outcome.Outcome.TheVariants.{Memory}
-use Rattle.stx_engine.specs.RunEnd.{outcome_in}
-use Rattle.stx_engine.specs.Running.{Reports}
+use Rattle.stx_engine.specs.RunEnd.{line_in, status_in}
+use Rattle.stx_engine.specs.Running.{Reports, Runs}
 use Rattle.stx_engine.specs.Words.{spelled}
-use Rattle.stx_engine.specs.declared.run_end.RunEnd.TheVariants.{Told}
-use Rattle.stx_engine.proofs.Headed.{ran-wanting-line, gives_answer, reads_to_end, decides_sheet, asks_settled, begins_output, opens_first, notes_failure, is_status, refuses_unnamed, gives_ids_back}
+use Rattle.stx_engine.specs.declared.run_end.RunEnd.{RunEnd}
+use Rattle.stx_engine.specs.declared.run_end.RunEnd.TheVariants.{Told, Unnoted}
+use Rattle.stx_engine.proofs.Headed.{asks_settled, begins_output, begins_well, ends_in_line, gives_answer, gives_ids_back, is_plain, is_status, notes_failure, notes_its_failure, opens_first, reads_sheet_first, reads_to_end, refuses_unnamed}
+use Rattle.stx_engine.proofs.LastLine.{ran-wanting-line}
 use Rattle.stx_engine.proofs.Nested.{answer-nests}
 use Rattle.stx_engine.proofs.driver.transform.Goals as goal
 
 -- the run's own line
-
-pub returns-in-Ok-clause-answer : goal.returns-in-Ok-clause-answer
-returns-in-Ok-clause-answer g c = λ docs main tells.
+pub returns-in-Ok : goal.returns-in-Ok
+returns-in-Ok g c =
     let words = spelled c.args.words.now in
     let old = g.H.Host.outside c.args.host.now in
     let mid = g.H.Host.outside c.run-end.new.host in
     let new = g.H.Host.outside c.report.new.host in
-    gives_answer words old mid new c.run-end.result c.run-end.ensures c.report.result
-    (subst (λ line. Reports mid line (status_of (outcome_in c.run-end.result)) new c.report.result) (c.as_str.ensures.bytes ∙ c.in-Ok.ensures)
-    (subst (λ status. Reports mid c.as_str.result.now status new c.report.result) c.status.ensures c.report.ensures)) docs main tells
-
-pub returns-in-Ok-clause-reads : goal.returns-in-Ok-clause-reads
-returns-in-Ok-clause-reads g c = λ docs main tells.
-    let words = spelled c.args.words.now in
-    let old = g.H.Host.outside c.args.host.now in
-    let mid = g.H.Host.outside c.run-end.new.host in
-    let new = g.H.Host.outside c.report.new.host in
-    asks_settled words old mid new c.run-end.result c.run-end.ensures c.report.result
-    (subst (λ line. Reports mid line (status_of (outcome_in c.run-end.result)) new c.report.result) (c.as_str.ensures.bytes ∙ c.in-Ok.ensures)
-    (subst (λ status. Reports mid c.as_str.result.now status new c.report.result) c.status.ensures c.report.ensures)) docs main tells
-
-pub returns-in-Ok-clause-ends : goal.returns-in-Ok-clause-ends
-returns-in-Ok-clause-ends g c = λ docs main tells.
-    let words = spelled c.args.words.now in
-    let old = g.H.Host.outside c.args.host.now in
-    let mid = g.H.Host.outside c.run-end.new.host in
-    let new = g.H.Host.outside c.report.new.host in
-    reads_to_end words old mid new c.run-end.result c.run-end.ensures c.report.result
-    (subst (λ line. Reports mid line (status_of (outcome_in c.run-end.result)) new c.report.result) (c.as_str.ensures.bytes ∙ c.in-Ok.ensures)
-    (subst (λ status. Reports mid c.as_str.result.now status new c.report.result) c.status.ensures c.report.ensures)) docs main tells
-
-pub returns-in-Ok-clause-prefix : goal.returns-in-Ok-clause-prefix
-returns-in-Ok-clause-prefix g c = λ docs main tells.
-    let words = spelled c.args.words.now in
-    let old = g.H.Host.outside c.args.host.now in
-    let mid = g.H.Host.outside c.run-end.new.host in
-    let new = g.H.Host.outside c.report.new.host in
-    begins_output words old mid new c.run-end.result c.run-end.ensures c.report.result
-    (subst (λ line. Reports mid line (status_of (outcome_in c.run-end.result)) new c.report.result) (c.as_str.ensures.bytes ∙ c.in-Ok.ensures)
-    (subst (λ status. Reports mid c.as_str.result.now status new c.report.result) c.status.ensures c.report.ensures)) docs main tells
-
-pub returns-in-Ok-clause-nested : goal.returns-in-Ok-clause-nested
-returns-in-Ok-clause-nested g c = λ docs main tells.
-    let words = spelled c.args.words.now in
-    let old = g.H.Host.outside c.args.host.now in
-    let mid = g.H.Host.outside c.run-end.new.host in
-    let new = g.H.Host.outside c.report.new.host in
-    answer-nests c.documents.ensures.nested words docs main (since old.out new.out)
-    (begins_output words old mid new c.run-end.result c.run-end.ensures c.report.result
-    (subst (λ line. Reports mid line (status_of (outcome_in c.run-end.result)) new c.report.result) (c.as_str.ensures.bytes ∙ c.in-Ok.ensures)
-    (subst (λ status. Reports mid c.as_str.result.now status new c.report.result) c.status.ensures c.report.ensures)) docs main tells)
-
-pub returns-in-Ok-clause-opened : goal.returns-in-Ok-clause-opened
-returns-in-Ok-clause-opened g c = λ docs main tells.
-    let words = spelled c.args.words.now in
-    let old = g.H.Host.outside c.args.host.now in
-    let mid = g.H.Host.outside c.run-end.new.host in
-    let new = g.H.Host.outside c.report.new.host in
-    opens_first words old mid new c.run-end.result c.run-end.ensures c.report.result
-    (subst (λ line. Reports mid line (status_of (outcome_in c.run-end.result)) new c.report.result) (c.as_str.ensures.bytes ∙ c.in-Ok.ensures)
-    (subst (λ status. Reports mid c.as_str.result.now status new c.report.result) c.status.ensures c.report.ensures)) docs main tells
-
-pub returns-in-Ok-clause-sheet : goal.returns-in-Ok-clause-sheet
-returns-in-Ok-clause-sheet g c = λ docs main tells.
-    let words = spelled c.args.words.now in
-    let old = g.H.Host.outside c.args.host.now in
-    let mid = g.H.Host.outside c.run-end.new.host in
-    let new = g.H.Host.outside c.report.new.host in
-    decides_sheet words old mid new c.run-end.result c.run-end.ensures c.report.result
-    (subst (λ line. Reports mid line (status_of (outcome_in c.run-end.result)) new c.report.result) (c.as_str.ensures.bytes ∙ c.in-Ok.ensures)
-    (subst (λ status. Reports mid c.as_str.result.now status new c.report.result) c.status.ensures c.report.ensures)) docs main tells
-
-pub returns-in-Ok-clause-failure : goal.returns-in-Ok-clause-failure
-returns-in-Ok-clause-failure g c = λ docs main tells.
-    let words = spelled c.args.words.now in
-    let old = g.H.Host.outside c.args.host.now in
-    let mid = g.H.Host.outside c.run-end.new.host in
-    let new = g.H.Host.outside c.report.new.host in
-    notes_failure words old mid new c.run-end.result c.run-end.ensures c.report.result
-    (subst (λ line. Reports mid line (status_of (outcome_in c.run-end.result)) new c.report.result) (c.as_str.ensures.bytes ∙ c.in-Ok.ensures)
-    (subst (λ status. Reports mid c.as_str.result.now status new c.report.result) c.status.ensures c.report.ensures)) docs main tells
-
-pub returns-in-Ok-clause-status : goal.returns-in-Ok-clause-status
-returns-in-Ok-clause-status g c =
-    let words = spelled c.args.words.now in
-    let old = g.H.Host.outside c.args.host.now in
-    let mid = g.H.Host.outside c.run-end.new.host in
-    let new = g.H.Host.outside c.report.new.host in
-    is_status words old mid new c.run-end.result c.run-end.ensures c.report.result
-    (subst (λ line. Reports mid line (status_of (outcome_in c.run-end.result)) new c.report.result) (c.as_str.ensures.bytes ∙ c.in-Ok.ensures)
-    (subst (λ status. Reports mid c.as_str.result.now status new c.report.result) c.status.ensures c.report.ensures))
-
-pub returns-in-Ok-clause-words : goal.returns-in-Ok-clause-words
-returns-in-Ok-clause-words g c =
-    let words = spelled c.args.words.now in
-    let old = g.H.Host.outside c.args.host.now in
-    let mid = g.H.Host.outside c.run-end.new.host in
-    let new = g.H.Host.outside c.report.new.host in
-    refuses_unnamed words old mid new c.run-end.result c.run-end.ensures c.report.result
-    (subst (λ line. Reports mid line (status_of (outcome_in c.run-end.result)) new c.report.result) (c.as_str.ensures.bytes ∙ c.in-Ok.ensures)
-    (subst (λ status. Reports mid c.as_str.result.now status new c.report.result) c.status.ensures c.report.ensures))
-
-pub returns-in-Ok-clause-ids : goal.returns-in-Ok-clause-ids
-returns-in-Ok-clause-ids g c =
-    let words = spelled c.args.words.now in
-    let old = g.H.Host.outside c.args.host.now in
-    let mid = g.H.Host.outside c.run-end.new.host in
-    let new = g.H.Host.outside c.report.new.host in
-    gives_ids_back words old mid new c.run-end.result c.run-end.ensures c.report.result
-    (subst (λ line. Reports mid line (status_of (outcome_in c.run-end.result)) new c.report.result) (c.as_str.ensures.bytes ∙ c.in-Ok.ensures)
-    (subst (λ status. Reports mid c.as_str.result.now status new c.report.result) c.status.ensures c.report.ensures))
+    let end = c.run-end.result in
+    let r = c.run-end.ensures in
+    let result = c.report.result in
+    let reports : Reports mid (line_in end) (status_in end) new result = subst (λ line. Reports mid line (status_in end) new result) (c.as_str.ensures.bytes ∙ c.in-Ok.ensures.line)
+    (subst (λ status. Reports mid c.as_str.result.now status new result) c.status.ensures c.report.ensures) in
+    record {
+      answer = λ reads docs main a tells is. gives_answer words old mid new end r result reports docs main tells reads a is;
+      reads = λ reads docs main a tells is. asks_settled words old mid new end r result reports docs main tells reads a is;
+      ends = λ main tells. reads_to_end words old mid new end r result reports main tells;
+      prefix = λ reads docs main a tells is. begins_output words old mid new end r result reports docs main tells reads a is;
+      nested = λ reads docs main a tells is.
+          answer-nests c.documents.ensures.nested reads words docs main (since old.out new.out) a is (begins_output words old mid new end r result reports docs main tells reads a is);
+      opened = λ reads docs main a tells is. opens_first words old mid new end r result reports docs main tells reads a is;
+      failure = λ reads docs main a tells is. notes_failure words old mid new end r result reports docs main tells reads a is;
+      plain = λ reads docs main a tells is. is_plain words old mid new end r result reports docs main tells reads a is;
+      sheet = λ reads docs main tells. reads_sheet_first words old mid new end r result reports docs main tells reads;
+      begins = λ main tells. begins_well words old mid new end r result reports main tells;
+      line = λ reads docs main tells. ends_in_line words old mid new end r result reports docs main tells reads;
+      failed = λ reads docs main tells. notes_its_failure words old mid new end r result reports docs main tells reads;
+      status = is_status words old mid new end r result reports;
+      words = refuses_unnamed words old mid new end r result reports;
+      ids = gives_ids_back words old mid new end r result reports;
+    }
 
 -- the line of want of memory, where the run's own line couldn't be made
-
-pub returns-clause-answer : goal.returns-clause-answer
-returns-clause-answer g c = λ docs main tells.
+pub returns : goal.returns
+returns g c =
     let words = spelled c.args.words.now in
     let old = g.H.Host.outside c.args.host.now in
     let mid = g.H.Host.outside c.run-end.new.host in
     let new = g.H.Host.outside c.report-in-Err.new.host in
-    gives_answer words old mid new (Told Memory) (ran-wanting-line words old mid c.run-end.result c.run-end.ensures) c.report-in-Err.result c.report-in-Err.ensures docs main tells
-
-pub returns-clause-reads : goal.returns-clause-reads
-returns-clause-reads g c = λ docs main tells.
-    let words = spelled c.args.words.now in
-    let old = g.H.Host.outside c.args.host.now in
-    let mid = g.H.Host.outside c.run-end.new.host in
-    let new = g.H.Host.outside c.report-in-Err.new.host in
-    asks_settled words old mid new (Told Memory) (ran-wanting-line words old mid c.run-end.result c.run-end.ensures) c.report-in-Err.result c.report-in-Err.ensures docs main tells
-
-pub returns-clause-ends : goal.returns-clause-ends
-returns-clause-ends g c = λ docs main tells.
-    let words = spelled c.args.words.now in
-    let old = g.H.Host.outside c.args.host.now in
-    let mid = g.H.Host.outside c.run-end.new.host in
-    let new = g.H.Host.outside c.report-in-Err.new.host in
-    reads_to_end words old mid new (Told Memory) (ran-wanting-line words old mid c.run-end.result c.run-end.ensures) c.report-in-Err.result c.report-in-Err.ensures docs main tells
-
-pub returns-clause-prefix : goal.returns-clause-prefix
-returns-clause-prefix g c = λ docs main tells.
-    let words = spelled c.args.words.now in
-    let old = g.H.Host.outside c.args.host.now in
-    let mid = g.H.Host.outside c.run-end.new.host in
-    let new = g.H.Host.outside c.report-in-Err.new.host in
-    begins_output words old mid new (Told Memory) (ran-wanting-line words old mid c.run-end.result c.run-end.ensures) c.report-in-Err.result c.report-in-Err.ensures docs main tells
-
-pub returns-clause-nested : goal.returns-clause-nested
-returns-clause-nested g c = λ docs main tells.
-    let words = spelled c.args.words.now in
-    let old = g.H.Host.outside c.args.host.now in
-    let mid = g.H.Host.outside c.run-end.new.host in
-    let new = g.H.Host.outside c.report-in-Err.new.host in
-    answer-nests c.documents.ensures.nested words docs main (since old.out new.out)
-    (begins_output words old mid new (Told Memory) (ran-wanting-line words old mid c.run-end.result c.run-end.ensures) c.report-in-Err.result c.report-in-Err.ensures docs main tells)
-
-pub returns-clause-opened : goal.returns-clause-opened
-returns-clause-opened g c = λ docs main tells.
-    let words = spelled c.args.words.now in
-    let old = g.H.Host.outside c.args.host.now in
-    let mid = g.H.Host.outside c.run-end.new.host in
-    let new = g.H.Host.outside c.report-in-Err.new.host in
-    opens_first words old mid new (Told Memory) (ran-wanting-line words old mid c.run-end.result c.run-end.ensures) c.report-in-Err.result c.report-in-Err.ensures docs main tells
-
-pub returns-clause-sheet : goal.returns-clause-sheet
-returns-clause-sheet g c = λ docs main tells.
-    let words = spelled c.args.words.now in
-    let old = g.H.Host.outside c.args.host.now in
-    let mid = g.H.Host.outside c.run-end.new.host in
-    let new = g.H.Host.outside c.report-in-Err.new.host in
-    decides_sheet words old mid new (Told Memory) (ran-wanting-line words old mid c.run-end.result c.run-end.ensures) c.report-in-Err.result c.report-in-Err.ensures docs main tells
-
-pub returns-clause-failure : goal.returns-clause-failure
-returns-clause-failure g c = λ docs main tells.
-    let words = spelled c.args.words.now in
-    let old = g.H.Host.outside c.args.host.now in
-    let mid = g.H.Host.outside c.run-end.new.host in
-    let new = g.H.Host.outside c.report-in-Err.new.host in
-    notes_failure words old mid new (Told Memory) (ran-wanting-line words old mid c.run-end.result c.run-end.ensures) c.report-in-Err.result c.report-in-Err.ensures docs main tells
-
-pub returns-clause-status : goal.returns-clause-status
-returns-clause-status g c =
-    let words = spelled c.args.words.now in
-    let old = g.H.Host.outside c.args.host.now in
-    let mid = g.H.Host.outside c.run-end.new.host in
-    let new = g.H.Host.outside c.report-in-Err.new.host in
-    is_status words old mid new (Told Memory) (ran-wanting-line words old mid c.run-end.result c.run-end.ensures) c.report-in-Err.result c.report-in-Err.ensures
-
-pub returns-clause-words : goal.returns-clause-words
-returns-clause-words g c =
-    let words = spelled c.args.words.now in
-    let old = g.H.Host.outside c.args.host.now in
-    let mid = g.H.Host.outside c.run-end.new.host in
-    let new = g.H.Host.outside c.report-in-Err.new.host in
-    refuses_unnamed words old mid new (Told Memory) (ran-wanting-line words old mid c.run-end.result c.run-end.ensures) c.report-in-Err.result c.report-in-Err.ensures
-
-pub returns-clause-ids : goal.returns-clause-ids
-returns-clause-ids g c =
-    let words = spelled c.args.words.now in
-    let old = g.H.Host.outside c.args.host.now in
-    let mid = g.H.Host.outside c.run-end.new.host in
-    let new = g.H.Host.outside c.report-in-Err.new.host in
-    gives_ids_back words old mid new (Told Memory) (ran-wanting-line words old mid c.run-end.result c.run-end.ensures) c.report-in-Err.result c.report-in-Err.ensures
+    let end : RunEnd = Told Memory in
+    let said : c.run-end.result ≡ Unnoted → ⊥ = λ is. let made = c.in-Err.ensures.unnoted is in cc made in
+    let r : Runs words old mid end = ran-wanting-line words old mid c.run-end.result c.run-end.ensures said in
+    let result = c.report-in-Err.result in
+    let reports : Reports mid (line_in end) (status_in end) new result = c.report-in-Err.ensures in
+    record {
+      answer = λ reads docs main a tells is. gives_answer words old mid new end r result reports docs main tells reads a is;
+      reads = λ reads docs main a tells is. asks_settled words old mid new end r result reports docs main tells reads a is;
+      ends = λ main tells. reads_to_end words old mid new end r result reports main tells;
+      prefix = λ reads docs main a tells is. begins_output words old mid new end r result reports docs main tells reads a is;
+      nested = λ reads docs main a tells is.
+          answer-nests c.documents.ensures.nested reads words docs main (since old.out new.out) a is (begins_output words old mid new end r result reports docs main tells reads a is);
+      opened = λ reads docs main a tells is. opens_first words old mid new end r result reports docs main tells reads a is;
+      failure = λ reads docs main a tells is. notes_failure words old mid new end r result reports docs main tells reads a is;
+      plain = λ reads docs main a tells is. is_plain words old mid new end r result reports docs main tells reads a is;
+      sheet = λ reads docs main tells. reads_sheet_first words old mid new end r result reports docs main tells reads;
+      begins = λ main tells. begins_well words old mid new end r result reports main tells;
+      line = λ reads docs main tells. ends_in_line words old mid new end r result reports docs main tells reads;
+      failed = λ reads docs main tells. notes_its_failure words old mid new end r result reports docs main tells reads;
+      status = is_status words old mid new end r result reports;
+      words = refuses_unnamed words old mid new end r result reports;
+      ids = gives_ids_back words old mid new end r result reports;
+    }

@@ -1,0 +1,416 @@
+-- What a run of any sheet did.
+use Rattle.std.proofs.Common.{◌≡◌, ◌⊎◌, inl, inr, ℕ, ◌+◌, ◌||◌, Bool, true, false, List, [], ◌∷◌, ◌++◌, length, Option, Some, None, IsSome, IfSome, Ok, arith, refl, sym, ap, ◌∙◌, subst, append_assoc}
+use Rattle.std.specs.List.{concat, list_any}
+use Rattle.std.specs.Option.{option_and_then}
+use Rattle.std.proofs.lemmas.Bool.{false≢true}
+use Rattle.std.proofs.lemmas.List.{append-nil}
+use Rattle.std.proofs.lemmas.List.Folds.{list_any-append}
+use Rattle.std.proofs.lemmas.Option.{none-some}
+use Rattle.stx_base.specs.Course.{Begins}
+use Rattle.stx_base.specs.declared.limits.Limits.{Limits}
+use Rattle.command_words.specs.Said.{Word}
+use Rattle.command_words.specs.Words.{command_of}
+use Rattle.command_words.specs.declared.command.Command.{Command}
+use Rattle.command_words.specs.declared.command.Mode.{Mode}
+use Rattle.command_words.specs.declared.command.Mode.TheVariants.{Run as AsksRun, Check, Sample}
+use Rattle.stx_host.specs.Before.{AtMainReads, Between, Taken, is_main_read, main_read}
+use Rattle.stx_host.specs.Outside.{Outside, Rose}
+use Rattle.stx_host.specs.declared.act.Act.{Act}
+use Rattle.stx_host.specs.declared.act.Doc.{Doc}
+use Rattle.stx_host.proofs.Stretches.{main_read-append}
+use Rattle.fault_report.specs.declared.outcome.HostFault.TheVariants as fault
+use Rattle.fault_report.specs.declared.outcome.Outcome.{Outcome}
+use Rattle.fault_report.specs.declared.outcome.Outcome.TheVariants as outcome
+use Rattle.run_engine.specs.Run as spec
+use Rattle.run_engine.specs.Run.{HasHead as Heads, IsAt, MayCome, Run, Stage, Stands, StandsAt, at_start, head}
+use Rattle.run_engine.specs.declared.piece.Piece.{Piece}
+use Rattle.run_engine.specs.declared.piece.Piece.TheVariants as piece
+use Rattle.sheet_files.specs.Opened.{documents_told}
+use Rattle.sheet_files.specs.declared.load.Loaded.{Loaded}
+use Rattle.sheet_loader.specs.Values.{Reads}
+use Rattle.sheet_model.specs.declared.sheet.Sheet as model
+use Rattle.sheet_runs.specs.Counts.{CountsAt, CountsBy, SameCounts}
+use Rattle.sheet_runs.specs.Reading.{EndOnce, main_gots}
+use Rattle.sheet_runs.specs.Runs.{EndsBy, FailsOn, HandsMain, IsAsked, RunsSheet, Writes, WritesAll}
+use Rattle.sheet_runs.specs.Talk.{Exchange, Gives, Leads, bytes_in, main_ends, main_in, notes_in}
+use Rattle.sheet_runs.specs.declared.main_document.Main.{Main}
+use Rattle.sheet_runs.specs.declared.main_document.Main.TheVariants as main
+use Rattle.sheet_runs.specs.declared.run.End.{End}
+use Rattle.sheet_runs.specs.declared.run.End.TheVariants as ends
+use Rattle.sheet_runs.specs.declared.run.Ran.{Ran}
+use Rattle.stx_engine.specs.Answer.{Answer, accepted, answer, asks_run, is_run, loaded, mode_answer, sheet_answer, sheet_named}
+use Rattle.sample_maker.specs.Document.{pieces}
+use Rattle.stx_engine.specs.Accepted.{DocumentsAreTaken}
+use Rattle.stx_engine.specs.Doing.{Checks, Does, DoesCommand, GoesOn, Loads, Passes, PassesSample, RunsAny, RunsIt, RunsOnSample, Stops}
+use Rattle.stx_engine.specs.Driving.{FailedAt, ReadsAll, UnlessFailed}
+use Rattle.stx_engine.specs.Plain.{pass_of}
+use Rattle.stx_engine.specs.RunEnd.{end_of_run, end_of_sample, on_sample, outcome_in}
+use Rattle.stx_engine.specs.Running.{Asks, CountsIn, FailedIn, FailedOn, HasHead, IfDocFailed, IsOwn, LoadsFirst, OpensNames, RefusesWords, Runs}
+use Rattle.stx_engine.specs.declared.run_end.RunEnd.{RunEnd}
+use Rattle.stx_engine.specs.declared.run_end.RunEnd.TheVariants.{Told, Sampled, Unnoted}
+use Rattle.stx_engine.specs.declared.run_end.Summary.{Summary}
+use Rattle.stx_engine.proofs.Idle.{no_main_reads, nothing_read}
+use Rattle.stx_engine.proofs.Prefixes.{begins_more, begins_nothing}
+use Rattle.stx_engine.proofs.Ran.{accepted-is, answer-is, answer-opened, asks_some, between_after, counts_after, for_command, loads-alone, loads_sheet, main_after, named, none_once, once_after, opens-all, ran-checked, ran-driven, ran-sampled, ran-stopped, reads_after, unasked, unless}
+use Rattle.stx_engine.proofs.Sampled.{outcome-on}
+
+-- What an engine's talk says
+
+-- the files are those of the start
+leads-files : (start run : Run) (talk : List Exchange) → Leads start talk run → run.files ≡ start.files
+leads-files start run [] is = ap (λ (r : Run). r.files) is
+leads-files start run (x ∷ talk) leads = leads-files x.run run talk leads.1 ∙ leads.0.same.files
+
+-- behind an exchange an engine stands
+leads-stands : (start run : Run) (x : Exchange) (talk : List Exchange) → Leads start (x ∷ talk) run → Stands run
+leads-stands start run x [] leads = subst Stands (sym leads.1) leads.0.stands
+leads-stands start run x (y ∷ talk) leads = leads-stands x.run run y talk leads.1
+
+not-new : (o : Outcome) → spec.New ≡ spec.Over o → ⊥
+not-new o e = cc
+
+not-main : spec.New ≡ spec.Main → ⊥
+not-main e = cc
+
+-- the first piece is the start
+starts : (p : Piece) → MayCome spec.New p → p ≡ piece.Start
+starts piece.Start m = refl
+starts (piece.Bytes bytes) m = absurd m
+starts piece.End m = absurd m
+starts piece.Opened m = absurd m
+starts piece.Absent m = absurd m
+
+-- the head stands before all else where memory sufficed
+heads : (s : Stage) (bytes : List ℕ) → (s ≡ spec.Over outcome.Memory → ⊥) → Heads piece.Start [] s bytes → Begins head bytes
+heads spec.New bytes some h = h
+heads spec.Main bytes some h = h
+heads spec.Document bytes some h = h
+heads (spec.Wants name) bytes some h = h
+heads (spec.Over outcome.Memory) bytes some h = absurd (some refl)
+heads (spec.Over outcome.Done) bytes some h = h
+heads (spec.Over (outcome.Run file code offset)) bytes some h = h
+heads (spec.Over outcome.Usage) bytes some h = h
+heads (spec.Over (outcome.Sheet why)) bytes some h = h
+heads (spec.Over (outcome.Xml file why)) bytes some h = h
+heads (spec.Over (outcome.Host file f offset)) bytes some h = h
+heads (spec.Over (outcome.Fuel file offset)) bytes some h = h
+
+-- no piece comes behind the end
+comes-before : (s : Stage) (p : Piece) → MayCome s p → (o : Outcome) → s ≡ spec.Over o → ⊥
+comes-before s p may o is = subst (λ s. MayCome s p) is may
+
+-- all that was settled begins with the head, once something was said
+leads-head : (start run : Run) (talk : List Exchange) → start.stage ≡ spec.New → Leads start talk run → (run.stage ≡ spec.New → ⊥) → (run.stage ≡ spec.Over outcome.Memory → ⊥) → Begins head (bytes_in talk)
+leads-head start run [] new leads old some = absurd (old (ap (λ (r : Run). r.stage) leads ∙ new))
+leads-head start run (x ∷ talk) new leads old some =
+    let first : x.piece ≡ piece.Start = starts x.piece (subst (λ s. MayCome s x.piece) new leads.0.may) in
+    let h : Heads piece.Start [] x.run.stage x.bytes = subst (λ p. Heads p [] x.run.stage x.bytes) first leads.0.head in
+    begins_more head x.bytes (bytes_in talk) (heads x.run.stage x.bytes (goes talk leads.1) h) where
+      goes : (talk : List Exchange) → Leads x.run talk run → x.run.stage ≡ spec.Over outcome.Memory → ⊥
+      goes [] leads is = some (ap (λ (r : Run). r.stage) leads ∙ is)
+      goes (y ∷ talk) leads is = comes-before x.run.stage y.piece leads.0.may outcome.Memory is
+
+main-no-new : (s : Stage) → s ≡ spec.Main → s ≡ spec.New → ⊥
+main-no-new s m n = not-main (sym n ∙ m)
+
+main-no-lack : (s : Stage) → s ≡ spec.Main → s ≡ spec.Over outcome.Memory → ⊥
+main-no-lack s m n = not-over (sym m ∙ n) where
+  not-over : spec.Main ≡ spec.Over outcome.Memory → ⊥
+  not-over e = cc
+
+over-no-new : (s : Stage) (o : Outcome) → s ≡ spec.Over o → s ≡ spec.New → ⊥
+over-no-new s o m n = not-new o (sym n ∙ m)
+
+over-once : (o p : Outcome) → spec.Over o ≡ spec.Over p → o ≡ p
+over-once o p e = cc
+
+-- where the main document is asked for the head was written
+asked-head : (start : Run) → start.stage ≡ spec.New → (taken : Taken) → IsAsked start taken → HasHead taken
+asked-head start new taken a =
+    subst (Begins head) (sym a.out) (leads-head start a.run a.talk new a.leads (main-no-new a.run.stage a.asks) (main-no-lack a.run.stage a.asks))
+
+-- an instruction's fault stands in a file of the sheet
+own-at : (start run : Run) (talk : List Exchange) (o : Outcome) → start.stage ≡ spec.New → Leads start talk run → run.stage ≡ spec.Over o → spec.EndsBy o start.files run.documents
+own-at start run [] o new leads over = absurd (over-no-new run.stage o over (ap (λ (r : Run). r.stage) leads ∙ new))
+own-at start run (x ∷ talk) o new leads over =
+    subst (λ files. spec.EndsBy o files run.documents) (leads-files start run (x ∷ talk) leads)
+    (subst (λ s. StandsAt s run.files run.documents) over (leads-stands start run x talk leads))
+
+module _ (words : List Word) (c : Command) (asked_for : command_of words ≡ Some c) (old mid new : Outside) (x : Loaded) (l : Loads c old mid (Ok x)) (main_of : Main) (ran : Ran)
+    (r : RunsSheet (at_start x.sheet c.limits) main_of mid new ran) where
+  abbrev start : Run
+  start = at_start x.sheet c.limits
+
+  -- the end that is told
+  counts-told : (e : End) → CountsAt e mid new → CountsIn (end_of_run e) old new
+  counts-told (ends.Told o) by = counts_after words c asked_for old mid new x l o by
+  counts-told ends.Unnoted by = (
+    subst (λ n. Rose n new.note_faults) l.counts.note by.0,
+    record { doc = by.1.doc ∙ l.counts.doc; main = by.1.main ∙ l.counts.main; out = by.1.out ∙ l.counts.out; note = refl },
+  )
+
+  failed-told : (e : End) → EndsBy r.run r.acts r.out e → FailedIn (outcome_in (end_of_run e)) (l.acts ++ r.acts) r.out
+  failed-told ends.Unnoted h = tt
+  failed-told (ends.Told outcome.Memory) h = tt
+  failed-told (ends.Told (outcome.Host file fault.Doc offset)) h = tt
+  failed-told (ends.Told (outcome.Host file fault.Read offset)) h = (h.1, h.2 ∙ omega (arith, nothing_read l.acts l.did.no_main_read, main_read-append l.acts r.acts))
+  failed-told (ends.Told (outcome.Host file fault.Write offset)) h = h
+  failed-told (ends.Told outcome.Done) h = tt
+  failed-told (ends.Told outcome.Usage) h = absurd h
+  failed-told (ends.Told (outcome.Sheet why)) h = absurd h
+  failed-told (ends.Told (outcome.Run file code offset)) h = tt
+  failed-told (ends.Told (outcome.Xml file why)) h = tt
+  failed-told (ends.Told (outcome.Fuel file offset)) h = tt
+
+  -- on a document that the sheet asked for
+  failed-on : pass_of x.sheet ≡ None → (docs : List Doc) → documents_told old ≡ Some docs → (reads : Reads) → (e : End) → EndsBy r.run r.acts r.out e
+      → IfDocFailed (outcome_in (end_of_run e)) (FailedOn reads words docs (l.acts ++ r.acts))
+  failed-on none docs documents reads (ends.Told (outcome.Host file fault.Doc offset)) h =
+      inr (c, x.sheet, r.talk, r.run, asked_for, accepted-is words c asked_for old mid docs documents reads x l, none, r.leads, h)
+  failed-on none docs documents reads (ends.Told (outcome.Host file fault.Read offset)) h = tt
+  failed-on none docs documents reads (ends.Told (outcome.Host file fault.Write offset)) h = tt
+  failed-on none docs documents reads ends.Unnoted h = tt
+  failed-on none docs documents reads (ends.Told outcome.Memory) h = tt
+  failed-on none docs documents reads (ends.Told outcome.Done) h = tt
+  failed-on none docs documents reads (ends.Told outcome.Usage) h = tt
+  failed-on none docs documents reads (ends.Told (outcome.Sheet why)) h = tt
+  failed-on none docs documents reads (ends.Told (outcome.Run file code offset)) h = tt
+  failed-on none docs documents reads (ends.Told (outcome.Xml file why)) h = tt
+  failed-on none docs documents reads (ends.Told (outcome.Fuel file offset)) h = tt
+
+  named-so : IsSome (sheet_named words)
+  named-so = subst IsSome (sym (named words c asked_for)) refl
+
+  refuses-told : (e : End) → EndsBy r.run r.acts r.out e → RefusesWords words (end_of_run e)
+  refuses-told ends.Unnoted h = named-so
+  refuses-told (ends.Told outcome.Memory) h = tt
+  refuses-told (ends.Told (outcome.Host file f offset)) h = named-so
+  refuses-told (ends.Told outcome.Done) h = named-so
+  refuses-told (ends.Told outcome.Usage) h = absurd h
+  refuses-told (ends.Told (outcome.Sheet why)) h = absurd h
+  refuses-told (ends.Told (outcome.Run file code offset)) h = named-so
+  refuses-told (ends.Told (outcome.Xml file why)) h = named-so
+  refuses-told (ends.Told (outcome.Fuel file offset)) h = named-so
+
+  own-told : (e : End) → EndsBy r.run r.acts r.out e → IsOwn (Some x.sheet) (end_of_run e)
+  own-told ends.Unnoted h = tt
+  own-told (ends.Told outcome.Memory) h = tt
+  own-told (ends.Told (outcome.Host file f offset)) h = tt
+  own-told (ends.Told outcome.Done) h = tt
+  own-told (ends.Told outcome.Usage) h = tt
+  own-told (ends.Told (outcome.Sheet why)) h = tt
+  own-told (ends.Told (outcome.Run file code offset)) h = own-at start r.run r.talk (outcome.Run file code offset) refl r.leads h
+  own-told (ends.Told (outcome.Xml file why)) h = tt
+  own-told (ends.Told (outcome.Fuel file offset)) h = own-at start r.run r.talk (outcome.Fuel file offset) refl r.leads h
+
+  head-at : (o : Outcome) → r.run.stage ≡ spec.Over o → (o ≡ outcome.Memory → ⊥) → Begins head (bytes_in r.talk)
+  head-at o is some = leads-head start r.run r.talk refl r.leads (over-no-new r.run.stage o is) (λ e. some (over-once o outcome.Memory (sym is ∙ e)))
+
+  begins-told : (e : End) → EndsBy r.run r.acts r.out e → Writes e r.talk r.out r.note → UnlessFailed (outcome_in (end_of_run e)) ((r.out ≡ []) ⊎ Begins head r.out)
+  begins-told ends.Unnoted h w = tt
+  begins-told (ends.Told outcome.Memory) h w = tt
+  begins-told (ends.Told (outcome.Host file f offset)) h w = tt
+  begins-told (ends.Told outcome.Done) h w = inr (subst (Begins head) (sym w.0) (head-at outcome.Done h (λ e. cc)))
+  begins-told (ends.Told outcome.Usage) h w = absurd h
+  begins-told (ends.Told (outcome.Sheet why)) h w = absurd h
+  begins-told (ends.Told (outcome.Run file code offset)) h w = inr (subst (Begins head) (sym w.0) (head-at (outcome.Run file code offset) h (λ e. cc)))
+  begins-told (ends.Told (outcome.Xml file why)) h w = inr (subst (Begins head) (sym w.0) (head-at (outcome.Xml file why) h (λ e. cc)))
+  begins-told (ends.Told (outcome.Fuel file offset)) h w = inr (subst (Begins head) (sym w.0) (head-at (outcome.Fuel file offset) h (λ e. cc)))
+
+  done-so : (e : End) → outcome_in (end_of_run e) ≡ outcome.Done → e ≡ ends.Told outcome.Done
+  done-so (ends.Told o) is = ap ends.Told is
+  done-so ends.Unnoted is = absurd (not-done is) where
+    not-done : outcome.Memory ≡ outcome.Done → ⊥
+    not-done e = cc
+
+  asks-told : AtMainReads (l.acts ++ r.acts) r.out r.note HasHead
+  asks-told = reads_after words c asked_for old mid new x l r.acts r.out r.note HasHead (λ k is_read. asked-head start refl _ (r.reads k is_read))
+
+  -- it isn't answered
+  unanswered : (mode : Mode) → c.mode ≡ mode → (mode ≡ Check → ⊥) → pass_of x.sheet ≡ None → (reads : Reads) (docs : List Doc) → documents_told old ≡ Some docs → (main : List ℕ) (a : Answer) → answer reads words docs main ≡ Some a → ⊥
+  unanswered mode is other none reads docs documents main a e =
+      let names = (loaded reads docs c).opened in
+      let sheet_is = accepted-is words c asked_for old mid docs documents reads x l in
+      none-some a (sym (ap (λ s. sheet_answer c names s main) sheet_is ∙ ap (λ m. mode_answer m c.limits c.sheet names (pass_of x.sheet) main) is ∙ ap (λ p. mode_answer mode c.limits c.sheet names p main) none ∙ by_mode mode other)
+      ∙ sym (answer-is words c asked_for reads docs main) ∙ e) where
+        by_mode : (mode : Mode) → (mode ≡ Check → ⊥) → mode_answer mode c.limits c.sheet (loaded reads docs c).opened None main ≡ None
+        by_mode AsksRun other = refl
+        by_mode Check other = absurd (other refl)
+        by_mode (Sample records) other = refl
+
+  unsaid : (mode : Mode) → c.mode ≡ mode → (mode ≡ Check → ⊥) → pass_of x.sheet ≡ None → (reads : Reads) (docs : List Doc) → documents_told old ≡ Some docs → (main : List ℕ) → IsSome (answer reads words docs main) → ⊥
+  unsaid mode is other none reads docs documents main said = by_answer (answer reads words docs main) refl said where
+    by_answer : (said : Option Answer) → answer reads words docs main ≡ said → IsSome said → ⊥
+    by_answer None e some = absurd (false≢true some)
+    by_answer (Some a) e some = unanswered mode is other none reads docs documents main a e
+
+  -- the sheet that is told
+  own-in : (docs : List Doc) → documents_told old ≡ Some docs → (reads : Reads) (end : RunEnd) → IsOwn (Some x.sheet) end → IsOwn (accepted (loaded reads docs c).result) end
+  own-in docs documents reads end h = subst (λ s. IsOwn (accepted s) end) (sym (accepted-is words c asked_for old mid docs documents reads x l)) h
+
+-- The main document was read by the sheet
+
+module _ (words : List Word) (c : Command) (asked_for : command_of words ≡ Some c) (old mid new : Outside) (x : Loaded) (l : Loads c old mid (Ok x)) (ran : Ran) where
+  pub ran-any : c.mode ≡ AsksRun → pass_of x.sheet ≡ None → RunsSheet (at_start x.sheet c.limits) main.Host mid new ran → Runs words old new (end_of_run ran.end)
+  ran-any plain none r = record {
+    acts = l.acts ++ r.acts;
+    out = r.out;
+    note = r.note;
+    between = between_after words c asked_for old mid new x l r.acts r.out r.note r.between;
+    ended = main_ends (at_start x.sheet c.limits) r.talk;
+    once = once_after words c asked_for old mid new x l (main_ends (at_start x.sheet c.limits) r.talk) r.acts r.hands.0;
+    ids = r.ids ∙ l.ids;
+    counts = counts-told words c asked_for old mid new x l main.Host ran r ran.end r.counts;
+    failed = failed-told words c asked_for old mid new x l main.Host ran r ran.end r.ends;
+    refuses = refuses-told words c asked_for old mid new x l main.Host ran r ran.end r.ends;
+    takes = λ no_run. absurd (asks_some words c asked_for AsksRun plain refl no_run);
+    told = λ docs document documents told. record {
+      answered = λ reads a e. absurd (unanswered words c asked_for old mid new x l main.Host ran r AsksRun plain (λ e. cc) none reads docs documents document a e);
+      sheet = λ reads. loads_sheet words c asked_for old mid new x l docs documents reads r.acts (outcome_in (end_of_run ran.end)) (answer reads words docs document)
+          (λ said. absurd (unsaid words c asked_for old mid new x l main.Host ran r AsksRun plain (λ e. cc) none reads docs documents document said));
+      failed = λ reads. failed-on words c asked_for old mid new x l main.Host ran r none docs documents reads ran.end r.ends;
+      own = λ reads. for_command words c asked_for (λ c. IsOwn (accepted (loaded reads docs c).result) (end_of_run ran.end))
+          (own-in words c asked_for old mid new x l main.Host ran r docs documents reads (end_of_run ran.end) (own-told words c asked_for old mid new x l main.Host ran r ran.end r.ends));
+    };
+    main_told = λ document told. record {
+      all = λ asks done.
+          let whole = r.whole (done-so words c asked_for old mid new x l main.Host ran r ran.end done) in
+          let handed = r.hands.2 document (main_after words c asked_for old mid new x l document told) in (
+            whole,
+            omega (arith, nothing_read l.acts l.did.no_main_read, main_read-append l.acts r.acts, r.hands.1, ap length (handed.1 whole)),
+          );
+      begins = begins-told words c asked_for old mid new x l main.Host ran r ran.end r.ends r.writes;
+      asks = asks-told words c asked_for old mid new x l main.Host ran r;
+    };
+  }
+
+  -- the sample was
+  module _ (records : ℕ) (pieces : List (List ℕ)) where
+    abbrev of : Main
+    of = main.Sample pieces
+
+    abbrev end : RunEnd
+    end = end_of_sample records ran ran.end
+
+    abbrev summary : Summary
+    summary = record { records = records; input = ran.input; output = ran.output }
+
+    -- a run that is done tells what it read and wrote, and all others as on a main document
+    outcome-same : (e : End) → outcome_in (end_of_sample records ran e) ≡ outcome_in (end_of_run e)
+    outcome-same ends.Unnoted = refl
+    outcome-same (ends.Told o) = outcome-on summary o
+
+    counts-on : (e : End) → CountsIn (end_of_run e) old new → CountsIn (end_of_sample records ran e) old new
+    counts-on ends.Unnoted h = h
+    counts-on (ends.Told outcome.Done) h = h
+    counts-on (ends.Told outcome.Memory) h = h
+    counts-on (ends.Told (outcome.Host file f offset)) h = h
+    counts-on (ends.Told outcome.Usage) h = h
+    counts-on (ends.Told (outcome.Sheet why)) h = h
+    counts-on (ends.Told (outcome.Run file code offset)) h = h
+    counts-on (ends.Told (outcome.Xml file why)) h = h
+    counts-on (ends.Told (outcome.Fuel file offset)) h = h
+
+    refuses-on : (e : End) → RefusesWords words (end_of_run e) → RefusesWords words (end_of_sample records ran e)
+    refuses-on ends.Unnoted h = h
+    refuses-on (ends.Told outcome.Done) h = h
+    refuses-on (ends.Told outcome.Memory) h = h
+    refuses-on (ends.Told (outcome.Host file f offset)) h = h
+    refuses-on (ends.Told outcome.Usage) h = h
+    refuses-on (ends.Told (outcome.Sheet why)) h = h
+    refuses-on (ends.Told (outcome.Run file code offset)) h = h
+    refuses-on (ends.Told (outcome.Xml file why)) h = h
+    refuses-on (ends.Told (outcome.Fuel file offset)) h = h
+
+    own-on : (e : End) → IsOwn (Some x.sheet) (end_of_run e) → IsOwn (Some x.sheet) (end_of_sample records ran e)
+    own-on ends.Unnoted h = h
+    own-on (ends.Told outcome.Done) h = tt
+    own-on (ends.Told outcome.Memory) h = h
+    own-on (ends.Told (outcome.Host file f offset)) h = h
+    own-on (ends.Told outcome.Usage) h = h
+    own-on (ends.Told (outcome.Sheet why)) h = h
+    own-on (ends.Told (outcome.Run file code offset)) h = h
+    own-on (ends.Told (outcome.Xml file why)) h = h
+    own-on (ends.Told (outcome.Fuel file offset)) h = h
+
+    unread : (r : RunsSheet (at_start x.sheet c.limits) of mid new ran) → list_any is_main_read (l.acts ++ r.acts) ≡ false
+    unread r = list_any-append is_main_read l.acts r.acts ∙ ap (λ b. b || list_any is_main_read r.acts) l.did.no_main_read ∙ r.hands.0
+
+    pub ran-any-sampled : c.mode ≡ Sample records → pass_of x.sheet ≡ None → RunsSheet (at_start x.sheet c.limits) of mid new ran → Runs words old new end
+    ran-any-sampled sample none r = record {
+      acts = l.acts ++ r.acts;
+      out = r.out;
+      note = r.note;
+      between = between_after words c asked_for old mid new x l r.acts r.out r.note r.between;
+      ended = false;
+      once = none_once (l.acts ++ r.acts) (unread r);
+      ids = r.ids ∙ l.ids;
+      counts = counts-on ran.end (counts-told words c asked_for old mid new x l of ran r ran.end r.counts);
+      failed = subst (λ o. FailedIn o (l.acts ++ r.acts) r.out) (sym (outcome-same ran.end)) (failed-told words c asked_for old mid new x l of ran r ran.end r.ends);
+      refuses = refuses-on ran.end (refuses-told words c asked_for old mid new x l of ran r ran.end r.ends);
+      takes = λ no_run. absurd (asks_some words c asked_for (Sample records) sample refl no_run);
+      told = λ docs document documents told. record {
+        answered = λ reads a e. absurd (unanswered words c asked_for old mid new x l of ran r (Sample records) sample (λ e. cc) none reads docs documents document a e);
+        sheet = λ reads. loads_sheet words c asked_for old mid new x l docs documents reads r.acts (outcome_in end) (answer reads words docs document)
+            (λ said. absurd (unsaid words c asked_for old mid new x l of ran r (Sample records) sample (λ e. cc) none reads docs documents document said));
+        failed = λ reads. subst (λ o. IfDocFailed o (FailedOn reads words docs (l.acts ++ r.acts))) (sym (outcome-same ran.end)) (failed-on words c asked_for old mid new x l of ran r none docs documents reads ran.end r.ends);
+        own = λ reads. for_command words c asked_for (λ c. IsOwn (accepted (loaded reads docs c).result) end)
+            (own-in words c asked_for old mid new x l of ran r docs documents reads end (own-on ran.end (own-told words c asked_for old mid new x l of ran r ran.end r.ends)));
+      };
+      main_told = λ document told. record {
+        all = λ asks is. absurd (unasked words c asked_for (Sample records) sample refl asks);
+        begins = subst (λ o. UnlessFailed o ((r.out ≡ []) ⊎ Begins head r.out)) (sym (outcome-same ran.end)) (begins-told words c asked_for old mid new x l of ran r ran.end r.ends r.writes);
+        asks = no_main_reads (l.acts ++ r.acts) r.out r.note HasHead (unread r);
+      };
+    }
+
+  -- there was no memory to begin it
+  pub ran-lacking : new ≡ mid → Runs words old new (Told outcome.Memory)
+  ran-lacking is = subst (λ o. Runs words old o (Told outcome.Memory)) (sym is) (record {
+    acts = l.acts;
+    out = [];
+    note = [];
+    between = l.did.between;
+    ended = false;
+    once = none_once l.acts l.did.no_main_read;
+    ids = l.ids;
+    counts = l.counts.note;
+    failed = tt;
+    refuses = tt;
+    takes = λ no_run. tt;
+    told = λ docs document documents told. record {
+      answered = λ reads a e. record {
+        asks = no_main_reads l.acts [] [] (Asks reads words docs document) l.did.no_main_read;
+        prefix = begins_nothing a.out;
+        ends = tt;
+        opened = subst (λ names. OpensNames docs names outcome.Memory l.acts) (answer-opened words c asked_for reads docs document a e) (opens-all words c asked_for old mid docs documents reads x l outcome.Memory);
+        failed = tt;
+        takes = tt;
+        quiet = refl;
+      };
+      sheet = λ reads. for_command words c asked_for (λ c. LoadsFirst reads docs c.sheet (OpensNames docs (loaded reads docs c).opened outcome.Memory) (answer reads words docs document) l.acts)
+          (loads-alone words c asked_for old mid docs documents reads (Ok x) l outcome.Memory (opens-all words c asked_for old mid docs documents reads x l outcome.Memory) (answer reads words docs document));
+      failed = λ reads. tt;
+      own = λ reads. for_command words c asked_for (λ c. IsOwn (accepted (loaded reads docs c).result) (Told outcome.Memory)) tt;
+    };
+    main_told = λ document told. record { all = λ asks is. cc; begins = tt; asks = no_main_reads l.acts [] [] HasHead l.did.no_main_read };
+  })
+
+-- What a command did
+
+module _ (words : List Word) (c : Command) (asked_for : command_of words ≡ Some c) (old : Outside) (taken : DocumentsAreTaken) where
+  ran-does : (mid new : Outside) (x : Loaded) (l : Loads c old mid (Ok x)) (end : RunEnd) → Does c x.sheet mid new end → Runs words old new end
+  ran-does mid new x l end (Checks alone same is) =
+      subst (λ o. Runs words old o end) (sym same) (subst (Runs words old mid) (sym is) (ran-checked words c asked_for old mid alone x l))
+  ran-does mid new x l end (Passes plain pass passes o d is) = subst (Runs words old new) (sym is) (ran-driven words c asked_for old mid new x l plain pass passes o d taken)
+  ran-does mid new x l end (PassesSample records sample pass passes d) = ran-sampled words c asked_for old mid new x l records sample pass passes end d taken
+  ran-does mid new x l end (RunsIt plain none ran (inl r) is) = subst (Runs words old new) (sym is) (ran-any words c asked_for old mid new x l ran plain none r)
+  ran-does mid new x l end (RunsIt plain none ran (inr lacks) is) =
+      subst (Runs words old new) (sym (is ∙ ap end_of_run lacks.1)) (ran-lacking words c asked_for old mid new x l ran lacks.0)
+  ran-does mid new x l end (RunsOnSample records sample none ran (inl r) is) = subst (Runs words old new) (sym is) (ran-any-sampled words c asked_for old mid new x l ran records (pieces records) sample none r)
+  ran-does mid new x l end (RunsOnSample records sample none ran (inr lacks) is) =
+      subst (Runs words old new) (sym (is ∙ ap (end_of_sample records ran) lacks.1)) (ran-lacking words c asked_for old mid new x l ran lacks.0)
+
+  pub ran-command : (new : Outside) (end : RunEnd) → DoesCommand c old new end → Runs words old new end
+  ran-command new end (Stops o l is) = subst (Runs words old new) (sym is) (ran-stopped words c asked_for old new o l)
+  ran-command new end (GoesOn mid x l does) = ran-does mid new x l end does

@@ -1,0 +1,80 @@
+-- What is done with a sheet, by what is asked for.
+use Rattle.std.specs.Prelude.{◌≡◌, ℕ, ◌+◌, ◌<◌, ◌≤◌, ◌^◌, ◌⊎◌, List, Some, None, Ok, Err}
+use Rattle.std.specs.declared.result.Result.{Result}
+use Rattle.stx_base.specs.StandardLimits.{standard_limits}
+use Rattle.stx_host.specs.Outside.{Outside}
+use Rattle.stx_host.specs.declared.act.Act.{Act}
+use Rattle.command_words.specs.declared.command.Command.{Command}
+use Rattle.command_words.specs.declared.command.Mode.{Mode}
+use Rattle.command_words.specs.declared.param.Param as given
+use Rattle.template_machine.specs.declared.turn.Param.{Param}
+use Rattle.stx_base.specs.declared.limits.Limits.{Limits}
+use Rattle.stx_engine.specs.declared.asked.Asked.{Asked}
+use Rattle.command_words.specs.declared.command.Mode.TheVariants.{Run as AsksRun, Check, Sample}
+use Rattle.fault_report.specs.declared.outcome.Outcome.{Outcome}
+use Rattle.fault_report.specs.declared.outcome.Outcome.TheVariants.{Done, Memory}
+use Rattle.run_engine.specs.Run.{at_start}
+use Rattle.sample_maker.specs.Document.{pieces}
+use Rattle.sheet_files.specs.Loading.{LoadActs, LoadAnswers, LoadCounts}
+use Rattle.sheet_files.specs.Opened.{documents_told}
+use Rattle.sheet_files.specs.declared.load.Loaded.{Loaded}
+use Rattle.sheet_model.specs.declared.sheet.Sheet.{Sheet}
+use Rattle.sheet_runs.specs.Runs.{RunsSheet}
+use Rattle.sheet_runs.specs.declared.main_document.Main.{Main}
+use Rattle.sheet_runs.specs.declared.main_document.Main.TheVariants as main
+use Rattle.sheet_runs.specs.declared.run.End.TheVariants as ends
+use Rattle.sheet_runs.specs.declared.run.Ran.{Ran}
+use Rattle.stx_engine.specs.Driving.{Drives, DrivesSample}
+use Rattle.stx_engine.specs.Plain.{pass_of}
+use Rattle.stx_engine.specs.RunEnd.{end_of_run, end_of_sample}
+use Rattle.stx_engine.specs.declared.pass.Pass.{Pass}
+use Rattle.stx_engine.specs.declared.run_end.RunEnd.{RunEnd}
+use Rattle.stx_engine.specs.declared.run_end.RunEnd.TheVariants.{Told}
+
+-- Loading the sheet that a command names came to this.
+pub record Loads (c : Command) (old new : Outside) (answer : Result Loaded Outcome) : Type 0 where
+  pub answers : LoadAnswers (documents_told old) standard_limits c.sheet answer
+  pub acts : List Act
+  pub did : LoadActs old new standard_limits c.sheet answer acts
+  pub counts : LoadCounts old new answer
+  pub ids : new.open_ids ≡ old.open_ids
+
+-- what is asked of a sheet, in a mode
+abbrev pub asked_by : Asked → Mode → Command
+asked_by a mode = record { sheet = a.name; params = a.params; limits = a.limits; mode = mode }
+
+-- a parameter of the command, as a sheet takes it
+abbrev pub param_of : given.Param → Param
+param_of p = record { name = p.name; value = p.value }
+
+-- what all limits are that words can give
+pub record AreUsual (limits : Limits) : Type 0 where
+  pub below : limits.depth ≤ limits.elements
+  pub depth : limits.depth + 1 < 2 ^ 32
+  pub elements : limits.elements + 1 < 2 ^ 32
+  pub input : limits.input ≤ 2 ^ 50
+
+-- a run of any sheet came to this, or there was no memory to begin it
+abbrev pub RunsAny : Limits → Sheet → Main → (old new : Outside) → Ran → Type 0
+RunsAny limits sheet main old new ran =
+    RunsSheet (at_start sheet limits) main old new ran ⊎ ((new ≡ old) × (ran.end ≡ ends.Told Memory))
+
+-- what was done with a sheet that was accepted
+pub data Does (c : Command) (sheet : Sheet) (old new : Outside) (end : RunEnd) : Type 0 where
+  -- nothing: the sheet alone was asked for
+  Checks : c.mode ≡ Check → new ≡ old → end ≡ Told Done → Does c sheet old new end
+  -- the main document, or the sample, was passed through
+  Passes : c.mode ≡ AsksRun → (pass : Pass) → pass_of sheet ≡ Some pass → (o : Outcome) → Drives c.limits pass c.sheet old new o → end ≡ Told o
+      → Does c sheet old new end
+  PassesSample : (records : ℕ) → c.mode ≡ Sample records → (pass : Pass) → pass_of sheet ≡ Some pass → DrivesSample c.limits pass c.sheet records old new end
+      → Does c sheet old new end
+  -- it was run by the sheet
+  RunsIt : c.mode ≡ AsksRun → pass_of sheet ≡ None → (ran : Ran) → RunsAny c.limits sheet main.Host old new ran → end ≡ end_of_run ran.end
+      → Does c sheet old new end
+  RunsOnSample : (records : ℕ) → c.mode ≡ Sample records → pass_of sheet ≡ None → (ran : Ran) → RunsAny c.limits sheet (main.Sample (pieces records)) old new ran
+      → end ≡ end_of_sample records ran ran.end → Does c sheet old new end
+
+-- what was done where the words are accepted
+pub data DoesCommand (c : Command) (old new : Outside) (end : RunEnd) : Type 0 where
+  Stops : (o : Outcome) → Loads c old new (Err o) → end ≡ Told o → DoesCommand c old new end
+  GoesOn : (mid : Outside) (loaded : Loaded) → Loads c old mid (Ok loaded) → Does c loaded.sheet mid new end → DoesCommand c old new end
