@@ -57,7 +57,7 @@ kinds_by_name a b e = the_one a b (sym (kind_found a) ∙ ap kind_named e ∙ ki
 
 abbrev sheet_codes : List SheetCode
 sheet_codes =
-    code.SheetTooLarge ∷ code.BadXml ∷ code.NotStx ∷ code.UnknownElement ∷ code.Misplaced ∷ code.UnknownAttribute ∷ code.MissingAttribute ∷ code.Version ∷ code.BadValue ∷ code.Fraction ∷ code.BadPath ∷ code.DuplicateName ∷ code.IncludeLoop ∷ code.NoDocument ∷ code.NoGroup ∷ code.NoProcedure ∷ code.NoBuffer ∷ code.NoVariable ∷ code.NotBuilt ∷ []
+    code.SheetTooLarge ∷ code.BadXml ∷ code.NotStx ∷ code.UnknownElement ∷ code.Misplaced ∷ code.UnknownAttribute ∷ code.MissingAttribute ∷ code.Version ∷ code.BadValue ∷ code.Fraction ∷ code.BadPath ∷ code.DuplicateName ∷ code.IncludeLoop ∷ code.NoDocument ∷ code.NoGroup ∷ code.NoProcedure ∷ code.NoBuffer ∷ code.NoVariable ∷ []
 
 abbrev sheet_code_named : List ℕ → Option SheetCode
 sheet_code_named name = find (λ c. same (sheet_code_name c) name) sheet_codes
@@ -81,7 +81,6 @@ sheet_code_found code.NoGroup = refl
 sheet_code_found code.NoProcedure = refl
 sheet_code_found code.NoBuffer = refl
 sheet_code_found code.NoVariable = refl
-sheet_code_found code.NotBuilt = refl
 
 pub sheet_codes_by_name : SheetCodesByName
 sheet_codes_by_name a b e = the_one a b (sym (sheet_code_found a) ∙ ap sheet_code_named e ∙ sheet_code_found b)

@@ -32,7 +32,6 @@ sheet_code_name code.NoGroup = codes "NoGroup"
 sheet_code_name code.NoProcedure = codes "NoProcedure"
 sheet_code_name code.NoBuffer = codes "NoBuffer"
 sheet_code_name code.NoVariable = codes "NoVariable"
-sheet_code_name code.NotBuilt = codes "NotBuilt"
 
 -- the name of a run's fault
 abbrev pub run_code_name : RunCode → List ℕ

@@ -129,7 +129,6 @@ fn sheet_code(code: SheetCode) -> &'static str
         SheetCode::NoProcedure => "NoProcedure",
         SheetCode::NoBuffer => "NoBuffer",
         SheetCode::NoVariable => "NoVariable",
-        SheetCode::NotBuilt => "NotBuilt",
     }
 }
 

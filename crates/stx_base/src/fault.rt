@@ -94,8 +94,6 @@ pub enum SheetCode {
     NoBuffer,
     #[error("no variable has this name")]
     NoVariable,
-    #[error("a form that this version does not run yet")]
-    NotBuilt,
 }
 
 /// Why a run stops at an instruction.
