@@ -19,8 +19,9 @@ the status is 0 and nothing is noted. The block `xml expressions` is a document
 for the tables beneath it with the head `| Expression | Value |`: each expression
 is evaluated at its element that has the attribute `here`, and the items of the
 value are written with `, ` between them. `empty` stands for nothing, and a code
-in italics for the fault that comes. Every fenced block whose first word is stx,
-xml or text has to be of this form, so none is left out unseen.
+in italics for the fault that comes. Each sheet that isn't refused is checked by
+the schema too, where there is xmllint. Every fenced block whose first word is
+stx, xml or text has to be of this form, so none is left out unseen.
 """
 
 import html
@@ -31,6 +32,7 @@ import sys
 import tempfile
 from pathlib import Path
 
+SCHEMA = Path(__file__).resolve().parent.parent / "schema" / "stx.rng"
 HEAD = '<?xml version="1.0" encoding="UTF-8"?>\n'
 NAMESPACE = "http://stx.sourceforge.net/2002/ns"
 ROOT = f'<stx:transform version="1.0" xmlns:stx="{NAMESPACE}">'
@@ -74,6 +76,17 @@ def run(program, example):
         document = example.get("document", "").encode()
         ran = subprocess.run(words, input=document, cwd=folder, capture_output=True, check=False)
     return ran.stdout.decode(), ran.stderr.decode(), ran.returncode
+
+
+def by_schema(example):
+    """What is wrong by the schema with the sheets of an example, or nothing."""
+    sheets = [text for name, text in example["files"].items() if name.endswith(".stx")]
+    for sheet in [whole(example["sheet"]), *sheets]:
+        words = ["xmllint", "--noout", "--relaxng", SCHEMA, "-"]
+        ran = subprocess.run(words, input=sheet.encode(), capture_output=True, check=False)
+        if ran.returncode:
+            return f"not valid by the schema: {ran.stderr.decode().splitlines()[0]}"
+    return None
 
 
 def wanted(example):
@@ -129,6 +142,9 @@ def main(program, *pages):
     program = shutil.which(program) or program
     program = str(Path(program).resolve())
     good = bad = 0
+    schema = shutil.which("xmllint") is not None
+    if not schema:
+        print("sheets of the documentation by the schema: skipped, as there is no xmllint")
     for page in pages:
         for line, example, fault in examples(page):
             if example is None:
@@ -141,6 +157,8 @@ def main(program, *pages):
                     said = None if came[2] == 1 and f": {fault} at " in came[1] else f"came {came}, not {fault}"
                 else:
                     said = None if came == wanted(example) else f"came {came},\n    not {wanted(example)}"
+                if said is None and schema and wanted(example)[2] != 3:
+                    said = by_schema(example)
             if said is None:
                 good += 1
             else:
