@@ -51,8 +51,10 @@ def blocks(text):
                 kept.append(line)
         elif line.startswith("```"):
             words, kept, begun, table = line[3:].split(), [], number, False
-        elif line == "| Expression | Value |":
+        elif line.startswith("| Expression"):
             table = True
+            if line != "| Expression | Value |":
+                yield number, ["open"], ""
         elif not line.startswith("|"):
             table = False
         elif table and not line.startswith("|---"):
