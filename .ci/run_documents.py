@@ -5,8 +5,10 @@ Usage: run_documents.py ROWS PROGRAM...
 
 ROWS is the file of rows with the documents that whole runs are tested on: those
 that are read to their end and those with a fault, each with what copying and
-stripping it gives. PROGRAM is the command, without the name of a sheet. Two
-more documents, which only their size makes faulty, are made here.
+stripping it gives. PROGRAM is the command, without the name of a sheet. Three
+more documents, which only their size makes faulty, are made here. Each is run
+under sheets that only pass it through, and under the same sheets with a template
+that fits none of its nodes: these are run in another way, and give the same.
 """
 
 import subprocess
@@ -16,7 +18,8 @@ from pathlib import Path
 
 from rows import bytes_of, rows, text_of
 
-SHEET = '<stx:transform version="1.0" xmlns:stx="http://stx.sourceforge.net/2002/ns"{}></stx:transform>'
+SHEET = '<stx:transform version="1.0" xmlns:stx="http://stx.sourceforge.net/2002/ns"{}>{}</stx:transform>'
+TEMPLATE = '<stx:template match="no-such-node"><never/></stx:template>'
 HEAD = '<?xml version="1.0" encoding="UTF-8"?>\n'
 # The limits of a lexeme's bytes and of a text's characters.
 LIMIT = 64 * 1024 * 1024
@@ -41,13 +44,14 @@ def main(path, *program):
     ran = failed = 0
     with tempfile.TemporaryDirectory() as folder:
         for name, attribute in sheets.items():
-            Path(folder, name).write_text(SHEET.format(attribute), encoding="ascii")
+            Path(folder, name).write_text(SHEET.format(attribute, ""), encoding="ascii")
+            Path(folder, f"{name} with a template").write_text(SHEET.format(attribute, TEMPLATE), encoding="ascii")
         for document, copied, stripped, fault in documents(path):
             content = {"all": copied, "text": stripped, "none": ""}
             wanted_note = f"stx: -: {fault}\n" if fault else ""
-            for name in sheets:
+            for name in (it + way for it in sheets for way in ("", " with a template")):
                 run = subprocess.run([*program, name], input=document, cwd=folder, capture_output=True, check=False)
-                wanted = (4 if fault else 0, (HEAD + content[name]).encode(), wanted_note.encode())
+                wanted = (4 if fault else 0, (HEAD + content[name.split()[0]]).encode(), wanted_note.encode())
                 ran += 1
                 if (run.returncode, run.stdout, run.stderr) != wanted:
                     failed += 1
