@@ -457,7 +457,7 @@ module _ (words : List (List ℕ)) (old mid new : Outside) (end : RunEnd) (r : R
 
     -- what documents were opened, by the status
     opens_by_status : (names : List (List ℕ)) (acts : List Act) → OpensNames docs names (outcome_in end) acts → OpensFirst docs names result acts
-    opens_by_status names acts n = (n.0, n.1, n.2, λ five seven. not_failed (n.0 ≡ names) n.3 five seven)
+    opens_by_status names opening n = (n.0, n.1, n.2, λ five seven. not_failed (n.0 ≡ names) n.3 five seven)
 
     pub reads_sheet_first : (reads : Reads) → ReadsSheetFirst old new reads words docs main result
     reads_sheet_first reads =

@@ -5,7 +5,7 @@ use Rattle.std.specs.Option.{option_and_then}
 use Rattle.std.proofs.lemmas.Bool.{false≢true}
 use Rattle.std.proofs.lemmas.List.{append-nil}
 use Rattle.std.proofs.lemmas.List.Folds.{list_any-append}
-use Rattle.std.proofs.lemmas.Option.{none-some}
+use Rattle.std.proofs.lemmas.Option.{none-some, same_Some}
 use Rattle.stx_base.specs.Course.{Begins}
 use Rattle.stx_base.specs.declared.limits.Limits.{Limits}
 use Rattle.command_words.specs.Said.{Word}
@@ -31,8 +31,8 @@ use Rattle.sheet_loader.specs.Values.{Reads}
 use Rattle.sheet_model.specs.declared.sheet.Sheet as model
 use Rattle.sheet_runs.specs.Counts.{CountsAt, CountsBy, SameCounts}
 use Rattle.sheet_runs.specs.Reading.{EndOnce, main_gots}
-use Rattle.sheet_runs.specs.Runs.{EndsBy, FailsOn, HandsMain, IsAsked, RunsSheet, Writes, WritesAll}
-use Rattle.sheet_runs.specs.Talk.{Exchange, Gives, Leads, bytes_in, main_ends, main_in, notes_in}
+use Rattle.sheet_runs.specs.Runs.{AreAsTold, EndsBy, FailsOn, HandsMain, IsAsked, RunsSheet, Writes, WritesAll}
+use Rattle.sheet_runs.specs.Talk.{Besides, Exchange, Gives, Leads, beside_in, bytes_in, main_ends, main_in, none_beside, notes_in}
 use Rattle.sheet_runs.specs.declared.main_document.Main.{Main}
 use Rattle.sheet_runs.specs.declared.main_document.Main.TheVariants as main
 use Rattle.sheet_runs.specs.declared.run.End.{End}
@@ -136,6 +136,13 @@ own-at start run (x ∷ talk) o new leads over =
     subst (λ files. spec.EndsBy o files run.documents) (leads-files start run (x ∷ talk) leads)
     (subst (λ s. StandsAt s run.files run.documents) over (leads-stands start run x talk leads))
 
+-- where documents are told with the ids that are open
+told-both : (ids : Option (List ℕ)) (documents : Option (List Doc)) (docs : List Doc) → option_and_then (λ ids. documents) ids ≡ Some docs
+    → (P : List Doc → Type 0) → IfSome documents (λ docs. IfSome ids (λ is. P docs)) → P docs
+told-both None documents docs e P p = absurd (none-some docs e)
+told-both (Some ids) None docs e P p = absurd (none-some docs e)
+told-both (Some ids) (Some all) docs e P p = subst P (same_Some all docs e) p
+
 module _ (words : List Word) (c : Command) (asked_for : command_of words ≡ Some c) (old mid new : Outside) (x : Loaded) (l : Loads c old mid (Ok x)) (main_of : Main) (ran : Ran)
     (r : RunsSheet (at_start x.sheet c.limits) main_of mid new ran) where
   abbrev start : Run
@@ -162,11 +169,31 @@ module _ (words : List Word) (c : Command) (asked_for : command_of words ≡ Som
   failed-told (ends.Told (outcome.Xml file why)) h = tt
   failed-told (ends.Told (outcome.Fuel file offset)) h = tt
 
+  -- the documents beside the main one, as they were handed in
+  abbrev beside : Besides
+  beside = beside_in none_beside start r.talk
+
+  handed-so : IfSome old.documents (λ docs. IfSome old.open_ids (λ ids. AreAsTold docs beside))
+  handed-so =
+      subst (λ ids. IfSome old.documents (λ docs. IfSome ids (λ is. AreAsTold docs beside))) l.ids
+      (subst (λ told. IfSome told (λ docs. IfSome mid.open_ids (λ is. AreAsTold docs beside))) l.did.between.documents r.beside)
+
   -- on a document that the sheet asked for
   failed-on : pass_of x.sheet ≡ None → (docs : List Doc) → documents_told old ≡ Some docs → (reads : Reads) → (e : End) → EndsBy r.run r.acts r.out e
       → IfDocFailed (outcome_in (end_of_run e)) (FailedOn reads words docs (l.acts ++ r.acts))
   failed-on none docs documents reads (ends.Told (outcome.Host file fault.Doc offset)) h =
-      inr (c, x.sheet, r.talk, r.run, asked_for, accepted-is words c asked_for old mid docs documents reads x l, none, r.leads, h)
+      inr (record {
+        command = c;
+        sheet = x.sheet;
+        talk = r.talk;
+        run = r.run;
+        asked_for = asked_for;
+        accepts = accepted-is words c asked_for old mid docs documents reads x l;
+        does_more = none;
+        leads = r.leads;
+        handed = told-both old.open_ids old.documents docs documents (λ docs. AreAsTold docs beside) handed-so;
+        fails = h;
+      })
   failed-on none docs documents reads (ends.Told (outcome.Host file fault.Read offset)) h = tt
   failed-on none docs documents reads (ends.Told (outcome.Host file fault.Write offset)) h = tt
   failed-on none docs documents reads ends.Unnoted h = tt
@@ -400,17 +427,17 @@ module _ (words : List Word) (c : Command) (asked_for : command_of words ≡ Som
 
 module _ (words : List Word) (c : Command) (asked_for : command_of words ≡ Some c) (old : Outside) (taken : DocumentsAreTaken) where
   ran-does : (mid new : Outside) (x : Loaded) (l : Loads c old mid (Ok x)) (end : RunEnd) → Does c x.sheet mid new end → Runs words old new end
-  ran-does mid new x l end (Checks alone same is) =
-      subst (λ o. Runs words old o end) (sym same) (subst (Runs words old mid) (sym is) (ran-checked words c asked_for old mid alone x l))
-  ran-does mid new x l end (Passes plain pass passes o d is) = subst (Runs words old new) (sym is) (ran-driven words c asked_for old mid new x l plain pass passes o d taken)
-  ran-does mid new x l end (PassesSample records sample pass passes d) = ran-sampled words c asked_for old mid new x l records sample pass passes end d taken
-  ran-does mid new x l end (RunsIt plain none ran (inl r) is) = subst (Runs words old new) (sym is) (ran-any words c asked_for old mid new x l ran plain none r)
-  ran-does mid new x l end (RunsIt plain none ran (inr lacks) is) =
+  ran-does mid new x l e (Checks alone same is) =
+      subst (λ o. Runs words old o e) (sym same) (subst (Runs words old mid) (sym is) (ran-checked words c asked_for old mid alone x l))
+  ran-does mid new x l e (Passes plain pass passes o d is) = subst (Runs words old new) (sym is) (ran-driven words c asked_for old mid new x l plain pass passes o d taken)
+  ran-does mid new x l e (PassesSample records sample pass passes d) = ran-sampled words c asked_for old mid new x l records sample pass passes e d taken
+  ran-does mid new x l e (RunsIt plain none ran (inl r) is) = subst (Runs words old new) (sym is) (ran-any words c asked_for old mid new x l ran plain none r)
+  ran-does mid new x l e (RunsIt plain none ran (inr lacks) is) =
       subst (Runs words old new) (sym (is ∙ ap end_of_run lacks.1)) (ran-lacking words c asked_for old mid new x l ran lacks.0)
-  ran-does mid new x l end (RunsOnSample records sample none ran (inl r) is) = subst (Runs words old new) (sym is) (ran-any-sampled words c asked_for old mid new x l ran records (pieces records) sample none r)
-  ran-does mid new x l end (RunsOnSample records sample none ran (inr lacks) is) =
+  ran-does mid new x l e (RunsOnSample records sample none ran (inl r) is) = subst (Runs words old new) (sym is) (ran-any-sampled words c asked_for old mid new x l ran records (pieces records) sample none r)
+  ran-does mid new x l e (RunsOnSample records sample none ran (inr lacks) is) =
       subst (Runs words old new) (sym (is ∙ ap (end_of_sample records ran) lacks.1)) (ran-lacking words c asked_for old mid new x l ran lacks.0)
 
   pub ran-command : (new : Outside) (end : RunEnd) → DoesCommand c old new end → Runs words old new end
-  ran-command new end (Stops o l is) = subst (Runs words old new) (sym is) (ran-stopped words c asked_for old new o l)
-  ran-command new end (GoesOn mid x l does) = ran-does mid new x l end does
+  ran-command new e (Stops o l is) = subst (Runs words old new) (sym is) (ran-stopped words c asked_for old new o l)
+  ran-command new e (GoesOn mid x l does) = ran-does mid new x l e does

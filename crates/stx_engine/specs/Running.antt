@@ -23,8 +23,8 @@ use Rattle.sheet_loader.specs.Values.{Reads}
 use Rattle.sheet_model.specs.declared.sheet.Sheet as model
 use Rattle.sheet_runs.specs.Counts.{CountsBy, SameCounts}
 use Rattle.sheet_runs.specs.Reading.{EndOnce, main_gots}
-use Rattle.sheet_runs.specs.Runs.{FailsOn}
-use Rattle.sheet_runs.specs.Talk.{Exchange, Leads}
+use Rattle.sheet_runs.specs.Runs.{AreAsTold, FailsOn}
+use Rattle.sheet_runs.specs.Talk.{Exchange, Leads, beside_in, none_beside}
 use Rattle.run_engine.specs.Run.{head}
 use Rattle.stx_engine.specs.Answer.{Answer, Plan, accepted, answer, asked, asks_any_run, asks_run, loaded, sheet_named}
 use Rattle.stx_engine.specs.Driving.{FailedAt, IsSettledAt, ReadsAll, UnlessFailed, is_doc_read}
@@ -48,12 +48,19 @@ abbrev pub FailedOnSheet : Reads → (words : List (List ℕ)) → List Doc → 
 FailedOnSheet reads words docs acts file offset =
     (c : Command) × (command_of words ≡ Some c) × OpensInOrder (place docs) (loaded reads docs c).opened (Err (Host file fault.Doc offset)) acts
 
--- or on another document that the sheet, which was accepted, asked for
-abbrev pub FailedOnOther : Reads → (words : List (List ℕ)) → List Doc → (file : List ℕ) → (offset : ℕ) → Type 0
-FailedOnOther reads words docs file offset =
-    (c : Command) × (sheet : model.Sheet) × (talk : List Exchange) × (run : engine.Run)
-    × (command_of words ≡ Some c) × ((loaded reads docs c).result ≡ Ok sheet) × (pass_of sheet ≡ None)
-    × Leads (engine.at_start sheet c.limits) talk run × FailsOn run file offset
+-- Or it failed on another document, which the sheet asked for: the sheet was accepted, and its engine was handed such documents as the host
+-- tells them, first bytes of each or all.
+pub record FailedOnOther (reads : Reads) (words : List (List ℕ)) (docs : List Doc) (file : List ℕ) (offset : ℕ) : Type 0 where
+  pub command : Command
+  pub sheet : model.Sheet
+  pub talk : List Exchange
+  pub run : engine.Run
+  pub asked_for : command_of words ≡ Some command
+  pub accepts : (loaded reads docs command).result ≡ Ok sheet
+  pub does_more : pass_of sheet ≡ None
+  pub leads : Leads (engine.at_start sheet command.limits) talk run
+  pub handed : AreAsTold docs (beside_in none_beside (engine.at_start sheet command.limits) talk)
+  pub fails : FailsOn run file offset
 
 abbrev pub FailedOn : Reads → (words : List (List ℕ)) → List Doc → List Act → (file : List ℕ) → (offset : ℕ) → Type 0
 FailedOn reads words docs acts file offset = FailedOnSheet reads words docs acts file offset ⊎ FailedOnOther reads words docs file offset
