@@ -4,6 +4,8 @@ use Rattle.std.specs.declared.result.Result.{Result}
 use Rattle.stx_base.specs.StandardLimits.{standard_limits}
 use Rattle.stx_host.specs.Outside.{Outside}
 use Rattle.stx_host.specs.declared.act.Act.{Act}
+use Rattle.command_words.specs.Said.{Word}
+use Rattle.command_words.specs.Words.{command_of}
 use Rattle.command_words.specs.declared.command.Command.{Command}
 use Rattle.command_words.specs.declared.command.Mode.{Mode}
 use Rattle.command_words.specs.declared.param.Param as given
@@ -12,7 +14,7 @@ use Rattle.stx_base.specs.declared.limits.Limits.{Limits}
 use Rattle.stx_engine.specs.declared.asked.Asked.{Asked}
 use Rattle.command_words.specs.declared.command.Mode.TheVariants.{Run as AsksRun, Check, Sample}
 use Rattle.fault_report.specs.declared.outcome.Outcome.{Outcome}
-use Rattle.fault_report.specs.declared.outcome.Outcome.TheVariants.{Done, Memory}
+use Rattle.fault_report.specs.declared.outcome.Outcome.TheVariants.{Done, Usage, Memory}
 use Rattle.run_engine.specs.Run.{at_start}
 use Rattle.sample_maker.specs.Document.{pieces}
 use Rattle.sheet_files.specs.Loading.{LoadActs, LoadAnswers, LoadCounts}
@@ -78,3 +80,11 @@ pub data Does (c : Command) (sheet : Sheet) (old new : Outside) (end : RunEnd) :
 pub data DoesCommand (c : Command) (old new : Outside) (end : RunEnd) : Type 0 where
   Stops : (o : Outcome) → Loads c old new (Err o) → end ≡ Told o → DoesCommand c old new end
   GoesOn : (mid : Outside) (loaded : Loaded) → Loads c old mid (Ok loaded) → Does c loaded.sheet mid new end → DoesCommand c old new end
+
+-- what was done with words, before the last line is written
+pub data DoesWords (words : List Word) (old new : Outside) (end : RunEnd) : Type 0 where
+  -- nothing: they are refused, or there was no memory to read them
+  Refuses : command_of words ≡ None → new ≡ old → end ≡ Told Usage → DoesWords words old new end
+  Lacks : new ≡ old → end ≡ Told Memory → DoesWords words old new end
+  -- what they command
+  Obeys : (c : Command) → command_of words ≡ Some c → DoesCommand c old new end → DoesWords words old new end

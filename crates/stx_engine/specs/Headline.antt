@@ -8,6 +8,7 @@ use Rattle.stx_host.specs.declared.act.Act.{Act}
 use Rattle.stx_host.specs.declared.act.Doc.{Doc}
 use Rattle.run_engine.specs.Run.{head}
 use Rattle.stx_engine.specs.Answer.{Answer, accepted, answer, asks_any_run, asks_run, loaded, sheet_named}
+use Rattle.stx_engine.specs.Doing.{DoesWords}
 use Rattle.stx_engine.specs.Driving.{FailedAt}
 use Rattle.sheet_runs.specs.Reading.{EndOnce, main_gots}
 use Rattle.fault_report.specs.Line.{line_of, status_of}
@@ -15,8 +16,9 @@ use Rattle.command_words.specs.Words.{command_of}
 use Rattle.sheet_files.specs.Acts.{opens}
 use Rattle.sheet_loader.specs.Values.{Reads}
 use Rattle.stx_engine.specs.RunEnd.{line_in, status_in}
-use Rattle.stx_engine.specs.Running.{Asks, FailedOn, FailedOnSheet, HasHead, IsOwn, LoadsFirst}
+use Rattle.stx_engine.specs.Running.{Asks, FailedOn, FailedOnSheet, HasHead, IsOwn, LoadsFirst, Reports}
 use Rattle.stx_engine.specs.declared.run_end.RunEnd.{RunEnd}
+use Rattle.stx_engine.specs.declared.run_end.RunEnd.TheVariants.{Told, Unnoted}
 use Rattle.fault_report.specs.declared.outcome.HostFault.{HostFault}
 use Rattle.fault_report.specs.declared.outcome.HostFault.TheVariants as fault
 use Rattle.fault_report.specs.declared.outcome.Outcome.{Outcome}
@@ -37,6 +39,16 @@ pub record Tells (o : Outside) (docs : List Doc) (main : List ℕ) : Type 0 wher
   pub log : IsSome o.log
   pub out : IsSome o.out
   pub note : IsSome o.note
+
+-- What a whole call did: what is to be done with the words, and then its last line was written; or that of want of memory, where there was none
+-- to make its own.
+pub record DoesAll (old new : Outside) (words : List (List ℕ)) (status : ℕ) : Type 0 where
+  pub before : Outside
+  pub end : RunEnd
+  pub did : DoesWords words old before end
+  pub last : RunEnd
+  pub said : (last ≡ end) ⊎ ((last ≡ Told Memory) × (end ≢ Unnoted))
+  pub reports : Reports before (line_in last) (status_in last) new status
 
 -- a count of faults rose
 abbrev pub SomeRose : (old new : Outside) → Type 0

@@ -8,10 +8,10 @@ ghost use Rattle.run_engine.specs.Run.{at_start};
 ghost use Rattle.sheet_loader.specs.Values.{Reads};
 ghost use Rattle.sheet_model.specs.Sound.{IsSound};
 ghost use Rattle.stx_engine.specs.Answer.{Answer, answer};
-ghost use Rattle.stx_engine.specs.Doing.{AreUsual, Does, DoesCommand, RunsAny, asked_by, param_of};
+ghost use Rattle.stx_engine.specs.Doing.{AreUsual, Does, DoesCommand, DoesWords, RunsAny, asked_by, param_of};
 ghost use Rattle.stx_engine.specs.Driving.{Drives, DrivesSample};
 ghost use Rattle.stx_engine.specs.Engine.{GoesOn, IsWaiting, Means};
-ghost use Rattle.stx_engine.specs.Headline.{AsksSettled, BeginsWell, EndsInLine, GivesAnswer, IsPlainStatus, IsStatus, NotesAfterFailure, NotesItsFailure, OpensFirst, ReadsSheetFirst, ReadsToEnd, RefusesUnnamed, Tells, TellsMain};
+ghost use Rattle.stx_engine.specs.Headline.{AsksSettled, BeginsWell, DoesAll, EndsInLine, GivesAnswer, IsPlainStatus, IsStatus, NotesAfterFailure, NotesItsFailure, OpensFirst, ReadsSheetFirst, ReadsToEnd, RefusesUnnamed, Tells, TellsMain};
 ghost use Rattle.stx_engine.specs.Nesting.{EndsHaveStarts};
 ghost use Rattle.stx_engine.specs.Running.{Reports, Runs};
 ghost use Rattle.stx_engine.specs.Words.{spelled};
@@ -71,7 +71,9 @@ pub fn transform<H: Host>(alloc: Global, words: &[String], host: &mut H) -> u8
     // the last line is that of an end with this status, also where the host failed or memory was wanting.
     ensures line { (reads : Reads) (docs : List Doc) (main : List ℕ) → Tells (H.outside host.old) docs main → EndsInLine (H.outside host.old) (H.outside host.new) reads (spelled words.now) docs result }
     ensures failed { (reads : Reads) (docs : List Doc) (main : List ℕ) → Tells (H.outside host.old) docs main → NotesItsFailure (H.outside host.old) (H.outside host.new) reads (spelled words.now) docs result }
-    // For every host, whatever it tells: the statuses that there are, when words are refused, and that each id is given back.
+    // For every host, whatever it tells: all that was done, one after the other;
+    ensures does { DoesAll (H.outside host.old) (H.outside host.new) (spelled words.now) result }
+    // the statuses that there are, when words are refused, and that each id is given back.
     ensures status { IsStatus (H.outside host.old) (H.outside host.new) (spelled words.now) result }
     ensures words { RefusesUnnamed (H.outside host.old) (H.outside host.new) (spelled words.now) result }
     ensures ids { (H.outside host.new).open_ids ≡ (H.outside host.old).open_ids }
@@ -95,7 +97,8 @@ fn report<H: Host>(line: &str, status: u8, host: &mut H) -> u8
 }
 
 fn run<H: Host>(alloc: Global, words: &[String], host: &mut H) -> RunEnd
-    ensures { Runs (spelled words.now) (H.outside host.old) (H.outside host.new) result }
+    ensures does { DoesWords (spelled words.now) (H.outside host.old) (H.outside host.new) result }
+    ensures runs { Runs (spelled words.now) (H.outside host.old) (H.outside host.new) result }
 {
     law::documents();
     match read_words(alloc, words) {

@@ -1,4 +1,4 @@
-use Rattle.std.proofs.Common.{◌≡◌, ◌∙◌, subst}
+use Rattle.std.proofs.Common.{◌≡◌, ◌∙◌, inl, inr, refl, subst}
 use Rattle.stx_host.specs.Before.{since}
 use Rattle.fault_report.specs.declared.outcome.Outcome.TheVariants.{Memory}
 use Rattle.stx_engine.specs.RunEnd.{line_in, status_in}
@@ -19,7 +19,7 @@ returns-in-Ok g c =
     let mid = g.H.Host.outside c.run-end.new.host in
     let new = g.H.Host.outside c.report.new.host in
     let end = c.run-end.result in
-    let r = c.run-end.ensures in
+    let r = c.run-end.ensures.runs in
     let result = c.report.result in
     let reports : Reports mid (line_in end) (status_in end) new result = subst (λ line. Reports mid line (status_in end) new result) (c.as_str.ensures.bytes ∙ c.in-Ok.ensures.line)
     (subst (λ status. Reports mid c.as_str.result.now status new result) c.status.ensures c.report.ensures) in
@@ -37,6 +37,7 @@ returns-in-Ok g c =
       begins = λ main tells. begins_well words old mid new end r result reports main tells;
       line = λ reads docs main tells. ends_in_line words old mid new end r result reports docs main tells reads;
       failed = λ reads docs main tells. notes_its_failure words old mid new end r result reports docs main tells reads;
+      does = record { before = mid; end = end; did = c.run-end.ensures.does; last = end; said = inl refl; reports = reports };
       status = is_status words old mid new end r result reports;
       words = refuses_unnamed words old mid new end r result reports;
       ids = gives_ids_back words old mid new end r result reports;
@@ -51,7 +52,7 @@ returns g c =
     let new = g.H.Host.outside c.report-in-Err.new.host in
     let end : RunEnd = Told Memory in
     let said : c.run-end.result ≡ Unnoted → ⊥ = λ is. let made = c.in-Err.ensures.unnoted is in cc made in
-    let r : Runs words old mid end = ran-wanting-line words old mid c.run-end.result c.run-end.ensures said in
+    let r : Runs words old mid end = ran-wanting-line words old mid c.run-end.result c.run-end.ensures.runs said in
     let result = c.report-in-Err.result in
     let reports : Reports mid (line_in end) (status_in end) new result = c.report-in-Err.ensures in
     record {
@@ -68,6 +69,7 @@ returns g c =
       begins = λ main tells. begins_well words old mid new end r result reports main tells;
       line = λ reads docs main tells. ends_in_line words old mid new end r result reports docs main tells reads;
       failed = λ reads docs main tells. notes_its_failure words old mid new end r result reports docs main tells reads;
+      does = record { before = mid; end = c.run-end.result; did = c.run-end.ensures.does; last = end; said = inr (refl, said); reports = reports };
       status = is_status words old mid new end r result reports;
       words = refuses_unnamed words old mid new end r result reports;
       ids = gives_ids_back words old mid new end r result reports;
