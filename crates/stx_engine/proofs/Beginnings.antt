@@ -23,7 +23,7 @@ use Rattle.stx_engine.specs.Engine.{IsWaiting, Means, more}
 use Rattle.stx_engine.specs.Meaning.{Put, outcome}
 use Rattle.stx_engine.specs.More.{Given, ahead, given, given_of, given_on, rest}
 use Rattle.stx_engine.specs.More as more
-use Rattle.stx_engine.specs.Passed.{Run, passed, run_from, with_first}
+use Rattle.stx_engine.specs.Passed.{passed, run_from, with_first}
 use Rattle.stx_engine.specs.Passed as gives
 use Rattle.stx_engine.specs.Opens.{names_in, opens_by}
 use Rattle.stx_engine.specs.declared.engine.Engine.{Engine}

@@ -1,5 +1,5 @@
 -- What the last line does behind a run.
-use Rattle.std.proofs.Common.{◌≡◌, ◌⊎◌, inl, inr, ℕ, ◌+◌, ◌<◌, ◌==◌, ◌||◌, if◌then◌else◌, false, List, [], ◌∷◌, ◌++◌, length, take, drop, sum, Option, Some, None, Err, IfSome, arith, refl, sym, ap, ◌∙◌, subst, append_assoc, length-take}
+use Rattle.std.proofs.Common.{◌≡◌, ◌⊎◌, inl, inr, ℕ, ◌+◌, ◌<◌, ◌==◌, ◌||◌, if◌then◌else◌, false, List, [], ◌∷◌, ◌++◌, length, take, drop, sum, Option, Some, None, IfSome, arith, refl, sym, ap, ◌∙◌, subst, append_assoc, length-take}
 use Rattle.std.specs.List.{list_any}
 use Rattle.std.proofs.lemmas.List.{append-nil, take-append-drop}
 use Rattle.std.proofs.lemmas.List.Folds.{list_any-append}
@@ -12,7 +12,7 @@ use Rattle.stx_host.specs.declared.act.Doc.{Doc}
 use Rattle.stx_host.specs.declared.act.Act.TheVariants.{Open, Read, Close, Write}
 use Rattle.stx_host.specs.declared.act.Lane.TheVariants.{Note}
 use Rattle.stx_host.proofs.Stretches.{between_joins, between_writes, between_fault, main_read-append, main_read-writes}
-use Rattle.sheet_files.specs.Acts.{given_behind, given_for, opens, read_behind, read_since_open}
+use Rattle.sheet_files.specs.Acts.{given_behind, opens, read_behind}
 use Rattle.sheet_files.specs.Loading.{FailsInOrder}
 use Rattle.sheet_loader.specs.Values.{Reads}
 use Rattle.sheet_runs.specs.Counts.{CountsBy}

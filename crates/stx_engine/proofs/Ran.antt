@@ -1,5 +1,5 @@
 -- What a run of the program did, by what it did with the sheet.
-use Rattle.std.proofs.Common.{◌≡◌, ◌⊎◌, inl, inr, ℕ, ◌+◌, ◌==◌, ◌||◌, Bool, true, false, List, [], ◌∷◌, ◌++◌, length, map, take, drop, Option, Some, None, IsSome, IfSome, Result, Ok, Err, arith, refl, sym, ap, ◌∙◌, subst, append_assoc}
+use Rattle.std.proofs.Common.{◌≡◌, ◌⊎◌, inl, inr, ℕ, ◌+◌, ◌==◌, ◌||◌, Bool, true, false, List, [], ◌++◌, map, drop, Option, Some, None, IsSome, IfSome, Result, Ok, Err, arith, refl, sym, ap, ◌∙◌, subst}
 use Rattle.std.specs.List.{list_any}
 use Rattle.std.specs.Option.{option_map, option_map_or, option_and_then}
 use Rattle.std.proofs.lemmas.Bool.{false≢true}
@@ -31,7 +31,7 @@ use Rattle.sheet_files.specs.declared.load.Loaded.{Loaded}
 use Rattle.sheet_loader.specs.Files.{loads}
 use Rattle.sheet_loader.specs.Values.{Reads}
 use Rattle.sheet_model.specs.declared.sheet.Sheet as model
-use Rattle.sheet_runs.specs.Counts.{CountsAt, CountsBy, SameCounts}
+use Rattle.sheet_runs.specs.Counts.{CountsBy, SameCounts}
 use Rattle.sheet_runs.specs.Reading.{EndOnce, main_gots}
 use Rattle.run_engine.specs.Run.{head}
 use Rattle.stx_engine.proofs.Driven.{counts-then, main_gots-append, opens-append}
@@ -39,7 +39,7 @@ use Rattle.stx_engine.specs.Passed as gives
 use Rattle.stx_engine.specs.Accepted.{DocumentsAreTaken}
 use Rattle.stx_engine.specs.Answer.{Answer, Plan, accepted, answer, answered, asked, asks_any_run, asks_run, is_any_run, is_run, loaded, mode_answer, outcome_of, plan_by, plan_of, ran, result_of, run_on, sampled, sheet_answer, sheet_named, words_answer}
 use Rattle.stx_engine.specs.Doing.{Loads}
-use Rattle.stx_engine.specs.Driving.{Drives, DrivesSample, FailedAt, IsSettledAt, RefusesSome, UnlessFailed, is_doc_read}
+use Rattle.stx_engine.specs.Driving.{Drives, DrivesSample, FailedAt, RefusesSome, UnlessFailed, is_doc_read}
 use Rattle.stx_engine.specs.Output.{output}
 use Rattle.stx_engine.specs.Plain.{pass_of}
 use Rattle.stx_engine.specs.RunEnd.{line_in, on_sample, outcome_in, sample_of, status_in, summary_of}
@@ -50,8 +50,8 @@ use Rattle.stx_engine.specs.declared.run_end.RunEnd.TheVariants.{Told, Sampled, 
 use Rattle.stx_engine.specs.declared.run_end.Summary.{Summary}
 use Rattle.stx_engine.proofs.Idle.{no_main_gots, no_main_reads, nothing_read, of_any}
 use Rattle.stx_engine.proofs.Limited.{usual}
-use Rattle.stx_engine.proofs.Prefixes.{begins_all, begins_more, begins_nothing}
-use Rattle.stx_engine.proofs.Sampled.{outcome-on, unless-map}
+use Rattle.stx_engine.proofs.Prefixes.{begins_all, begins_nothing}
+use Rattle.stx_engine.proofs.Sampled.{unless-map}
 
 no_counts : (o : Outside) → SameCounts o o
 no_counts o = record { doc = refl; main = refl; out = refl; note = refl }

@@ -1,57 +1,52 @@
 -- What a run of any sheet did.
-use Rattle.std.proofs.Common.{◌≡◌, ◌⊎◌, inl, inr, ℕ, ◌+◌, ◌||◌, Bool, true, false, List, [], ◌∷◌, ◌++◌, length, Option, Some, None, IsSome, IfSome, Ok, arith, refl, sym, ap, ◌∙◌, subst, append_assoc}
-use Rattle.std.specs.List.{concat, list_any}
+use Rattle.std.proofs.Common.{◌≡◌, ◌⊎◌, inl, inr, ℕ, ◌+◌, ◌||◌, true, false, List, [], ◌∷◌, ◌++◌, length, Option, Some, None, IsSome, IfSome, Ok, arith, refl, sym, ap, ◌∙◌, subst}
+use Rattle.std.specs.List.{list_any}
 use Rattle.std.specs.Option.{option_and_then}
 use Rattle.std.proofs.lemmas.Bool.{false≢true}
-use Rattle.std.proofs.lemmas.List.{append-nil}
 use Rattle.std.proofs.lemmas.List.Folds.{list_any-append}
 use Rattle.std.proofs.lemmas.Option.{none-some, same_Some}
 use Rattle.stx_base.specs.Course.{Begins}
-use Rattle.stx_base.specs.declared.limits.Limits.{Limits}
 use Rattle.command_words.specs.Said.{Word}
 use Rattle.command_words.specs.Words.{command_of}
 use Rattle.command_words.specs.declared.command.Command.{Command}
 use Rattle.command_words.specs.declared.command.Mode.{Mode}
 use Rattle.command_words.specs.declared.command.Mode.TheVariants.{Run as AsksRun, Check, Sample}
-use Rattle.stx_host.specs.Before.{AtMainReads, Between, Taken, is_main_read, main_read}
+use Rattle.stx_host.specs.Before.{AtMainReads, Taken, is_main_read}
 use Rattle.stx_host.specs.Outside.{Outside, Rose}
-use Rattle.stx_host.specs.declared.act.Act.{Act}
 use Rattle.stx_host.specs.declared.act.Doc.{Doc}
 use Rattle.stx_host.proofs.Stretches.{main_read-append}
 use Rattle.fault_report.specs.declared.outcome.HostFault.TheVariants as fault
 use Rattle.fault_report.specs.declared.outcome.Outcome.{Outcome}
 use Rattle.fault_report.specs.declared.outcome.Outcome.TheVariants as outcome
 use Rattle.run_engine.specs.Run as spec
-use Rattle.run_engine.specs.Run.{HasHead as Heads, IsAt, MayCome, Run, Stage, Stands, StandsAt, at_start, head}
+use Rattle.run_engine.specs.Run.{HasHead as Heads, MayCome, Run, Stage, Stands, StandsAt, at_start, head}
 use Rattle.run_engine.specs.declared.piece.Piece.{Piece}
 use Rattle.run_engine.specs.declared.piece.Piece.TheVariants as piece
 use Rattle.sheet_files.specs.Opened.{documents_told}
 use Rattle.sheet_files.specs.declared.load.Loaded.{Loaded}
 use Rattle.sheet_loader.specs.Values.{Reads}
-use Rattle.sheet_model.specs.declared.sheet.Sheet as model
-use Rattle.sheet_runs.specs.Counts.{CountsAt, CountsBy, SameCounts}
-use Rattle.sheet_runs.specs.Reading.{EndOnce, main_gots}
-use Rattle.sheet_runs.specs.Runs.{AreAsTold, EndsBy, FailsOn, HandsMain, IsAsked, RunsSheet, Writes, WritesAll}
-use Rattle.sheet_runs.specs.Talk.{Besides, Exchange, Gives, Leads, beside_in, bytes_in, main_ends, main_in, none_beside, notes_in}
+use Rattle.sheet_runs.specs.Counts.{CountsAt}
+use Rattle.sheet_runs.specs.Runs.{AreAsTold, EndsBy, IsAsked, RunsSheet, Writes}
+use Rattle.sheet_runs.specs.Talk.{Besides, Exchange, Leads, beside_in, bytes_in, main_ends, none_beside}
 use Rattle.sheet_runs.specs.declared.main_document.Main.{Main}
 use Rattle.sheet_runs.specs.declared.main_document.Main.TheVariants as main
 use Rattle.sheet_runs.specs.declared.run.End.{End}
 use Rattle.sheet_runs.specs.declared.run.End.TheVariants as ends
 use Rattle.sheet_runs.specs.declared.run.Ran.{Ran}
-use Rattle.stx_engine.specs.Answer.{Answer, accepted, answer, asks_run, is_run, loaded, mode_answer, sheet_answer, sheet_named}
+use Rattle.stx_engine.specs.Answer.{Answer, accepted, answer, loaded, mode_answer, sheet_answer, sheet_named}
 use Rattle.sample_maker.specs.Document.{pieces}
 use Rattle.stx_engine.specs.Accepted.{DocumentsAreTaken}
-use Rattle.stx_engine.specs.Doing.{Checks, Does, DoesCommand, GoesOn, Loads, Passes, PassesSample, RunsAny, RunsIt, RunsOnSample, Stops}
-use Rattle.stx_engine.specs.Driving.{FailedAt, ReadsAll, UnlessFailed}
+use Rattle.stx_engine.specs.Doing.{Checks, Does, DoesCommand, GoesOn, Loads, Passes, PassesSample, RunsIt, RunsOnSample, Stops}
+use Rattle.stx_engine.specs.Driving.{UnlessFailed}
 use Rattle.stx_engine.specs.Plain.{pass_of}
-use Rattle.stx_engine.specs.RunEnd.{end_of_run, end_of_sample, on_sample, outcome_in}
+use Rattle.stx_engine.specs.RunEnd.{end_of_run, end_of_sample, outcome_in}
 use Rattle.stx_engine.specs.Running.{Asks, CountsIn, FailedIn, FailedOn, HasHead, IfDocFailed, IsOwn, LoadsFirst, OpensNames, RefusesWords, Runs}
 use Rattle.stx_engine.specs.declared.run_end.RunEnd.{RunEnd}
-use Rattle.stx_engine.specs.declared.run_end.RunEnd.TheVariants.{Told, Sampled, Unnoted}
+use Rattle.stx_engine.specs.declared.run_end.RunEnd.TheVariants.{Told, Unnoted}
 use Rattle.stx_engine.specs.declared.run_end.Summary.{Summary}
 use Rattle.stx_engine.proofs.Idle.{no_main_reads, nothing_read}
 use Rattle.stx_engine.proofs.Prefixes.{begins_more, begins_nothing}
-use Rattle.stx_engine.proofs.Ran.{accepted-is, answer-is, answer-opened, asks_some, between_after, counts_after, for_command, loads-alone, loads_sheet, main_after, named, none_once, once_after, opens-all, ran-checked, ran-driven, ran-sampled, ran-stopped, reads_after, unasked, unless}
+use Rattle.stx_engine.proofs.Ran.{accepted-is, answer-is, answer-opened, asks_some, between_after, counts_after, for_command, loads-alone, loads_sheet, main_after, named, none_once, once_after, opens-all, ran-checked, ran-driven, ran-sampled, ran-stopped, reads_after, unasked}
 use Rattle.stx_engine.proofs.Sampled.{outcome-on}
 
 -- What an engine's talk says

@@ -1,5 +1,5 @@
 -- Sheets that do nothing but pass documents through.
-use Rattle.std.specs.Prelude.{ℕ, Bool, ◌||◌, not, ◌==◌, if◌then◌else◌, List, [], ◌∷◌, length, Option, Some, None}
+use Rattle.std.specs.Prelude.{Bool, ◌||◌, not, ◌==◌, if◌then◌else◌, List, [], ◌∷◌, length, Option, Some, None}
 use Rattle.sheet_model.specs.declared.pass.Pass as model
 use Rattle.sheet_model.specs.declared.pass.Pass.TheVariants as passes
 use Rattle.sheet_model.specs.declared.sheet.Group.{Group}

@@ -1,5 +1,5 @@
 -- How a run of the program ended, and what is said of it last.
-use Rattle.std.specs.Prelude.{ℕ, ◌-◌, ◌^◌, min, List, [], ◌++◌, length, codes, encode_utf8_all}
+use Rattle.std.specs.Prelude.{ℕ, List, [], ◌++◌, length, codes, encode_utf8_all}
 use Rattle.std.specs.Fmt.{decimal}
 use Rattle.fault_report.specs.Line.{line_of, status_of}
 use Rattle.fault_report.specs.declared.outcome.Outcome.{Outcome}

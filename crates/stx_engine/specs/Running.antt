@@ -1,5 +1,5 @@
 -- What a run of the program does to the outside, before its last line is written.
-use Rattle.std.specs.Prelude.{◌≡◌, ℕ, ◌<◌, ◌⊎◌, ◌==◌, Bool, true, false, if◌then◌else◌, List, [], ◌++◌, length, map, slice_get, take, sum, Option, Some, None, IsSome, IfSome, Ok, Err, codes}
+use Rattle.std.specs.Prelude.{◌≡◌, ℕ, ◌<◌, ◌⊎◌, ◌==◌, Bool, true, false, if◌then◌else◌, List, [], ◌++◌, length, map, take, sum, Option, Some, None, IsSome, IfSome, Ok, Err}
 use Rattle.std.specs.List.{list_any}
 use Rattle.stx_base.specs.Course.{Begins}
 use Rattle.stx_base.specs.StandardLimits.{standard_limits}
@@ -10,7 +10,6 @@ use Rattle.stx_host.specs.declared.act.Doc.{Doc}
 use Rattle.stx_host.specs.declared.act.Lane.TheVariants.{Note}
 use Rattle.command_words.specs.Words.{command_of}
 use Rattle.command_words.specs.declared.command.Command.{Command}
-use Rattle.fault_report.specs.Line.{status_of}
 use Rattle.fault_report.specs.declared.outcome.HostFault.TheVariants as fault
 use Rattle.fault_report.specs.declared.outcome.Outcome.{Outcome}
 use Rattle.fault_report.specs.declared.outcome.Outcome.TheVariants.{Run, Usage, Sheet, Host, Fuel, Memory}

@@ -1,5 +1,5 @@
-use Rattle.std.proofs.Common.{◌≤◌, arith, ap, inl, inr, refl, subst, sym}
-use Rattle.run_engine.specs.Run.{Run, at_start}
+use Rattle.std.proofs.Common.{arith, ap, inl, inr, refl, subst, sym}
+use Rattle.run_engine.specs.Run.{Run}
 use Rattle.sheet_runs.specs.Runs.{IsBegun, RunsSheet}
 use Rattle.stx_engine.proofs.driver.run_any.Goals as goal
 

@@ -2,7 +2,7 @@ use Rattle.std.proofs.Common.{◌≤◌, ◌^◌, Err, Ok, arith, refl, subst, s
 use Rattle.sheet_model.specs.Sound.{IsSound}
 use Rattle.sheet_files.specs.Loading.{LoadActs, LoadAnswers}
 use Rattle.sheet_files.specs.Opened.{documents_told}
-use Rattle.stx_engine.specs.Doing.{Does, DoesCommand, Loads, GoesOn, Stops}
+use Rattle.stx_engine.specs.Doing.{Does, GoesOn, Stops}
 use Rattle.stx_engine.proofs.driver.run_command.Goals as goal
 
 pub run_loaded-requires-clause-sound : goal.run_loaded-requires-clause-sound

@@ -1,5 +1,4 @@
-use Rattle.std.proofs.Common.{ap, refl, subst, sym}
-use Rattle.command_words.specs.declared.command.Command.{Command}
+use Rattle.std.proofs.Common.{refl, subst, sym}
 use Rattle.stx_engine.specs.Doing.{Checks, Does}
 use Rattle.stx_engine.proofs.driver.run_loaded.Goals as goal
 

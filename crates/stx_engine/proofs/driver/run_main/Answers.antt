@@ -1,4 +1,4 @@
-use Rattle.std.proofs.Common.{◌≤◌, ◌^◌, ◌∙◌, arith, ap, refl, subst, sym}
+use Rattle.std.proofs.Common.{arith, ap, refl, subst, sym}
 use Rattle.stx_engine.specs.Doing.{Passes, RunsIt}
 use Rattle.stx_engine.specs.Driving.{Drives}
 use Rattle.stx_engine.specs.Engine.{GoesOn}

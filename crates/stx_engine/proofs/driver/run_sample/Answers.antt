@@ -1,4 +1,4 @@
-use Rattle.std.proofs.Common.{◌≤◌, ◌∙◌, arith, ap, refl, subst, sym}
+use Rattle.std.proofs.Common.{arith, refl, subst, sym}
 use Rattle.sheet_runs.specs.declared.main_document.Main.TheVariants as main
 use Rattle.stx_engine.specs.Doing.{PassesSample, RunsAny, RunsOnSample}
 use Rattle.stx_engine.specs.Driving.{DrivesSample}
