@@ -13,12 +13,13 @@ LEADS = ["", "", "", "a/", "a//", "/", "//"]
 EXPRESSIONS = [".", "@x", "@*", "../@x", "//a/@x", "count(@*)", "position()", "level()", "name()"]
 EXPRESSIONS += ["concat(name(), position())", "string-length(.)", "has-child-nodes()", "$v", "$v + 1"]
 EXPRESSIONS += ["(1, 2)", "()", "1", "'t'"]
+KINDS = ["elements", "text", "cdata", "comments", "processing-instructions", "attributes"]
 TESTS = ["@x", "position() = 1", "$v", "has-child-nodes()", "name() = 'a'", "level() &lt; 3"]
 
 
 class Maker:
     def __init__(self, seed):
-        self.random, self.has_parameter = random.Random(seed), False
+        self.random, self.has_parameter, self.is_newer = random.Random(seed), False, False
 
     def one(self, *words):
         return self.random.choice(words)
@@ -40,18 +41,26 @@ class Maker:
 
     def node(self, depth):
         if self.random.random() < 0.3:
-            return self.one("x", "y ", " ", "<!--c-->", "<?p d?>")
+            return self.one("x", "y ", " ", "<!--c-->", "<?p d?>", "<![CDATA[z]]>")
         return self.element(depth - 1, *([0, 1, 2, 3, 4] if depth > 0 else [0]))
 
     # Sheets.
 
     def sheet(self):
-        passes = self.one("", ' pass-through="all"', ' pass-through="text"', ' pass-through="all" strip-space="yes"')
+        self.is_newer = self.random.random() < 0.3
+        version, passes = ("1.1", self.passes_kinds()) if self.is_newer else ("1.0", self.passes())
         keeps = self.maybe(0.5, ' keep-value="yes"')
         declared = [f'<stx:variable name="v" select="0"{keeps}/><stx:buffer name="q"/>']
         declared += ['<stx:buffer name="w"><a x="1"/>t<b/></stx:buffer>', self.procedure("f"), self.procedure("k")]
         declared += [self.several(self.template, 1, 2, 3, 4), self.several(self.section, 0, 0, 2), self.group()]
-        return f'<stx:transform version="1.0" xmlns:stx="{NAMESPACE}"{passes}>{"".join(declared)}</stx:transform>'
+        return f'<stx:transform version="{version}" xmlns:stx="{NAMESPACE}"{passes}>{"".join(declared)}</stx:transform>'
+
+    def passes(self):
+        return self.one("", ' pass-through="all"', ' pass-through="text"', ' pass-through="all" strip-space="yes"')
+
+    def passes_kinds(self):
+        kinds = " ".join(kind for kind in KINDS if self.random.random() < 0.5)
+        return f' pass-through="{kinds or "none"}"' + self.maybe(0.7, ' recognize-cdata="yes"') + self.maybe(0.3, ' strip-space="yes"')
 
     def group(self):
         passes = self.maybe(0.5, ' pass-through="all"')
@@ -82,8 +91,10 @@ class Maker:
         return f'<stx:param name="p" select="{default}"/>' if self.has_parameter else ""
 
     def pattern(self):
-        alternative = self.one(*LEADS) + self.one(*STEPS)
-        return alternative + self.maybe(0.2, " | " + self.one(*STEPS))
+        return self.one(*LEADS) + self.step() + self.maybe(0.2, " | " + self.step())
+
+    def step(self):
+        return self.one(*STEPS, *(["cdata()"] if self.is_newer else []))
 
     def expression(self):
         return self.one(*EXPRESSIONS, *(["$p", "count($p)", "$p"] if self.has_parameter else []))

@@ -3,7 +3,7 @@
 import re
 from xml.parsers import expat
 
-KINDS = {"*": "element", "text()": "text", "comment()": "comment", "processing-instruction()": "instruction"}
+KINDS = {"*": "element", "cdata()": "section", "comment()": "comment", "processing-instruction()": "instruction"}
 KINDS |= {"@*": "attribute", "/": "document"}
 
 
@@ -44,7 +44,7 @@ class Node:
     def string(self):
         """The string value: of an element the text that its content begins with."""
         if self.kind in ("element", "document"):
-            return self.nodes[0].text if self.nodes and self.nodes[0].kind == "text" else ""
+            return self.nodes[0].text if self.nodes and passes("text()", self.nodes[0]) else ""
         return self.text
 
     def values(self, name=None):
@@ -73,27 +73,41 @@ class Siblings:
         self.nodes, self.looked, self.taken, self.is_over, self.conditions = nodes, 0, 0, False, []
 
 
-def tree(text, strip=False):
+def tree(text, strips=False, sections=False):
     """The tree of a document; where it has a fault, of what stands before that."""
     root = Node("document")
     opened = [root]
 
+    def put(node):
+        opened[-1].nodes.append(node)
+
     def start(name, flat):
-        opened[-1].nodes.append(Node("element", name, zip(flat[::2], flat[1::2])))
+        put(Node("element", name, zip(flat[::2], flat[1::2])))
         opened.append(opened[-1].nodes[-1])
+
+    def start_section():
+        put(Node("section"))
+        opened.append(opened[-1].nodes[-1])
+
+    def add_text(text):
+        if opened[-1].kind == "section":
+            opened[-1].text += text
+        else:
+            opened[-1].add_text(text)
 
     parser = expat.ParserCreate()
     parser.ordered_attributes = parser.buffer_text = True
-    parser.StartElementHandler = start
-    parser.EndElementHandler = lambda name: opened.pop()
-    parser.CharacterDataHandler = lambda text: opened[-1].add_text(text)
-    parser.CommentHandler = lambda text: opened[-1].nodes.append(Node("comment", text=text))
-    parser.ProcessingInstructionHandler = lambda name, text: opened[-1].nodes.append(Node("instruction", name, text=text))
+    parser.StartElementHandler, parser.EndElementHandler = start, lambda name: opened.pop()
+    parser.CharacterDataHandler = add_text
+    parser.CommentHandler = lambda text: put(Node("comment", text=text))
+    parser.ProcessingInstructionHandler = lambda name, text: put(Node("instruction", name, text=text))
+    if sections:
+        parser.StartCdataSectionHandler, parser.EndCdataSectionHandler = start_section, opened.pop
     try:
         parser.Parse(text.encode(), True)
     except expat.ExpatError:
         opened[-1].cut = True
-    if strip:
+    if strips:
         root.strip()
     return root.settle()
 
@@ -119,6 +133,8 @@ def tree_of_parts(parts):
 def passes(test, node):
     if test == "node()":
         return node.kind not in ("document", "attribute")
+    if test == "text()":
+        return node.kind in ("text", "section")
     if test in KINDS:
         return node.kind == KINDS[test]
     kind, name = ("attribute", test[1:]) if test.startswith("@") else ("element", test)
@@ -137,7 +153,7 @@ class Alternative:
             self.steps = [("/", None)]
         self.test, predicate = self.steps[-1]
         alone = not self.lead and len(self.steps) == 1 and predicate is None
-        self.priority = (-50 if self.test in KINDS or self.test == "node()" else 0) if alone else 50
+        self.priority = (-50 if self.test in (*KINDS, "node()", "text()") else 0) if alone else 50
 
     def fits(self, node, variable):
         return self.fits_from(len(self.steps) - 1, node, variable)

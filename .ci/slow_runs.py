@@ -1,10 +1,11 @@
 """Runs of sheets by a slow interpreter over whole trees.
 
 It is written from docs/LANGUAGE.md and shares nothing with the program, which
-holds no tree and no recursion. It knows all instructions, groups, visibility and
-scopes, one variable `v`, one parameter `p`, two buffers and two procedures of
-the root, and the expressions and patterns that are made. It counts fuel, and not
-how many templates run in a list: a run in which too many do is given up.
+holds no tree and no recursion. It knows both versions, all instructions, groups,
+visibility and scopes, one variable `v`, one parameter `p`, two buffers and two
+procedures of the root, and the expressions and patterns that are made. It counts
+fuel, and not how many templates run in a list: a run in which too many do is
+given up.
 """
 
 from xml.parsers import expat
@@ -14,6 +15,10 @@ from slow_nodes import View, alternatives, tree, tree_of_parts
 
 NAMESPACE = "http://stx.sourceforge.net/2002/ns"
 MOST_SOURCES = 16
+# The kinds of nodes, and which of them the three words pass through.
+KIND_WORDS = {"element": "elements", "text": "text", "section": "cdata", "comment": "comments", "document": "documents"}
+KIND_WORDS |= {"instruction": "processing-instructions", "attribute": "attributes"}
+KINDS_OF = {None: set(), "none": set(), "text": {"text"}, "all": set(KIND_WORDS.values())}
 
 
 class Stop(Exception):
@@ -66,7 +71,12 @@ def sheet_of(text):
 class Group:
     def __init__(self, element, parent):
         self.parent, self.place, self.name = parent, element.place, element.attributes.get("name")
-        self.passes = element.attributes.get("pass-through", parent.passes if parent else "none")
+        passes = element.attributes.get("pass-through")
+        self.passes = KINDS_OF.get(passes, set((passes or "").split())) if passes or not parent else parent.passes
+
+    def copies(self, kind):
+        """Whether nodes of a kind are passed through."""
+        return KIND_WORDS[kind] in self.passes or (kind == "section" and "text" in self.passes)
 
     def is_around(self, other):
         return other.parent is not None and (other.parent is self or self.is_around(other.parent))
@@ -135,7 +145,9 @@ def written(before, part, behind):
         return f"<{said[0]}{attributes}{'/' if behind == 'end' else ''}>"
     if form == "end":
         return "" if before == "start" else f"</{said[0]}>"
-    return {"text": escape(said[0]), "comment": f"<!--{said[0]}-->", "instruction": f"<?{' '.join(said)}?>"}[form]
+    marks = {"text": ("", ""), "section": ("<![CDATA[", "]]>"), "comment": ("<!--", "-->"), "instruction": ("<?", "?>")}
+    text = escape(said[0]) if form == "text" else " ".join(said)
+    return text.join(marks[form])
 
 
 class Scope:
@@ -164,6 +176,7 @@ class Run:
     def __init__(self, text, documents, fuel):
         sheet = sheet_of(text)
         self.documents, self.strips = documents, sheet.attributes.get("strip-space") == "yes"
+        self.sections = sheet.attributes.get("recognize-cdata") == "yes"
         self.groups, self.templates, self.procedures, self.buffers, self.keeps = [], [], {}, {}, False
         self.root = self.declare(sheet, None)
         self.scopes = [Scope(0, self.buffers)]
@@ -191,7 +204,7 @@ class Run:
         """What is written, the messages, and how the run ends: none, a code with its place, or a cut."""
         end = None
         try:
-            root = tree(document, self.strips)
+            root = tree(document, self.strips, self.sections)
             self.process(root, self.root)
             if self.result.opened:
                 end = ("UnclosedResult", 0)
@@ -286,10 +299,11 @@ class Run:
         node.inside.is_over = True
 
     def pass_through(self, node, base):
-        copies = base.passes == "all" or (base.passes == "text" and node.kind == "text")
+        copies = base.copies(node.kind)
         if node.kind in ("document", "element"):
             if copies and node.kind == "element":
-                self.at(base.place, lambda: self.result.start(node.name, node.attributes))
+                attributes = node.attributes if base.copies("attribute") else []
+                self.at(base.place, lambda: self.result.start(node.name, attributes))
             self.children(node, base)
             if copies and node.kind == "element":
                 self.at(base.place, lambda: self.result.end(node.name))
@@ -481,7 +495,7 @@ class Run:
             raise Stop("TooManySources")
         if name not in self.documents:
             raise Stop("NoDocument")
-        self.read(tree(self.documents[name], self.strips), item, frame)
+        self.read(tree(self.documents[name], self.strips, self.sections), item, frame)
 
     def do_process_buffer(self, item, frame):
         if len(self.sources) == MOST_SOURCES:
