@@ -60,7 +60,8 @@ class Maker:
 
     def passes_kinds(self):
         kinds = " ".join(kind for kind in KINDS if self.random.random() < 0.5)
-        return f' pass-through="{kinds or "none"}"' + self.maybe(0.7, ' recognize-cdata="yes"') + self.maybe(0.3, ' strip-space="yes"')
+        strips, sections = self.maybe(0.3, ' strip-space="yes"'), self.maybe(0.7, ' recognize-cdata="yes"')
+        return f' pass-through="{kinds or "none"}"{strips}{sections}'
 
     def group(self):
         passes = self.maybe(0.5, ' pass-through="all"')
