@@ -19,6 +19,7 @@ class Node:
     def settle(self, level=0):
         """Ties the nodes of a tree to one another."""
         self.level, self.inside = level, Siblings(self.nodes)
+        self.beside = self.beside or Siblings([self])
         for place, node in enumerate(self.nodes):
             node.parent, node.beside, node.place = self, self.inside, place
             node.settle(level + 1)
@@ -53,24 +54,29 @@ class Node:
     def attribute_nodes(self):
         """The attributes as nodes, in a list of their own."""
         found = [Node("attribute", name, text=value) for name, value in self.attributes]
+        beside = Siblings(found)
         for place, node in enumerate(found):
             node.settle(self.level)
-            node.parent, node.beside, node.place = self, Siblings(found), place
+            node.parent, node.beside, node.place = self, beside, place
         return found
 
     def path(self):
         return (self.parent.path() if self.parent else []) + [self]
 
     def position(self, test):
-        before = self.beside.nodes[: self.place] if self.beside else []
-        return 1 + sum(passes(test, node) for node in before)
+        return 1 + sum(passes(test, node) for node in self.beside.nodes[: self.place])
 
 
 class Siblings:
-    """The nodes of a list, how many were looked at and taken, whether its end was, and the conditions, the outermost first."""
+    """The nodes of a list, and how far it is read.
+
+    How many nodes were looked at and taken, and whether the end was; the conditions under
+    which they are taken, the outermost first; how many templates and procedures run on them.
+    """
 
     def __init__(self, nodes):
-        self.nodes, self.looked, self.taken, self.is_over, self.conditions = nodes, 0, 0, False, []
+        self.nodes, self.looked, self.taken, self.is_over = nodes, 0, 0, False
+        self.conditions, self.instances = [], 0
 
 
 def tree(text, strips=False, sections=False):

@@ -4,8 +4,7 @@ It is written from docs/LANGUAGE.md and shares nothing with the program, which
 holds no tree and no recursion. It knows both versions, all instructions, groups,
 visibility and scopes, one variable `v`, one parameter `p`, two buffers and two
 procedures of the root, and the expressions and patterns that are made. It counts
-fuel, and not how many templates run in a list: a run in which too many do is
-given up.
+fuel, and how many templates and procedures run in a list.
 """
 
 from xml.parsers import expat
@@ -173,7 +172,7 @@ def put_content(element, result):
 class Run:
     """A run of a sheet; documents are given by their names."""
 
-    def __init__(self, text, documents, fuel):
+    def __init__(self, text, documents, fuel, instances):
         sheet = sheet_of(text)
         self.documents, self.strips = documents, sheet.attributes.get("strip-space") == "yes"
         self.sections = sheet.attributes.get("recognize-cdata") == "yes"
@@ -182,7 +181,7 @@ class Run:
         self.scopes = [Scope(0, self.buffers)]
         # Where results go, the messages, and the places of the instructions whose buffers and documents are read.
         self.results, self.notes, self.sources = [Result()], [], []
-        self.most_fuel = self.fuel = fuel
+        self.most_fuel, self.fuel, self.most_instances = fuel, fuel, instances
 
     def declare(self, element, parent):
         group = Group(element, parent)
@@ -365,12 +364,16 @@ class Run:
 
     def run_with(self, element, node, group, test, given):
         """Runs a template or a procedure with the parameter that is given, or the default."""
+        if node.beside.instances == self.most_instances:
+            raise Stop("Instances")
+        node.beside.instances += 1
         parameter = []
         for item in element.content:
             if not isinstance(item, str) and item.own and item.name == "param":
                 view = View(node, test, self.scope.variable, [])
                 parameter = view.items(item.attributes["select"]) if given is None else given
         self.run_body(element.content, (node, group, test, parameter))
+        node.beside.instances -= 1
 
     def run_body(self, content, frame):
         held = None
