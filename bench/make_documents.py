@@ -115,6 +115,28 @@ def one_text(number):
     return SENTENCES[number * 37 % len(SENTENCES)]
 
 
+def products(number):
+    return f'<product><name>item {number}</name><price cur="EUR">{number * 31 % 50000}</price></product>\n'
+
+
+def log(number):
+    level = "error" if number % 100 == 0 else ("info", "debug", "warning")[number % 3]
+    return (
+        f'<e time="2024-03-17T08:{number // 60 % 60:02}:{number % 60:02}" level="{level}">'
+        f"<from>part {number % 17}</from><text>{SENTENCES[number % len(SENTENCES)].strip()}</text></e>\n"
+    )
+
+
+def days(number):
+    # Ten neighbours have one day.
+    return f'<e day="{number // 10}" user="u{number % 97}">entry {number}</e>\n'
+
+
+def order(number):
+    # There are prices for 100 of 101 articles.
+    return f'<item sku="A{number * 37 % 101}"><count>{number % 9 + 1}</count></item>\n'
+
+
 SHAPES = {
     "records": records,
     "attributes": attributes,
@@ -124,7 +146,14 @@ SHAPES = {
     "feed": feed,
     "namespaces": namespaces,
     "one_text": one_text,
+    "products": products,
+    "log": log,
+    "days": days,
+    "order": order,
 }
+
+# Shapes whose root isn't called `doc`.
+ROOTS = {"products": "products", "log": "log", "days": "log", "order": "order"}
 
 # Shapes whose root declares these. They stand as a copy writes them: the default namespace and then prefixes in order.
 DECLARING = ("feed", "namespaces")
@@ -138,8 +167,9 @@ def document(shape, size):
     """Yield the document in pieces of bytes."""
     unit = SHAPES[shape]
     number = 1
-    end = b"</doc>\n"
-    piece = [f"<doc{DECLARATIONS if shape in DECLARING else ''}>\n"]
+    root = ROOTS.get(shape, "doc")
+    end = f"</{root}>\n".encode("ascii")
+    piece = [f"<{root}{DECLARATIONS if shape in DECLARING else ''}>\n"]
     remaining = size - len(end) - len(piece[0])
     while remaining > 0:
         part = unit(number)

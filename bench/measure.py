@@ -35,7 +35,13 @@ class CommandFailed(Exception):
 
 
 def run(command, document, output=os.devnull, pieces=None):
-    """Run a command once; return its seconds and its peak in KiB.
+    """Run a command once; return its seconds and its peak in KiB."""
+    seconds, usage = used(command, document, output, pieces)
+    return seconds, usage.ru_maxrss
+
+
+def used(command, document, output=os.devnull, pieces=None):
+    """Run a command once; return its seconds and what it used of the machine.
 
     With pieces, the input is a pipe which gets each piece in a write of its
     own, and document is not used.
@@ -63,7 +69,7 @@ def run(command, document, output=os.devnull, pieces=None):
         raise CommandFailed(f"{command[0]} ended with status {code}")
     if not all_read:
         raise CommandFailed(f"{command[0]} ended before its input")
-    return seconds, usage.ru_maxrss
+    return seconds, usage
 
 
 def launch(arguments, inherited):
@@ -96,6 +102,22 @@ def best(runs, *arguments, **options):
     """The least seconds and the greatest peak of several runs."""
     figures = [run(*arguments, **options) for _ in range(runs)]
     return min(seconds for seconds, _ in figures), max(peak for _, peak in figures)
+
+
+def by_turns(rounds, runs):
+    """Run each command once a round; return for each its least user time and its greatest peak.
+
+    Each of runs is a command and its document. What else the machine does then
+    falls on all of them alike.
+    """
+    seconds = {name: [] for name in runs}
+    peaks = dict.fromkeys(runs, 0)
+    for _ in range(rounds):
+        for name, (command, document) in runs.items():
+            _, usage = used(command, document)
+            seconds[name].append(usage.ru_utime)
+            peaks[name] = max(peaks[name], usage.ru_maxrss)
+    return {name: (min(seconds[name]), peaks[name]) for name in runs}
 
 
 def main(arguments):
