@@ -1,5 +1,5 @@
 <xsl:stylesheet version="1.0" xmlns:xsl="http://www.w3.org/1999/XSL/Transform">
-  <!-- By a key, since looking for neighbours among siblings takes minutes where there are many. -->
+  <!-- By a key: looking for the neighbours among the siblings is slower. -->
   <xsl:strip-space elements="*"/>
   <xsl:key name="day" match="e" use="@day"/>
   <xsl:template match="log">
