@@ -2,6 +2,7 @@ mod Answered
 mod Apart
 mod Attributed
 mod Bound
+mod Ended
 mod Escaping
 mod Growing
 mod InFront

@@ -307,6 +307,27 @@ impl Writer {
         Ok(())
     }
 
+    /// The same of an end by its name, as `put_end` has it. The name of the element is kept in `spare`. After a refusal all is
+    /// unchanged.
+    pub fn put_end_keeping(
+        &mut self,
+        name: &Name,
+        spare: &mut Spare,
+        out: &mut Vec<u8>,
+    ) -> Result<(), WriteStop>
+        ensures taken { OnOk result (spec.fault self.old.limit self.old.left (End name.now) ≡ None) }
+        ensures fault { IfErr result (IsCause (spec.fault self.old.limit self.old.left (End name.now))) }
+        ensures ok { OnOk result (self.new ≡ behind self.old (End name.now)) }
+        ensures err { OnErr result (self.new ≡ self.old) }
+        ensures written { OnOk result (out.new.items ≡ out.old.items ++ settles self.old.left (End name.now)) }
+        ensures unwritten { OnErr result (out.new.items ≡ out.old.items) }
+    {
+        match self.opened.end_fault(name) {
+            Some(fault) => Err(WriteStop::Fault(fault)),
+            None => self.end_innermost(spare, out),
+        }
+    }
+
     /// The same of characters. After a refusal all is unchanged.
     pub fn put_chars(&mut self, text: &Text, out: &mut Vec<u8>) -> Result<(), WriteStop>
         ensures taken { OnOk result (spec.fault self.old.limit self.old.left (Chars text.now) ≡ None) }

@@ -64,8 +64,8 @@ impl Sink for Output {
     }
 
     #[inline(always)]
-    fn end(&mut self, name: &Name, _spare: &mut Spare) -> Result<(), WriteStop> {
-        self.writer.put_end(name, &mut self.bytes)
+    fn end(&mut self, name: &Name, spare: &mut Spare) -> Result<(), WriteStop> {
+        self.writer.put_end_keeping(name, spare, &mut self.bytes)
     }
 
     #[inline(always)]
