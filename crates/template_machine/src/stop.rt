@@ -83,8 +83,19 @@ pub fn written(given: Result<(), WriteStop>, at: Place) -> Result<(), Stop>
 {
     match given {
         Ok(()) => Ok(()),
-        Err(WriteStop::Fault(fault)) => Err(Stop::fault(result_code(fault), at)),
-        Err(WriteStop::Memory) => Err(Stop::Memory),
+        Err(stop) => Err(by_part(stop, at)),
+    }
+}
+
+/// Why a part isn't put. It stands apart, since most parts are put.
+#[cold]
+#[inline(never)]
+fn by_part(stop: WriteStop, at: Place) -> Stop
+    ensures { result ≡ spec.by_part at stop }
+{
+    match stop {
+        WriteStop::Fault(fault) => Stop::fault(result_code(fault), at),
+        WriteStop::Memory => Stop::Memory,
     }
 }
 
@@ -94,10 +105,21 @@ pub fn buffered(given: Result<(), BufferFault>, at: Place) -> Result<(), Stop>
 {
     match given {
         Ok(()) => Ok(()),
-        Err(BufferFault::Busy) => Err(Stop::fault(RunCode::BufferBusy, at)),
-        Err(BufferFault::Full) => Err(Stop::fault(RunCode::BufferFull, at)),
-        Err(BufferFault::Result(fault)) => Err(Stop::fault(result_code(fault), at)),
-        Err(BufferFault::Memory) => Err(Stop::Memory),
+        Err(fault) => Err(by_buffer(fault, at)),
+    }
+}
+
+/// Why nothing is done with a buffer.
+#[cold]
+#[inline(never)]
+fn by_buffer(fault: BufferFault, at: Place) -> Stop
+    ensures { result ≡ spec.by_buffer at fault }
+{
+    match fault {
+        BufferFault::Busy => Stop::fault(RunCode::BufferBusy, at),
+        BufferFault::Full => Stop::fault(RunCode::BufferFull, at),
+        BufferFault::Result(fault) => Stop::fault(result_code(fault), at),
+        BufferFault::Memory => Stop::Memory,
     }
 }
 
@@ -108,8 +130,19 @@ pub fn pushed(given: Result<(), FrameFault>, at: Place) -> Result<(), Stop>
 {
     match given {
         Ok(()) => Ok(()),
-        Err(FrameFault::Instances) => Err(Stop::fault(RunCode::Instances, at)),
-        Err(FrameFault::Memory) => Err(Stop::Memory),
+        Err(fault) => Err(by_frame(fault, at)),
+    }
+}
+
+/// Why a frame isn't pushed.
+#[cold]
+#[inline(never)]
+fn by_frame(fault: FrameFault, at: Place) -> Stop
+    ensures { result ≡ spec.by_frame at fault }
+{
+    match fault {
+        FrameFault::Instances => Stop::fault(RunCode::Instances, at),
+        FrameFault::Memory => Stop::Memory,
     }
 }
 
