@@ -114,6 +114,7 @@ impl Source {
     }
 
     /// Counts an event that is told: an element begins, or the innermost list that has begun ends, if there is one. Allocates nothing.
+    #[inline(always)]
     pub fn count(&mut self, event: &Event)
         requires { begun_behind event.now self.old.begun < 2 ^ 32 }
         ensures { self.new ≡ record self.old { begun = begun_behind event.now self.old.begun } }
@@ -136,6 +137,7 @@ impl Source {
         }
     }
 
+    #[inline(always)]
     pub fn is_element(&self) -> bool
         ensures { result ≡ spec.is_in_element (path self.now.stack) }
     {
@@ -143,6 +145,7 @@ impl Source {
     }
 
     /// Whether the current node may have children.
+    #[inline(always)]
     pub fn has_list(&self) -> bool
         ensures { result ≡ can_have_children (current (path self.now.stack)) }
     {
