@@ -22,6 +22,7 @@ use stx_base::{List, Place, RunCode};
 
 impl Run {
     /// Takes the current node, a head that somebody asked for.
+    #[inline(always)]
     pub fn take<S: Sink>(
         &mut self,
         program: &Program,
@@ -47,6 +48,7 @@ impl Run {
     }
 
     /// The current node has no template.
+    #[inline(always)]
     fn pass_through<S: Sink>(
         &mut self,
         program: &Program,

@@ -265,6 +265,7 @@ impl Run {
     }
 
     /// The innermost list goes on: where nothing is known of it, a document is asked for its next event.
+    #[inline(always)]
     pub fn list_goes_on(&mut self) -> Step
         ensures run { self.new ≡ record self.old { doing = Doing.List } }
         ensures step { GoesOrWaits result self.old }
@@ -399,6 +400,7 @@ impl Run {
     }
 
     /// The innermost open list is over.
+    #[inline(always)]
     fn list_over<S: Sink>(&mut self, program: &Program, out: &mut S) -> Result<Step, Stop>
         requires { ListIsOver program.now self.old }
         ensures stands { IfOk result (λ step. Follows program.now step self.new) }
@@ -523,6 +525,7 @@ impl Run {
     }
 
     /// The next attribute of the current element, if there is one.
+    #[inline(never)]
     fn next_attribute<S: Sink>(
         &mut self,
         program: &Program,

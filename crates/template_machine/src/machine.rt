@@ -63,6 +63,7 @@ impl Machine {
         }
     }
 
+    #[inline(never)]
     fn begin<S: Sink>(&mut self, out: &mut S) -> Result<Step, Stop>
         requires { IsNew self.old }
         ensures follows { IfOk result (λ step. Follows self.new.program step self.new.run) }
@@ -108,7 +109,7 @@ impl Machine {
         ensures fuel_limit { fuel_limit_of self.new ≡ fuel_limit_of self.old }
     {
         match self.run.begin_document(&self.program) {
-            Ok(()) => self.run.go_on(&self.program, out),
+            Ok(()) => self.run.go_on_behind(&self.program, Step::More, out),
             Err(stop) => stop.turn(),
         }
     }

@@ -136,6 +136,7 @@ impl Run {
     }
 
     /// Goes on until an event or a document is wanted, or the run is over.
+    #[inline(always)]
     pub fn go_on<S: Sink>(&mut self, program: &Program, out: &mut S) -> Turn
         requires { IsWell program.now self.old }
         ensures more { result ≡ Turn.More → WantsEvent program.now self.new }
@@ -156,6 +157,7 @@ impl Run {
     }
 
     /// Goes on behind a step.
+    #[inline(never)]
     pub fn go_on_behind<S: Sink>(&mut self, program: &Program, step: Step, out: &mut S) -> Turn
         requires follows { Follows program.now step self.old }
         requires asks { AsksNone step }
