@@ -373,6 +373,7 @@ impl Core {
     }
 
     // How the run goes on behind an answer of the machine, where not with the next event.
+    #[inline(always)]
     fn settle(&mut self, turn: Turn) -> Option<Pumped>
         requires { IsTurned turn self.old }
         ensures { Settles turn self.old result self.new }
