@@ -1,12 +1,14 @@
 //! What the expressions, templates and contents of a sheet give.
 
-ghost use Rattle.std.specs.Prelude.{◌≡◌, ◌∷◌, [], ◌++◌, ◌-◌, ◌<◌, ℕ, List as Items, ◌≤◌, nat_lt, IfOk, Ok, All, length, unwrap_or, slice_get};
+ghost use Rattle.std.specs.Prelude.{◌≡◌, ◌∷◌, [], ◌++◌, ◌-◌, ◌<◌, ℕ, List as Items, ◌≤◌, nat_lt, IfOk, Ok, All, length, true, unwrap_or, slice_get};
 ghost use Rattle.std.specs.Option.{option_copied, ForSome};
 ghost use Rattle.std.specs.Result.{result_map_both};
 ghost use Rattle.std.specs.Str.{chars};
 ghost use Rattle.node_stack.specs.Open.{node_of};
 ghost use Rattle.node_stack.specs.Path as paths;
+ghost use Rattle.node_stack.specs.Path.{is_told};
 ghost use Rattle.node_stack.specs.Stack.{path};
+ghost use Rattle.stxpath_eval.specs.Env.{setting};
 ghost use Rattle.stxpath_eval.specs.Nodes.{referred, referred_at};
 ghost use Rattle.stxpath_eval.specs.Value as eval;
 ghost use Rattle.stxpath_syntax.specs.Shape.{CanBeEvaluated};
@@ -22,21 +24,31 @@ use node_stack::{NodeStack, NodeView};
 use sheet_model::Content;
 use std::alloc::Global;
 use stx_base::{Copied, List, Memory, Text};
-use stxpath_eval::{Env, Vars, atoms, eval, text};
+use stxpath_eval::{Env, Vars, eval, eval_atoms, eval_text, eval_truth, text};
 use stxpath_syntax::{Avt, AvtPart, Expr};
-use stxpath_values::{Atom, EvalFault, EvalStop, Item, NodeRef, to_text, truth};
+use stxpath_values::{Atom, EvalFault, EvalStop, Item, NodeRef, to_text};
 
 impl<V: Vars> Setting<'_, V> {
+    /// The last node of the path is the current one.
+    fn env(&self) -> Env<'_, V>
+        ensures seen { setting V.value_of self.now.stack.now result ≡ seen V.value_of self.now }
+        ensures place { result.place < length (path self.now.stack.now).nodes }
+        ensures told { is_told (path self.now.stack.now) result.place result.test.now ≡ true }
+    {
+        let place = self.stack.len() - 1;
+        Env {
+            vars: &self.vars,
+            place,
+            test: self.test,
+            limits: self.limits,
+        }
+    }
+
     fn items(&self, expr: &Expr) -> Result<List<Item>, EvalStop>
         requires { CanBeEvaluated expr.now }
         ensures { IsAnswer result (eval.value expr.now (seen V.value_of self.now)) }
     {
-        let env = Env {
-            vars: &self.vars,
-            place: self.stack.len() - 1,
-            test: self.test,
-            limits: self.limits,
-        };
+        let env = self.env();
         eval(self.alloc, expr, self.stack, &env)
     }
 
@@ -45,9 +57,8 @@ impl<V: Vars> Setting<'_, V> {
         requires { CanBeEvaluated expr.now }
         ensures { IsAnswer result (spec.atoms_of expr.now (seen V.value_of self.now)) }
     {
-        let items = self.items(expr)?;
-        let value = atoms(self.alloc, &items, self.stack)?;
-        Ok(value)
+        let env = self.env();
+        eval_atoms(self.alloc, expr, self.stack, &env)
     }
 
     /// The same, or the empty text where there is no expression.
@@ -65,8 +76,8 @@ impl<V: Vars> Setting<'_, V> {
         requires { CanBeEvaluated expr.now }
         ensures { IsAnswer result (spec.truth_of expr.now (seen V.value_of self.now)) }
     {
-        let items = self.items(expr)?;
-        Ok(truth(&items)?)
+        let env = self.env();
+        eval_truth(self.alloc, expr, self.stack, &env)
     }
 
     /// An expression as a text, its items with a space between.
@@ -74,12 +85,8 @@ impl<V: Vars> Setting<'_, V> {
         requires { CanBeEvaluated expr.now }
         ensures { IsAnswer result (spec.text_of expr.now (seen V.value_of self.now)) }
     {
-        let items = self.items(expr)?;
-        if items.len() > 1 {
-            let space = Text::of(self.alloc, " ")?;
-            return self.joined(&space, &items);
-        }
-        self.only(items)
+        let env = self.env();
+        eval_text(self.alloc, " ", expr, self.stack, &env)
     }
 
     /// The same with another separator, which is asked for behind the items.

@@ -1,20 +1,18 @@
 use Rattle.std.proofs.Common.{subst}
 use Rattle.std.specs.Str.{chars}
+use Rattle.stxpath_eval.specs.Nodes.{atoms}
 use Rattle.stxpath_eval.specs.Value.{value}
-use Rattle.stxpath_values.specs.Outcome.{IsAnswer}
+use Rattle.stxpath_values.specs.Functions.{whole_text}
+use Rattle.stxpath_values.specs.Outcome.{IsAnswer, and_then}
 use Rattle.template_machine.specs.Evaluating.{seen}
 use Rattle.template_machine.specs.Values.{items_text, space}
-use Rattle.template_machine.proofs.Answering.{goes_on}
+use Rattle.template_machine.proofs.Answering.{alike, as_whole}
 use Rattle.template_machine.proofs.setting.Setting.text.Goals as goal
 
-pub returns-then-len-gt1 : goal.returns-then-len-gt1
-unfolding chars
-returns-then-len-gt1 g c =
-    let s = seen g.V.Vars.value_of c.args.self.now in
-    goes_on (value c.args.expr.now s) c.in_ok-items.items (items_text s space) c.joined.result c.in_ok-items.ensures
-    (subst (λ b. IsAnswer c.joined.result (items_text s b c.in_ok-items.items)) c.in_ok-space.ensures c.joined.ensures)
-
 pub returns : goal.returns
+unfolding chars
 returns g c =
     let s = seen g.V.Vars.value_of c.args.self.now in
-    goes_on (value c.args.expr.now s) c.in_ok-items.items (items_text s space) c.only.result c.in_ok-items.ensures (c.only.ensures space)
+    let e = c.args.expr.now in
+    subst (IsAnswer c.eval_text.result) (alike (value e s) (λ items. whole_text s.limits space (atoms s.path items)) (items_text s space) (λ items. as_whole s.limits space (atoms s.path items)))
+    (subst (λ s. IsAnswer c.eval_text.result (and_then (value e s) (λ items. whole_text s.limits space (atoms s.path items)))) c.env-env.ensures.seen c.eval_text.ensures)
