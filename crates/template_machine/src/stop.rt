@@ -66,13 +66,25 @@ impl<T: Drop> From<AllocFailed<T>> for Stop {
 }
 
 /// What an expression gives at an instruction.
+#[inline(always)]
 pub fn evaluated<T>(given: Result<T, EvalStop>, at: Place) -> Result<T, Stop>
     ensures { result ≡ result_map_both (λ value. value) (spec.by_expression at) given }
 {
     match given {
         Ok(value) => Ok(value),
-        Err(EvalStop::Fault(fault)) => Err(Stop::fault(code_of(fault), at)),
-        Err(EvalStop::Memory) => Err(Stop::Memory),
+        Err(stop) => Err(by_expression(stop, at)),
+    }
+}
+
+/// Why an expression gives nothing. It stands apart, since most give something.
+#[cold]
+#[inline(never)]
+fn by_expression(stop: EvalStop, at: Place) -> Stop
+    ensures { result ≡ spec.by_expression at stop }
+{
+    match stop {
+        EvalStop::Fault(fault) => Stop::fault(code_of(fault), at),
+        EvalStop::Memory => Stop::Memory,
     }
 }
 
