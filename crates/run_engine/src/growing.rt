@@ -1,6 +1,6 @@
 //! Bytes that only become more.
 
-ghost use Rattle.std.specs.Prelude.{◌≡◌, ◌++◌, OnOk, OnErr};
+ghost use Rattle.std.specs.Prelude.{◌≡◌, ◌++◌, [], OnOk, OnErr};
 ghost use Rattle.stx_base.specs.Course.{Begins};
 
 use std::mem;
@@ -18,6 +18,9 @@ pub fn append_both(
     // All of them are.
     ensures all_bytes { OnOk result (bytes.new.items ≡ bytes.old.items ++ more.old.items) }
     ensures all_notes { OnOk result (notes.new.items ≡ notes.old.items ++ others.old.items) }
+    // None is left to be appended once more.
+    ensures no_bytes { OnOk result (more.new.items ≡ []) }
+    ensures no_notes { OnOk result (others.new.items ≡ []) }
 {
     match append(bytes, more) {
         Ok(()) => append(notes, others),
@@ -28,6 +31,7 @@ pub fn append_both(
 // Moves bytes behind others. After a refusal nothing has changed.
 fn append(bytes: &mut Vec<u8>, more: &mut Vec<u8>) -> Result<(), Memory>
     ensures ok { OnOk result (bytes.new.items ≡ bytes.old.items ++ more.old.items) }
+    ensures rest { OnOk result (more.new.items ≡ []) }
     ensures err { OnErr result (bytes.new.items ≡ bytes.old.items) }
 {
     // In most calls nothing stands there, and nothing is copied.
