@@ -19,7 +19,7 @@ use Rattle.stxpath_values.specs.declared.value.Atom.{Atom}
 use Rattle.template_machine.specs.Bodies.{frame_in, on_body}
 use Rattle.template_machine.specs.Contexts.{Context, Items, Kind, Named, Station, Tag}
 use Rattle.template_machine.specs.Made.{IsNamedLocal, OnlyStores}
-use Rattle.template_machine.specs.Seen.{bounds_of}
+use Rattle.template_machine.specs.Seen.{bounds_of, place_of}
 use Rattle.template_machine.specs.Standing.{Standing, known_now, standing_of}
 use Rattle.template_machine.specs.Well.{AreOf, GoesOn, IsOf, IsSteady, IsWell}
 use Rattle.template_machine.specs.Working.{Runs}
@@ -28,6 +28,7 @@ use Rattle.template_machine.specs.declared.run.Run.{Run}
 use Rattle.template_machine.proofs.Moving.{BodyIs, alone, by_themselves, moves, moves_only}
 use Rattle.template_machine.proofs.Operating.{body_goes, goes_elsewhere}
 use Rattle.template_machine.proofs.Placing.{changed_reversed, placed_in}
+use Rattle.template_machine.proofs.Unseen.{not_none, stands_at}
 use Rattle.var_store.specs.Copies.{Stored, on_group, on_newest}
 use Rattle.var_store.specs.Variables as variables
 use Rattle.var_store.specs.Variables.{is_called, slot_of}
@@ -117,10 +118,11 @@ called_at locals name i e =
     (x.0, (x.1, found_passes (is_called name) (bounds_of locals) (f x.0) (sym (found_at name (bounds_of locals) i e) ∙ at)))
 
 pub named_local : (r : Run) (body : ℕ) (frame : Frame) (locals : List Local) (name : Name) (o : Option ℕ) → slice_get r.frames.frames body ≡ Some frame
-    → Some (locals_of frame) ≡ Some locals → o ≡ slot_of name (bounds_of locals) → name.local ≢ [] → IfSome o (λ i. IsNamedLocal r body i name)
-named_local r body frame locals name None there are is some = tt
-named_local r body frame locals name (Some i) there are is some =
-    let x = called_at locals name i (sym is) in
+    → Some (locals_of frame) ≡ Some locals → o ≡ place_of name locals → IfSome o (λ i. IsNamedLocal r body i name)
+named_local r body frame locals name None there are is = tt
+named_local r body frame locals name (Some i) there are is =
+    let at = stands_at name locals i (sym is) in
+    let x = called_at locals name i at.1 in
     let same : locals_of frame ≡ locals = cc in
     record {
       frame = frame;
@@ -128,16 +130,16 @@ named_local r body frame locals name (Some i) there are is some =
       local = x.0;
       is = ap (λ l. slice_get l i) same ∙ x.1.0;
       called = x.1.1;
-      some = some;
+      some = not_none name.local at.0;
     }
 
 pub named_local_at : (r : Run) (body : ℕ) (locals : List Local) (name : Name) (o : Option ℕ) → option_map locals_of (slice_get r.frames.frames body) ≡ Some locals
-    → o ≡ slot_of name (bounds_of locals) → name.local ≢ [] → IfSome o (λ i. IsNamedLocal r body i name)
-named_local_at r body locals name o are is some = by (slice_get r.frames.frames body) refl are
+    → o ≡ place_of name locals → IfSome o (λ i. IsNamedLocal r body i name)
+named_local_at r body locals name o are is = by (slice_get r.frames.frames body) refl are
   where
     by : (x : Option Frame) → slice_get r.frames.frames body ≡ x → option_map locals_of x ≡ Some locals → IfSome o (λ i. IsNamedLocal r body i name)
     by None there same = absurd (cc)
-    by (Some frame) there same = named_local r body frame locals name o there same is some
+    by (Some frame) there same = named_local r body frame locals name o there same is
 
 and_second : (a b : Bool) → (a && b) ≡ true → b ≡ true
 and_second true b h = h

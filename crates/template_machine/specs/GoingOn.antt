@@ -1,29 +1,25 @@
 -- How what a run still does goes on.
-use Rattle.std.specs.Prelude.{◌≡◌, ℕ, false, List, ◌∷◌, ◌++◌, Some, reverse, slice_get}
+use Rattle.std.specs.Prelude.{◌≡◌, ℕ, List, ◌∷◌, ◌++◌, Some, reverse, slice_get}
 use Rattle.stx_base.specs.Course.{says}
-use Rattle.stx_base.specs.declared.name.Name.{Name}
 use Rattle.frame_stack.specs.declared.frame.Frame.{Frame}
 use Rattle.frame_stack.specs.declared.locals.Local.{Local}
 use Rattle.frame_stack.specs.Change.{with_locals, with_pc}
 use Rattle.frame_stack.specs.Stack.{FrameStack}
 use Rattle.instr_code.specs.Code.{code_of}
 use Rattle.instr_code.specs.Running.{go_on}
-use Rattle.result_writer.specs.Allowed.{is_empty}
 use Rattle.result_writer.specs.Target.{Left}
 use Rattle.instr_code.specs.declared.code.Op.{Op}
 use Rattle.instr_code.specs.declared.code.Op.TheVariants as op
 use Rattle.var_store.specs.Copies.{Stored}
-use Rattle.var_store.specs.Variables.{value_of}
 use Rattle.template_machine.specs.Bodies.{on_body, pc_in, pc_of}
 use Rattle.template_machine.specs.Ending.{Said}
 use Rattle.template_machine.specs.Job.{Given, Here}
-use Rattle.template_machine.specs.Seen.{local_of}
 use Rattle.template_machine.specs.Stepwise.{steps_of}
 use Rattle.template_machine.specs.declared.program.Program.{Program}
 use Rattle.template_machine.specs.declared.putting.Putting.{Putting}
 use Rattle.template_machine.specs.declared.run.Doing.TheVariants as doing
 use Rattle.template_machine.specs.declared.run.Run.{Run}
-use Rattle.template_machine.specs.Still.{Goes, below_loops, named_of, operates, scene_by, state_of, working_in}
+use Rattle.template_machine.specs.Still.{Goes, below_loops, operates, scene_by, state_of, working_in}
 
 -- A jump in a body's code goes on with what the run still does.
 abbrev pub JumpsGoOn : Type 0
@@ -48,7 +44,3 @@ OperationsGoOn =
     → operates given p o pc (working_in given p turns b fs c a)
     ≡ says more (go_on (steps_of given) to (working_in given p turns_now moved fs c (record a { state = state_of given p s left_now }))))
     → Goes given p r left said s left_now (said ++ more)
-
--- Under a name that has a local part the locals with a name are seen, and no others.
-abbrev pub NamedAreSeen : Type 0
-NamedAreSeen = (name : Name) (locals : List Local) → is_empty name.local ≡ false → value_of name (named_of locals) ≡ local_of name locals

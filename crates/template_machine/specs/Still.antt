@@ -41,7 +41,7 @@ use Rattle.template_machine.specs.Meaning.{ending_of}
 use Rattle.template_machine.specs.Passing as passing
 use Rattle.template_machine.specs.Programs.{instr_at, link_at}
 use Rattle.template_machine.specs.Putting.{puts}
-use Rattle.template_machine.specs.Seen.{bounds_of}
+use Rattle.template_machine.specs.Seen.{named_of}
 use Rattle.template_machine.specs.Steps.{group_of, test_in}
 use Rattle.template_machine.specs.Stepwise.{Flat_does, Working, flat_code, lifted, steps_of}
 use Rattle.template_machine.specs.Trail.{Trail, stand}
@@ -69,10 +69,7 @@ nodes_of s = reverse (path s.stack).nodes
 abbrev pub Main_source : Source
 Main_source = Main
 
--- the locals of a frame that have a name, and the values of the others, the innermost first
-abbrev pub named_of : List Local → List Bound
-named_of locals = bounds_of (filter (λ (l : Local). not (is_empty l.name.local)) locals)
-
+-- the values of locals without a name, the innermost first
 abbrev pub aside_of : List Local → List (List Atom)
 aside_of locals = reverse (map (λ (l : Local). l.value) (filter (λ (l : Local). is_empty l.name.local) locals))
 

@@ -44,14 +44,11 @@ impl Run {
         }
     }
 
-    /// The local of a body that is set by a name. One that waits has no name.
+    /// The local of a body that is set by a name.
     fn local_set(&self, program: &Program, name: &Name, body: usize) -> Option<usize>
         requires { Sees program.now self.now body }
         ensures { IfSome result (λ index. IsNamedLocal self.now body index name.now) }
     {
-        if name.local.is_empty() {
-            return None;
-        }
         local_named(locals_at(&self.frames, body), name)
     }
 

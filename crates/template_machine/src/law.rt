@@ -4,7 +4,7 @@ ghost use Rattle.std.specs.Prelude.{◌≡◌, ◌↔◌, List};
 ghost use Rattle.stx_base.specs.Course.{Ends, Over};
 ghost use Rattle.template_machine.specs.Copies.{CopiesAll, CopiesNothing, CopiesTexts};
 ghost use Rattle.template_machine.specs.Ending.{Said, Ending};
-ghost use Rattle.template_machine.specs.GoingOn.{JumpsGoOn, NamedAreSeen, OperationsGoOn};
+ghost use Rattle.template_machine.specs.GoingOn.{JumpsGoOn, OperationsGoOn};
 ghost use Rattle.template_machine.specs.Job.{Given};
 ghost use Rattle.template_machine.specs.Laws.{AskingIsOpen, BodiesRunByCode, GoesOnByCode, KeepsLocals, PassesAsBefore, PositionsCountEarlier, SkipsSilently};
 ghost use Rattle.template_machine.specs.Meaning.{code, meaning};
@@ -69,7 +69,6 @@ pub fn resuming()
 pub fn operating()
     ensures operations { OperationsGoOn }
     ensures jumps { JumpsGoOn }
-    ensures seen { NamedAreSeen }
 {}
 
 /// What small sheets make of small documents.

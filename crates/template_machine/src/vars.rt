@@ -4,6 +4,7 @@ ghost use Rattle.std.specs.Prelude.{◌≡◌, ◌<◌, ◌≤◌, if◌then◌e
 ghost use Rattle.std.specs.Option.{option_copied, option_or};
 ghost use Rattle.sheet_model.specs.Groups.{around};
 ghost use Rattle.template_machine.specs.Declaring.{is_declared_in, seen_before};
+ghost use Rattle.template_machine.specs.Seen as locally;
 ghost use Rattle.template_machine.specs.Seen.{bounds_of, local_of, ParentsStandBefore};
 ghost use Rattle.template_machine.specs.Variables.{newest, seen_in};
 ghost use Rattle.var_store.specs.Variables.{slot_of, value_of};
@@ -61,8 +62,19 @@ impl Vars for InBody<'_> {
     }
 }
 
-/// Where the first local of a name stands.
+/// Where the first local of a name stands. One that only waits has none.
 pub fn local_named(locals: &Locals, name: &Name) -> Option<usize>
+    ensures value { result ≡ locally.place_of name.now locals.now }
+    ensures within { IfSome result (λ index. index < length locals.now) }
+{
+    if name.local.is_empty() {
+        return None;
+    }
+    first_called(locals, name)
+}
+
+/// The same of one that is called so.
+fn first_called(locals: &Locals, name: &Name) -> Option<usize>
     ensures value { result ≡ slot_of name.now (bounds_of locals.now) }
     ensures within { IfSome result (λ index. index < length locals.now) }
 {

@@ -1,6 +1,5 @@
-use Rattle.template_machine.proofs.Unseen.{named_seen}
 use Rattle.template_machine.proofs.Stilled.{jumps_go_on, operations_go_on}
 use Rattle.template_machine.proofs.law.operating.Goals as goal
 
 pub returns : goal.returns
-returns c = record { operations = operations_go_on; jumps = jumps_go_on; seen = named_seen }
+returns c = record { operations = operations_go_on; jumps = jumps_go_on }

@@ -3,7 +3,7 @@ use Rattle.std.specs.Prelude.{slice_get}
 use Rattle.template_machine.specs.Seen.{bounds_of}
 use Rattle.var_store.specs.Variables.{is_called}
 use Rattle.var_store.specs.declared.bound.Bound.{Bound}
-use Rattle.template_machine.proofs.vars.local_named.Given as goal
+use Rattle.template_machine.proofs.vars.first_called.Given as goal
 
 -- none so far has the name
 abbrev pub invariant-loop-index : goal.invariant-loop-index
