@@ -153,7 +153,7 @@ has_name x name called some = λ e.
 
 set_of : (x : Local) (k : Kind) (value : List Atom) → (x.name.local ≡ [] → ⊥) → IsOf x k → IsOf (record x { value = value }) k
 set_of x (Named name) value named h = h
-set_of x Items value named h = tt
+set_of x Items value named h = h
 set_of x Tag value named h = absurd (named h.0)
 
 are_set : (xs : List Local) (ks : List Kind) (i : ℕ) (l : Local) (value : List Atom) → slice_get xs i ≡ Some l → (l.name.local ≡ [] → ⊥) → AreOf xs ks

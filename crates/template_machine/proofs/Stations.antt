@@ -23,7 +23,7 @@ use Rattle.sheet_model.specs.declared.instr.Instr.TheViews.{out-Instr, out-roll-
 use Rattle.sheet_model.specs.declared.instr.When.{When}
 use Rattle.sheet_model.specs.declared.sheet.Sheet.{Sheet}
 use Rattle.sheet_model.proofs.Nests.{body_nesting-append, nesting_is}
-use Rattle.template_machine.specs.Contexts.{Around, AroundBuffer, AroundTag, Choice, Choices, Context, Declares, Form, HasForm, IsAt, IsRound, Items, Kind, Named, Repeats, Station, Walks, behind, form, form_of, in_loop, with_kind, with_kinds, within}
+use Rattle.template_machine.specs.Contexts.{AreNamed, Around, AroundBuffer, AroundTag, Choice, Choices, Context, Declares, Form, HasForm, IsAt, IsRound, Items, Kind, Named, Repeats, Single, Station, Tag, Walks, behind, form, form_of, in_loop, with_kind, with_kinds, within}
 use Rattle.template_machine.proofs.Laying.{Laid, is_to, laid_behind, laid_more, laid_nothing, laid_op}
 use Rattle.template_machine.proofs.Places.{Numbered, numbered_first, numbered_here, numbered_inside, numbered_second}
 use Rattle.template_machine.proofs.Shapes.{Any, laid_fork, laid_loop, laid_round, laid_single}
@@ -39,6 +39,27 @@ own_kinds f = []
 abbrev pub kinds_of : List Instr → List Kind
 kinds_of [] = []
 kinds_of (i ∷ is) = own_kinds (form_of i) ++ kinds_of is
+
+-- they are variables
+kinds_named : (list : List Instr) → AreNamed (kinds_of list)
+kinds_named [] = tt
+kinds_named (i ∷ is) = of_form (form_of i) (kinds_named is) where
+  of_form : (f : Form) → AreNamed (kinds_of is) → AreNamed (own_kinds f ++ kinds_of is)
+  of_form (Declares name) h = h
+  of_form Single h = h
+  of_form Around h = h
+  of_form AroundTag h = h
+  of_form AroundBuffer h = h
+  of_form Choice h = h
+  of_form (Choices count) h = h
+  of_form Repeats h = h
+  of_form (Walks name) h = h
+
+both_named : (ks js : List Kind) → AreNamed ks → AreNamed js → AreNamed (ks ++ js)
+both_named [] js h g = g
+both_named (Named name ∷ ks) js h g = both_named ks js h g
+both_named (Items ∷ ks) js h g = absurd h
+both_named (Tag ∷ ks) js h g = absurd h
 
 -- the context behind a list
 abbrev pub after : List Instr → Context → Context
@@ -128,31 +149,31 @@ module _ (sheet : Sheet) where
       (list : List Instr) (m p : ℕ) (c : Context) (low : ℕ) → body_nesting list ≤ n → Numbered (instructions sheet) list m
       → Laid code Any ((in_order (pieces list)).ops m p) p c (after list c) low
 
-  laid_dropped : (count m p : ℕ) (c d : Context) (gone : List Kind) (low : ℕ) → c ≡ with_kinds gone d → length gone ≡ count
+  laid_dropped : (count m p : ℕ) (c d : Context) (gone : List Kind) (low : ℕ) → c ≡ with_kinds gone d → length gone ≡ count → AreNamed gone
       → Laid code Any ((dropped count).ops m p) p c d low
-  laid_dropped zero m p c d [] low is long = laid_nothing code Any p c d low (is ∙ sym (with_none d))
-  laid_dropped zero m p c d (k ∷ ks) low is long = absurd (omega (arith, long))
-  laid_dropped (suc n) m p c d gone low is long =
-      laid_op code Any (op.Drop (suc n)) p c d low (suc low) (λ all a here at. (d, (gone, (is, long, (low, (at, omega arith))))))
+  laid_dropped zero m p c d [] low is long named = laid_nothing code Any p c d low (is ∙ sym (with_none d))
+  laid_dropped zero m p c d (k ∷ ks) low is long named = absurd (omega (arith, long))
+  laid_dropped (suc n) m p c d gone low is long named =
+      laid_op code Any (op.Drop (suc n)) p c d low (suc low) (λ all a here at. (d, (gone, (is, long, (low, (at, omega arith)), named))))
 
   laid_list : (n own : ℕ) (list : List Instr) (m p : ℕ) (c d : Context) (ks : List Kind) (low : ℕ) → LaidTo n → body_nesting list ≤ n
-      → Numbered (instructions sheet) list m → c ≡ with_kinds ks d → length ks ≡ own
+      → Numbered (instructions sheet) list m → c ≡ with_kinds ks d → length ks ≡ own → AreNamed ks
       → Laid code Any ((list_piece own list).ops m p) p c d low
-  laid_list n own list m p c d ks low to deep numbered is long =
+  laid_list n own list m p c d ks low to deep numbered is long named =
       let x = in_order (pieces list) in
       let count = x.locals + own in
       let q = p + x.size in
       let gone : after list c ≡ with_kinds (ks ++ kinds_of list) d = after_is list c ∙ ap (with_kinds (kinds_of list)) is ∙ with_more ks (kinds_of list) d in
       let many : length (ks ++ kinds_of list) ≡ count = omega (arith, length-append ks (kinds_of list), kinds_long list, long) in
       let drop : Laid code Any ((dropped count).ops (m + x.numbers) q) q (after list c) d low =
-      laid_dropped count (m + x.numbers) q (after list c) d (ks ++ kinds_of list) low gone many in
+      laid_dropped count (m + x.numbers) q (after list c) d (ks ++ kinds_of list) low gone many (both_named ks (kinds_of list) named (kinds_named list)) in
       laid_behind code Any (x.ops m p) ((dropped count).ops (m + x.numbers) q) p q c (after list c) d low drop (to list m p c drop.high deep numbered)
       (omega (arith, (sized list).long m p))
 
   -- a list that leaves no local
   laid_inner : (n : ℕ) (list : List Instr) (m p : ℕ) (c : Context) (low : ℕ) → LaidTo n → body_nesting list ≤ n
       → Numbered (instructions sheet) list m → Laid code Any ((list_piece 0 list).ops m p) p c c low
-  laid_inner n list m p c low to deep numbered = laid_list n 0 list m p c c [] low to deep numbered (with_none c) refl
+  laid_inner n list m p c low to deep numbered = laid_list n 0 list m p c c [] low to deep numbered (with_none c) refl tt
 
   round_case : (n : ℕ) (f : Form) (body : List Instr) (m p : ℕ) (c : Context) (low : ℕ) → LaidTo n → body_nesting body ≤ n → HasForm code m f
       → IsRound f → Numbered (instructions sheet) body (m + 1)
@@ -293,7 +314,7 @@ module _ (sheet : Sheet) where
       let e = with_kind (Named name) d in
       let run : Laid code Any (b.ops number (p + 1 + 1)) (p + 1 + 1) e d (suc (suc low)) =
       laid_list n 1 body number (p + 1 + 1) e d (Named name ∷ []) (suc (suc low)) to deep
-      (to_number (instructions sheet) body (m + 1) number (omega arith) numbered) refl refl in
+      (to_number (instructions sheet) body (m + 1) number (omega arith) numbered) refl refl tt in
       laid_loop code (op.Begin m) (op.Turn m (p + b.size + 3)) p (p + b.size + 3) c d e low (b.ops number (p + 1 + 1)) run
       (omega (arith, list_long 1 body number (p + 1 + 1)))
       (λ all at. (Walks name, (has, (suc low, at))))

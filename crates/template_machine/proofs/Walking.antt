@@ -34,9 +34,9 @@ module _ (p : Program) (stations : List Station) where
 
   -- a loop over items begins, which wait as the last local
   pub walk_begins : (fs : List Frame) (s : Standing) (pc n turn : ℕ) (name : Name) (x : Local) → HasStations p.code stations p.sheet → pc_in fs ≡ Some pc
-      → slice_get p.code.ops pc ≡ Some (op.Begin n) → HasForm p.code n (Walks name) → AreWell p stations 0 false fs s
+      → slice_get p.code.ops pc ≡ Some (op.Begin n) → HasForm p.code n (Walks name) → x.name.local ≡ [] → AreWell p stations 0 false fs s
       → AreWell p stations 0 false (Loop turn ∷ on_body (λ f. with_locals (λ ls. ls ++ x ∷ []) (with_pc (pc + 1) f)) fs) s
-  walk_begins fs s pc n turn name x stand at is has w =
+  walk_begins fs s pc n turn name x stand at is has unnamed w =
       steps p stations (λ f. with_locals (λ ls. ls ++ x ∷ []) (with_pc (pc + 1) f)) (λ o. pc + 1) (λ ls. ls ++ x ∷ []) (moves_locals (pc + 1) (λ ls. ls ++ x ∷ []))
       (λ n m. m ≡ suc n) (λ n m e. ap suc e) 0 1 false false fs s pc refl at w
       (λ c g.
@@ -52,7 +52,7 @@ module _ (p : Program) (stations : List Station) where
             in_loops = ap suc body.in_loops ∙ sym e;
             locals_fit =
                 by_themselves p stations (locals ++ x ∷ []) d.locals
-                (are_more p stations locals c.locals x Items (alone p stations locals c.locals body.locals_fit) tt);
+                (are_more p stations locals c.locals x Items (alone p stations locals c.locals body.locals_fit) unnamed);
             asked = λ e. absurd (false≢true e);
             level_is = body.level_is;
             writes = body.writes;

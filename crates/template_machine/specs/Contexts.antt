@@ -39,6 +39,12 @@ with_kind k c = with_kinds (k ∷ []) c
 abbrev pub in_loop : Context → Context
 in_loop c = record c { loops = suc c.loops }
 
+-- each is a variable
+abbrev pub AreNamed : List Kind → Type 0
+AreNamed [] = Unit {0}
+AreNamed (Named name ∷ ks) = AreNamed ks
+AreNamed (k ∷ ks) = ⊥
+
 -- where a body begins that has these parameters
 abbrev pub begun : List Variable → Context
 begun params = record { locals = map (λ v. Named v.name) params; loops = 0; writing = [] }
@@ -153,7 +159,8 @@ module _ (code : Code) (stations : List Station) where
   Leads place c r (op.Turn n to) = (f : Form) × (HasForm code n f × Turns f to place c r)
   Leads place c r (op.Jump to) = Falls stations r to c
   Leads place c r (op.Drop count) =
-      (o : Context) × ((gone : List Kind) × ((c ≡ with_kinds gone o) × (length gone ≡ count) × Falls stations r (place + 1) o))
+      (o : Context)
+      × ((gone : List Kind) × ((c ≡ with_kinds gone o) × (length gone ≡ count) × Falls stations r (place + 1) o × AreNamed gone))
   Leads place c r op.Return = (c.loops ≡ 0) × (c.writing ≡ [])
 
   -- each operation has a station, and each body begins with its parameters

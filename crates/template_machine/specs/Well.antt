@@ -51,7 +51,7 @@ AreTexts atoms = ⊥
 
 abbrev pub IsOf : Local → Kind → Type 0
 IsOf x (Named name) = x.name ≡ name
-IsOf x Items = Unit {0}
+IsOf x Items = x.name.local ≡ []
 IsOf x Tag = (x.name.local ≡ []) × AreTexts x.value
 
 abbrev pub AreOf : List Local → List Kind → Type 0

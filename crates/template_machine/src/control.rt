@@ -1,6 +1,6 @@
 //! Tests, loops, variables of a body, and calls of procedures.
 
-ghost use Rattle.std.specs.Prelude.{◌≡◌, All, IfOk, OnOk, length, ◌^◌};
+ghost use Rattle.std.specs.Prelude.{◌≡◌, [], All, IfOk, OnOk, length, ◌^◌};
 ghost use Rattle.std.specs.Option.{ForSome};
 ghost use Rattle.stxpath_syntax.specs.Shape.{CanBeEvaluated};
 ghost use Rattle.template_machine.specs.Contexts.{Declares, HasForm, Single};
@@ -59,7 +59,9 @@ impl Run {
     }
 
     /// The name of a value that waits, which no expression can say.
-    pub fn no_name(&self) -> Name {
+    pub fn no_name(&self) -> Name
+        ensures { result.local ≡ [] }
+    {
         Name {
             uri: Text::new(self.alloc),
             local: Text::new(self.alloc),

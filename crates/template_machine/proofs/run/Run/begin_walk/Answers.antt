@@ -33,7 +33,7 @@ returns-clause-stands c =
     (moves_locals next (λ ls. ls ++ x ∷ [])) at.doing
     (ap (λ (y : FrameStack). reverse y.frames) e ∙ reverse-append c.push_local.new.self.frames (Loop 0 ∷ [])
     ∙ ap (λ l. Loop 0 ∷ l) (behind_locals p r c.args.running o at next (λ ls. ls ++ x ∷ []) c.set_pc.new.self c.push_local.new.self c.set_pc.ensures c.in_ok-push_local.ensures.ok))
-    (walk_begins p w.stations (reverse r.frames.frames) (standing_of r) c.args.running.pc c.args.number 0 c.requires.form.0 x w.stand at.pc at.is c.requires.form.1
+    (walk_begins p w.stations (reverse r.frames.frames) (standing_of r) c.args.running.pc c.args.number 0 c.requires.form.0 x w.stand at.pc at.is c.requires.form.1 c.no_name-name.ensures
     (at_body p r c.args.running o at).well))
 
 pub returns-clause-works : goal.returns-clause-works
