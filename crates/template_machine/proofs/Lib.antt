@@ -21,6 +21,7 @@ pub mod Executed
 pub mod RunByCode
 pub mod Stilled
 pub mod Unseen
+pub mod Alike
 pub mod Stopping
 pub mod Arms
 pub mod Around

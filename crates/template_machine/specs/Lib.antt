@@ -42,6 +42,7 @@ pub mod Still
 pub mod GoingOn
 pub mod Moments
 pub mod Puts
+pub mod Alike
 pub mod Made
 pub mod Working
 pub mod Asking

@@ -2,6 +2,7 @@
 
 ghost use Rattle.std.specs.Prelude.{◌≡◌, ◌↔◌, List};
 ghost use Rattle.stx_base.specs.Course.{Ends, Over};
+ghost use Rattle.template_machine.specs.Alike.{ExpressionsSeeNodes};
 ghost use Rattle.template_machine.specs.Copies.{CopiesAll, CopiesNothing, CopiesTexts};
 ghost use Rattle.template_machine.specs.Ending.{Said, Ending};
 ghost use Rattle.template_machine.specs.GoingOn.{JumpsGoOn, OperationsGoOn};
@@ -69,6 +70,11 @@ pub fn resuming()
 pub fn operating()
     ensures operations { OperationsGoOn }
     ensures jumps { JumpsGoOn }
+{}
+
+/// What expressions see of a path.
+pub fn evaluating()
+    ensures { ExpressionsSeeNodes }
 {}
 
 /// What small sheets make of small documents.
