@@ -33,11 +33,11 @@ abbrev pub Walks : Reaching → Type 0
 Walks s = (g : Setting) (p : Path) → LooksLike g p → (places : List ℕ) → s g places ≡ s (along_path p g) places
 
 -- values one after another
-next_alike : {A B : Type 0} (x : Result A EvalFault) (f h : A → Result B EvalFault) → ((a : A) → f a ≡ h a) → and_then x f ≡ and_then x h
+pub next_alike : {A B : Type 0} (x : Result A EvalFault) (f h : A → Result B EvalFault) → ((a : A) → f a ≡ h a) → and_then x f ≡ and_then x h
 next_alike (Ok a) f h e = e a
 next_alike (Err fault) f h e = refl
 
-both_alike : {A B : Type 0} (x y : Result A EvalFault) (f h : A → Result B EvalFault) → x ≡ y → ((a : A) → f a ≡ h a) → and_then x f ≡ and_then y h
+pub both_alike : {A B : Type 0} (x y : Result A EvalFault) (f h : A → Result B EvalFault) → x ≡ y → ((a : A) → f a ≡ h a) → and_then x f ≡ and_then y h
 both_alike x y f h same e = next_alike x f h e ∙ ap (λ z. and_then z h) same
 
 module _ (g : Setting) (p : Path) (l : LooksLike g p) where
@@ -52,7 +52,7 @@ module _ (g : Setting) (p : Path) (l : LooksLike g p) where
       atom_of_node : Option Node → Atom
       atom_of_node n = atom.Chars (text_of n)
 
-  atoms_alike : (items : List Item) → atoms g.path items ≡ atoms p items
+  pub atoms_alike : (items : List Item) → atoms g.path items ≡ atoms p items
   atoms_alike [] = refl
   atoms_alike (x ∷ items) = ap (λ a. a ∷ atoms g.path items) (referred_alike x) ∙ ap (λ as_. atom_of p x ∷ as_) (atoms_alike items)
 

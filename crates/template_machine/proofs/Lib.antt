@@ -22,6 +22,7 @@ pub mod RunByCode
 pub mod Stilled
 pub mod Unseen
 pub mod Alike
+pub mod Sighted
 pub mod Stopping
 pub mod Arms
 pub mod Around

@@ -2,7 +2,7 @@
 
 ghost use Rattle.std.specs.Prelude.{◌≡◌, ◌↔◌, List};
 ghost use Rattle.stx_base.specs.Course.{Ends, Over};
-ghost use Rattle.template_machine.specs.Alike.{ExpressionsSeeNodes};
+ghost use Rattle.template_machine.specs.Alike.{ExpressionsSeeNodes, TextsSeeNodes, TrailsLookAlike};
 ghost use Rattle.template_machine.specs.Copies.{CopiesAll, CopiesNothing, CopiesTexts};
 ghost use Rattle.template_machine.specs.Ending.{Said, Ending};
 ghost use Rattle.template_machine.specs.GoingOn.{JumpsGoOn, OperationsGoOn};
@@ -74,7 +74,9 @@ pub fn operating()
 
 /// What expressions see of a path.
 pub fn evaluating()
-    ensures { ExpressionsSeeNodes }
+    ensures expressions { ExpressionsSeeNodes }
+    ensures texts { TextsSeeNodes }
+    ensures trails { TrailsLookAlike }
 {}
 
 /// What small sheets make of small documents.
