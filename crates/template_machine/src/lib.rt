@@ -16,7 +16,6 @@ mod names;
 mod operations;
 mod output;
 mod processes;
-mod products;
 mod program;
 mod puts;
 mod putting;
@@ -32,6 +31,5 @@ mod vars;
 
 pub use machine::Machine;
 pub use output::Output;
-pub use products::Products;
 pub use sink::Sink;
 pub use turn::{Param, Turn};
