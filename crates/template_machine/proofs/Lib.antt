@@ -122,3 +122,7 @@ pub mod Lightened
 pub mod Grounded
 pub mod Machines
 pub mod Spared
+pub mod Twins
+pub mod Candidates
+pub mod Ordered
+pub mod Moved

@@ -19,6 +19,7 @@ pub mod Passed
 pub mod Copies
 pub mod Stepwise
 pub mod Laws
+pub mod Order
 pub mod Examples
 pub mod Rows
 pub mod Stopping

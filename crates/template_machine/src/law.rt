@@ -9,12 +9,15 @@ ghost use Rattle.template_machine.specs.GoingOn.{JumpsGoOn, OperationsGoOn};
 ghost use Rattle.template_machine.specs.Job.{Given};
 ghost use Rattle.template_machine.specs.Laws.{AskingIsOpen, BodiesRunByCode, GoesOnByCode, KeepsLocals, PassesAsBefore, PositionsCountEarlier, SkipsSilently};
 ghost use Rattle.template_machine.specs.Meaning.{code, meaning};
+ghost use Rattle.template_machine.specs.Order.{OrderMattersAmongEquals};
 ghost use Rattle.template_machine.specs.Outcome.{AreNew, outcome};
 ghost use Rattle.template_machine.specs.Passed.{PassesThrough};
 ghost use Rattle.template_machine.specs.Resuming.{Resumes};
 ghost use Rattle.template_machine.specs.Rows.{Again, Assigned, Attributes, Buffered, EachItem, LastOfTwo, Nested, Sections, Twice};
 ghost use Rattle.template_machine.specs.Stopping.{Broken, BrokenOther, Busy, ByKinds, Categories, Crowded, EnoughSources, Full, Going, Gone, Late, LeftOpen, NoDocument, OpenCopy, OtherDocument, Outermost, Parted, PassedOver, ReadSpent, Renewed, Short, TooManySources, Unmatched, Waits};
 ghost use Rattle.xml_events.specs.Tree.{Forest};
+
+use group_scope::law as choice_law;
 
 /// Each sheet has exactly one meaning on each tree, and `outcome` is it.
 pub fn one_meaning()
@@ -44,6 +47,13 @@ pub fn copies()
 pub fn locals_last()
     ensures { KeepsLocals }
 {}
+
+/// What the order of templates in a sheet matters for.
+pub fn order()
+    ensures { OrderMattersAmongEquals }
+{
+    choice_law::best();
+}
 
 /// A machine that waits for an event has an open document.
 pub fn asking()
