@@ -126,3 +126,6 @@ pub mod Twins
 pub mod Candidates
 pub mod Ordered
 pub mod Moved
+pub mod Sectionless
+pub mod OlderTests
+pub mod OlderRun

@@ -73,11 +73,14 @@ module _ (given : Given) (templates : List Template) (order : Reorders given.she
   abbrev Like : Job → Job → Type 0
   Like q p = p ≡ moved order.now q
 
+  abbrev Any : Said → Type 0
+  Any o = Unit {0}
+
   abbrev Post : Here → Type 0
   Post r = Unit {0}
 
   abbrev T : Does → Does → Type 0
-  T x y = Twins Like Post x y
+  T x y = Twins Like Any Post x y
 
   same_ret : (a : Here) → T (Ret a) (Ret a)
   same_ret a = record { is = (refl, tt) }
@@ -86,10 +89,10 @@ module _ (given : Given) (templates : List Template) (order : Reorders given.she
   halts e = record { is = refl }
 
   says_t : (o : Said) (x y : Does) → T x y → T (Say o x) (Say o y)
-  says_t o x y h = record { is = (y, refl, h.is) }
+  says_t o x y h = record { is = (y, refl, tt, h.is) }
 
   then_t : (x y : Does) (k j : Here → Does) → T x y → ((r : Here) → T (k r) (j r)) → T (and_then x k) (and_then y j)
-  then_t x y k j t h = record { is = twin_then Like Post x y k j t.is (λ r u. (h r).is) }
+  then_t x y k j t h = record { is = twin_then Like Any Post x y k j t.is (λ r u. (h r).is) }
 
   asks : (q : Job) (k j : Here → Does) → ((r : Here) → T (k r) (j r)) → T (Ask q k) (Ask (moved order.now q) j)
   asks q k j h = record { is = (moved order.now q, j, refl, refl, λ r u. (h r).is) }
@@ -530,11 +533,11 @@ module _ (given : Given) (templates : List Template) (order : Reorders given.she
     code_t (Body is self a) = list_t is self a
     code_t (Loop test is at self a) = loop_t test is at self a
 
-    each : (q p : Job) → Like q p → Twin Like Post (code given q) (code other p)
-    each q p l = subst (λ p. Twin Like Post (code given q) (code other p)) (sym l) (code_t q).is
+    each : (q p : Job) → Like q p → Twin Like Any Post (code given q) (code other p)
+    each q p l = subst (λ p. Twin Like Any Post (code given q) (code other p)) (sym l) (code_t q).is
 
-    each_back : (p q : Job) → Like q p → Twin (λ p q. Like q p) Post (code other p) (code given q)
-    each_back p q l = flipped Like Post (code given q) (code other p) (each q p l)
+    each_back : (p q : Job) → Like q p → Twin (λ p q. Like q p) Any Post (code other p) (code given q)
+    each_back p q l = flipped Like Any Post (code given q) (code other p) (each q p l)
 
     meaning_t : (f : Forest) → T (meaning given f) (meaning other f)
     meaning_t f =
@@ -546,6 +549,6 @@ pub order_matters_among_equals : ChoosesTheBest → IsOrdered → OrderMattersAm
 order_matters_among_equals chooses ordered given templates order keeps f os e =
     let other = with_templates given templates in
     let same = (meaning_t given templates order chooses ordered keeps f).is in (
-      λ h. twins_end (Like given templates order) (Post given templates order) (code given) (code other) (each given templates order chooses ordered keeps) (meaning given f) (meaning other f) same os e h,
-      λ h. twins_end (λ p q. Like given templates order q p) (Post given templates order) (code other) (code given) (each_back given templates order chooses ordered keeps) (meaning other f) (meaning given f) (flipped (Like given templates order) (Post given templates order) (meaning given f) (meaning other f) same) os e h,
+      λ h. twins_end (Like given templates order) (Any given templates order) (Post given templates order) (code given) (code other) (each given templates order chooses ordered keeps) (meaning given f) (meaning other f) same os e h,
+      λ h. twins_end (λ p q. Like given templates order q p) (Any given templates order) (Post given templates order) (code other) (code given) (each_back given templates order chooses ordered keeps) (meaning other f) (meaning given f) (flipped (Like given templates order) (Any given templates order) (Post given templates order) (meaning given f) (meaning other f) same) os e h,
     )

@@ -1,13 +1,11 @@
 -- Passing over nodes says nothing.
 use Rattle.std.proofs.Common.{◌≡◌, ◌⊎◌, inl, inr, ℕ, zero, suc, Bool, true, false, refl, ◌∙◌}
 use Rattle.stx_base.specs.Course.{Halt}
-use Rattle.node_stack.specs.Path.{Document, Element, Chars, CData, Comment, Pi, Attribute}
-use Rattle.sheet_model.specs.declared.pass.Pass.TheVariants as pass
 use Rattle.xml_events.specs.Tree.{Mark, Fresh, Told, Begun, Stage, Waiting, Ready, Entered, Forest, End, Cut, Single, Nested}
 use Rattle.template_machine.specs.Ending.{Ending, Spent}
 use Rattle.template_machine.specs.Fuel.{begin, ended, is_begun, is_entered, skip, unready, when_ready}
 use Rattle.template_machine.specs.Job.{Does, Given, Main, Opened, Source, State}
-use Rattle.template_machine.specs.Laws.{PassesAsBefore, SkipsSilently}
+use Rattle.template_machine.specs.Laws.{SkipsSilently}
 
 module _ (given : Given) where
   -- it ends, or goes on with other fuel
@@ -58,27 +56,3 @@ module _ (given : Given) where
 
 pub skips_silently : SkipsSilently
 skips_silently given source list st = skip_silent given source list st
-
-pub passes_as_before : PassesAsBefore
-passes_as_before pass.None trail Document p q = (refl, refl, refl)
-passes_as_before pass.None trail (Element name attrs decls first) p q = (refl, refl, refl)
-passes_as_before pass.None trail (Chars text) p q = (refl, refl, refl)
-passes_as_before pass.None trail (CData text) p q = absurd (cc)
-passes_as_before pass.None trail (Comment text) p q = (refl, refl, refl)
-passes_as_before pass.None trail (Pi target text) p q = (refl, refl, refl)
-passes_as_before pass.None trail (Attribute a) p q = (refl, refl, refl)
-passes_as_before pass.Chars trail Document p q = (refl, refl, refl)
-passes_as_before pass.Chars trail (Element name attrs decls first) p q = (refl, refl, refl)
-passes_as_before pass.Chars trail (Chars text) p q = (refl, refl, refl)
-passes_as_before pass.Chars trail (CData text) p q = absurd (cc)
-passes_as_before pass.Chars trail (Comment text) p q = (refl, refl, refl)
-passes_as_before pass.Chars trail (Pi target text) p q = (refl, refl, refl)
-passes_as_before pass.Chars trail (Attribute a) p q = (refl, refl, refl)
-passes_as_before pass.All trail Document p q = (refl, refl, refl)
-passes_as_before pass.All trail (Element name attrs decls first) p q = (refl, refl, refl)
-passes_as_before pass.All trail (Chars text) p q = (refl, refl, refl)
-passes_as_before pass.All trail (CData text) p q = absurd (cc)
-passes_as_before pass.All trail (Comment text) p q = (refl, refl, refl)
-passes_as_before pass.All trail (Pi target text) p q = (refl, refl, refl)
-passes_as_before pass.All trail (Attribute a) p q = (refl, refl, refl)
-passes_as_before (pass.Kinds kinds) trail n p q = absurd (cc)

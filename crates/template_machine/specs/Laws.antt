@@ -1,20 +1,15 @@
 -- What is so of all runs.
-use Rattle.sheet_model.specs.Passing.{kinds}
 use Rattle.std.specs.Prelude.{◌≡◌, ◌≢◌, ◌↔◌, ◌⊎◌, ◌≤◌, ℕ, ◌+◌, Bool, true, false, List, [], ◌∷◌, ◌++◌, Some, count_by, length, map, slice_get}
 use Rattle.stx_base.specs.Course.{Ask, Ends, Gives, Halt, Ret, Same}
 use Rattle.stx_base.specs.declared.name.Name.{Name}
-use Rattle.stx_base.specs.declared.part.Part.{Part}
-use Rattle.stx_base.specs.declared.part.Part.TheVariants as part
 use Rattle.stx_base.specs.declared.node.NodeTest.{NodeTest}
 use Rattle.node_stack.specs.Counts.{capped}
-use Rattle.node_stack.specs.Path.{Node, Element, Chars, CData, Comment, Pi, Attribute, kind_of, position}
+use Rattle.node_stack.specs.Path.{Node, kind_of, position}
 use Rattle.node_stack.specs.Test.{passes}
 use Rattle.instr_code.specs.Code.{code_of, sheet_bodies}
 use Rattle.instr_code.specs.Running.{At}
 use Rattle.instr_code.specs.Running as running
 use Rattle.sheet_model.specs.declared.instr.Instr.{Instr}
-use Rattle.sheet_model.specs.declared.pass.Pass.{Pass}
-use Rattle.sheet_model.specs.declared.pass.Pass.TheVariants as pass
 use Rattle.var_store.specs.declared.bound.Bound.{Bound}
 use Rattle.xml_events.specs.Tree.{Forest}
 use Rattle.template_machine.specs.Between.{IsAsking, documents_of}
@@ -24,8 +19,6 @@ use Rattle.template_machine.specs.Fuel.{skip}
 use Rattle.template_machine.specs.Job.{Body, Does, Given, Here, Self, Source, State}
 use Rattle.template_machine.specs.Meaning.{at_document, code, list}
 use Rattle.template_machine.specs.Outcome.{AreNew}
-use Rattle.template_machine.specs.Passing.{leaf_parts, parts_before, parts_behind, start_parts}
-use Rattle.template_machine.specs.Putting.{attribute_part}
 use Rattle.template_machine.specs.Stepwise.{Flat_does, begun, flat_code, lifted}
 use Rattle.template_machine.specs.Trail.{Trail, one_more, path_of, stands}
 use Rattle.template_machine.specs.declared.machine.Machine.{Machine}
@@ -36,42 +29,6 @@ SkipsSilently =
     (given : Given) (source : Source) (list : Forest) (st : State)
     → ((e : Ending) × ((go : State → Does) → skip given source list st go ≡ Halt e))
     ⊎ ((fuel : ℕ) × ((go : State → Does) → skip given source list st go ≡ go (record st { fuel = fuel })))
-
--- What a sheet of version 1.0 passes through: nothing, texts, or all.
-
-abbrev pub old_leaf_parts : Pass → Node → List Part
-old_leaf_parts pass.All (Chars text) = part.Chars text ∷ []
-old_leaf_parts pass.All (Comment text) = part.Comment text ∷ []
-old_leaf_parts pass.All (Pi target text) = part.Pi target text ∷ []
-old_leaf_parts pass.All (Attribute a) = attribute_part a ∷ []
-old_leaf_parts pass.Chars (Chars text) = part.Chars text ∷ []
-old_leaf_parts pass n = []
-
-abbrev pub old_parts_before : Pass → Trail → Node → List Part
-old_parts_before pass.All trail (Element name attrs decls first) = start_parts trail name attrs
-old_parts_before pass trail n = []
-
-abbrev pub old_parts_behind : Pass → Node → List Part
-old_parts_behind pass.All (Element name attrs decls first) = part.End name ∷ []
-old_parts_behind pass n = []
-
--- one of the three values that version 1.0 has
-abbrev pub is_old : Pass → Bool
-is_old (pass.Kinds kinds) = false
-is_old p = true
-
--- in a document whose CDATA sections aren't told from other text there is none
-abbrev pub is_old_node : Node → Bool
-is_old_node (CData text) = false
-is_old_node n = true
-
--- By the newer rule of kinds, each of the three passes through what it passed through.
-abbrev pub PassesAsBefore : Type 0
-PassesAsBefore =
-    (p : Pass) (trail : Trail) (n : Node) → is_old p ≡ true → is_old_node n ≡ true
-    → (leaf_parts (kinds p) n ≡ old_leaf_parts p n)
-    × (parts_before (kinds p) trail n ≡ old_parts_before p trail n)
-    × (parts_behind (kinds p) n ≡ old_parts_behind p n)
 
 abbrev pub names : List Bound → List Name
 names bounds = map (λ (b : Bound). b.name) bounds

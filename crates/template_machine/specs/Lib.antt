@@ -18,6 +18,8 @@ pub mod Sizes
 pub mod Passed
 pub mod Copies
 pub mod Stepwise
+pub mod Older
+pub mod Unchanged
 pub mod Laws
 pub mod Order
 pub mod Examples

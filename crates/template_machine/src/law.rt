@@ -7,7 +7,7 @@ ghost use Rattle.template_machine.specs.Copies.{CopiesAll, CopiesNothing, Copies
 ghost use Rattle.template_machine.specs.Ending.{Said, Ending};
 ghost use Rattle.template_machine.specs.GoingOn.{JumpsGoOn, OperationsGoOn};
 ghost use Rattle.template_machine.specs.Job.{Given};
-ghost use Rattle.template_machine.specs.Laws.{AskingIsOpen, BodiesRunByCode, GoesOnByCode, KeepsLocals, PassesAsBefore, PositionsCountEarlier, SkipsSilently};
+ghost use Rattle.template_machine.specs.Laws.{AskingIsOpen, BodiesRunByCode, GoesOnByCode, KeepsLocals, PositionsCountEarlier, SkipsSilently};
 ghost use Rattle.template_machine.specs.Meaning.{code, meaning};
 ghost use Rattle.template_machine.specs.Order.{OrderMattersAmongEquals};
 ghost use Rattle.template_machine.specs.Outcome.{AreNew, outcome};
@@ -15,6 +15,7 @@ ghost use Rattle.template_machine.specs.Passed.{PassesThrough};
 ghost use Rattle.template_machine.specs.Resuming.{Resumes};
 ghost use Rattle.template_machine.specs.Rows.{Again, Assigned, Attributes, Buffered, EachItem, LastOfTwo, Nested, Sections, Twice};
 ghost use Rattle.template_machine.specs.Stopping.{Broken, BrokenOther, Busy, ByKinds, Categories, Crowded, EnoughSources, Full, Going, Gone, Late, LeftOpen, NoDocument, OpenCopy, OtherDocument, Outermost, Parted, PassedOver, ReadSpent, Renewed, Short, TooManySources, Unmatched, Waits};
+ghost use Rattle.template_machine.specs.Unchanged.{MeansAsBefore, PassesAsBefore, PutsNoSections};
 ghost use Rattle.xml_events.specs.Tree.{Forest};
 
 use group_scope::law as choice_law;
@@ -32,8 +33,6 @@ pub fn without_templates()
     ensures passed { PassesThrough }
     // Passing over nodes says nothing.
     ensures skipped { SkipsSilently }
-    // Sheets of version 1.0 pass through what they passed through before there were kinds.
-    ensures before { PassesAsBefore }
 {}
 
 /// What each pass-through with a name makes of a whole document, in a sheet without templates.
@@ -54,6 +53,16 @@ pub fn order()
 {
     choice_law::best();
 }
+
+/// What a sheet of version 1.0 means.
+pub fn before()
+    // It means the same by the definitions before there was version 1.1.
+    ensures means { MeansAsBefore }
+    // It puts no CDATA sections.
+    ensures puts { PutsNoSections }
+    // It passes through what it passed through before there were kinds.
+    ensures passes { PassesAsBefore }
+{}
 
 /// A machine that waits for an event has an open document.
 pub fn asking()
