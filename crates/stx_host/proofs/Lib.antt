@@ -1,4 +1,5 @@
 pub mod CopiedSoFar
+pub mod Counted
 pub mod Counts
 pub mod OpenIds
 pub mod Stretches

@@ -1,11 +1,23 @@
 -- What a host has open, by ids.
-use Rattle.std.specs.Prelude.{◌≡◌, ℕ, ◌<◌, ◌^◌, true, false, List, [], ◌∷◌, ◌++◌, map}
+use Rattle.std.specs.Prelude.{◌≡◌, ℕ, ◌<◌, ◌≤◌, ◌^◌, ◌==◌, ◌&&◌, nat_le, nat_lt, count_by, true, false, List, [], ◌∷◌, ◌++◌, map}
 use Rattle.stx_host.specs.declared.table.Slot.{Slot}
 use Rattle.stx_host.specs.Outside.{is_among}
 
 -- the ids, in order
 abbrev pub ids_of : {T : Type 0} → List (Slot T) → List ℕ
 ids_of slots = map (λ slot. slot.id) slots
+
+-- no id stands twice
+abbrev pub AreDifferent : List ℕ → Type 0
+AreDifferent ids = (id : ℕ) → count_by (λ k. k == id) ids ≤ 1
+
+-- how many ids are from low on and below high
+abbrev pub count_between : (low high : ℕ) → List ℕ → ℕ
+count_between low high ids = count_by (λ id. nat_le low id && nat_lt id high) ids
+
+-- every number from low on and below high is open
+abbrev pub AreOpen : (low high : ℕ) → List ℕ → Type 0
+AreOpen low high ids = (id : ℕ) → low ≤ id → id < high → is_among ids id ≡ true
 
 -- every number that an id can be is open
 abbrev pub IsEachOpen : List ℕ → Type 0

@@ -1,6 +1,6 @@
-ghost use Rattle.std.specs.Prelude.{◌≡◌, ℕ, ◌^◌, ◌<◌, ◌∷◌, [], ◌++◌, filter, position, not, true, false, ◌==◌, IfSome, IfOk, IfNone, OnSome, ◌⊎◌, ◌≤◌, OnOk, OnErr, IsOk, vec_len, vec_capacity};
-ghost use Rattle.stx_host.specs.Outside.{is_among};
-ghost use Rattle.stx_host.specs.Table.{ids_of, IsEachOpen, IsLeastFree, Adds};
+ghost use Rattle.std.specs.Prelude.{◌≡◌, ℕ, ◌^◌, ◌<◌, ◌∷◌, [], ◌++◌, filter, position, not, true, false, ◌==◌, IfSome, IfOk, IfNone, OnSome, ◌-◌, ◌&&◌, count_by, nat_le, nat_lt, ◌⊎◌, ◌≤◌, OnOk, OnErr, IsOk, vec_len, vec_capacity};
+ghost use Rattle.std.specs.Bool.{OnTrue, OnFalse};
+ghost use Rattle.stx_host.specs.Table.{ids_of, AreDifferent, AreOpen, count_between, IsEachOpen, IsLeastFree, Adds};
 
 use std::alloc::{AllocError, Global};
 
@@ -15,6 +15,8 @@ pub(crate) struct Slot<T> {
 #[derive(Debug, Drop)]
 pub(crate) struct Table<T> {
     pub(crate) slots: Vec<Slot<T>>,
+    /// No id stands twice.
+    ghost different: { AreDifferent (ids_of slots.items) },
 }
 
 impl<T: Drop> Table<T> {
@@ -50,28 +52,48 @@ impl<T: Drop> Table<T> {
         self.slots.iter().position(|slot| slot.id == id)
     }
 
-    /// Whether an id is open.
-    pub(crate) fn has(&self, id: u32) -> bool
-        ensures { result ≡ is_among (ids_of self.now.slots.items) id }
+    /// How many slots have an id from `low` on and below `high`.
+    fn count_between(&self, low: u64, high: u64) -> usize
+        ensures { result ≡ count_by (λ slot. nat_le low slot.id && nat_lt slot.id high) self.now.slots.items }
     {
-        self.position(id).is_some()
+        self.slots
+            .iter()
+            .filter(|slot| low <= u64::from(slot.id) && u64::from(slot.id) < high)
+            .count()
     }
 
-    /// The least number above 0 that isn't open.
+    /// Whether each number from `low` on and below `high` is open: no id stands twice, so it is enough to count.
+    fn are_open(&self, low: u64, high: u64) -> bool
+        requires { low ≤ high }
+        ensures all { OnTrue result (AreOpen low high (ids_of self.now.slots.items)) }
+        ensures counted { OnTrue result (count_between low high (ids_of self.now.slots.items) ≡ high - low) }
+        ensures some { OnFalse result (count_between low high (ids_of self.now.slots.items) < high - low) }
+    {
+        self.count_between(low, high) as u64 == high - low
+    }
+
+    /// The least number above 0 that isn't open. At most one more than are open it can be, and each look at
+    /// all that is open halves the numbers that it still can be.
     pub(crate) fn free_id(&self) -> Option<u32>
         ensures least { IfSome result (λ id. IsLeastFree (ids_of self.now.slots.items) id) }
         ensures none { IfNone result (IsEachOpen (ids_of self.now.slots.items)) }
     {
-        for id in 1..u32::MAX {
-            if !self.has(id) {
-                return Some(id);
+        let mut low = 1;
+        let mut high = self.slots.len() as u64 + 1;
+        // mostly the first numbers are open, and one look is enough
+        let mut middle = high - 1;
+        while low < high {
+            if self.are_open(low, middle + 1) {
+                low = middle + 1;
+            } else {
+                high = middle;
             }
+            middle = low + (high - low) / 2;
         }
-        if self.has(u32::MAX) {
-            None
-        } else {
-            Some(u32::MAX)
+        if low > u64::from(u32::MAX) {
+            return None;
         }
+        Some(low as u32)
     }
 
     /// Gives an id to what is to be held, where there is room and a number above 0 is free.

@@ -1,6 +1,7 @@
 use Rattle.std.proofs.Common.{◌≡◌, None, ap, sym, ◌∙◌, subst, arith}
 use Rattle.std.proofs.Math.Seq.{map-set_same}
 use Rattle.stx_host.specs.MemHost.{Gives, rest_of_id}
+use Rattle.stx_host.specs.Table.{AreDifferent}
 use Rattle.stx_host.proofs.ToCome.{rest-read, rest_here, not_found}
 use Rattle.stx_host.proofs.mem_host.give_open.Goals as goal
 
@@ -25,3 +26,10 @@ pub returns-clause-ids : goal.returns-clause-ids
 returns-clause-ids c =
     map-set_same (λ slot. slot.id) c.args.table.now.slots.items c.in-Some.at (record { id = c.index_mut-slot.result.now.id; held = c.give_doc.new.reading })
     c.index_mut-slot.result.now (ap (λ slot. slot.id) c.index_mut-slot.ensures.value)
+
+pub invariant_of-table : goal.invariant_of-table
+invariant_of-table c =
+    let slots = c.args.table.now.slots.items in
+    let slot = c.index_mut-slot.result.now in
+    let same = map-set_same (λ slot. slot.id) slots c.in-Some.at (record { id = slot.id; held = c.give_doc.new.reading }) slot (ap (λ slot. slot.id) c.index_mut-slot.ensures.value) in
+    record { different = subst AreDifferent (sym same) c.args.table.now.different }
