@@ -1,6 +1,7 @@
 -- What acts do, one stretch of time after another.
-use Rattle.std.proofs.Common.{◌≡◌, ℕ, ◌<◌, arith, Bool, false, ◌==◌, ◌||◌, List, [], ◌∷◌, ◌++◌, Option, refl, sym, ap, subst, ◌∙◌, inl, inr}
+use Rattle.std.proofs.Common.{◌≡◌, ℕ, ◌<◌, ◌≤◌, nat_lt, arith, Bool, false, ◌==◌, ◌||◌, List, [], ◌∷◌, ◌++◌, Option, refl, sym, ap, subst, ◌∙◌, inl, inr}
 use Rattle.std.proofs.lemmas.Bool.{ne_eqb}
+use Rattle.std.proofs.lemmas.Bool.Decides.{nat_tests}
 use Rattle.stx_host.proofs.Stretches.{between_close, between_joins, between_open, between_read, nothing_between}
 use Rattle.stx_host.specs.Before.{is_main_read}
 use Rattle.stx_host.specs.Laws.{Later, open_acts}
@@ -10,7 +11,7 @@ use Rattle.stx_host.specs.declared.act.Act.TheVariants.{Close, Open, Read, Write
 use Rattle.stx_host.specs.declared.act.Got.TheVariants.{Bytes, End, Failed as Unread}
 use Rattle.stx_host.specs.declared.act.Opened.{Opened}
 use Rattle.stx_host.specs.declared.act.Opened.TheVariants.{Absent, Failed, Id, Memory}
-use Rattle.sheet_files.specs.Acts.{given_behind, is_write, opens, read_behind}
+use Rattle.sheet_files.specs.Acts.{given_behind, is_long_read, is_write, opens, read_behind}
 use Rattle.sheet_files.specs.Held.{HaveDone, SameCounts}
 use Rattle.sheet_files.specs.Steps.{AreCloses, HasFailed}
 use Rattle.sheet_files.proofs.Acting.{none_more}
@@ -21,30 +22,40 @@ done_then a b c acts more x y =
       between = between_joins a b c acts more [] [] [] [] x.between y.between;
       no_write = none_more is_write acts more x.no_write y.no_write;
       no_main_read = none_more is_main_read acts more x.no_main_read y.no_main_read;
+      no_long_read = none_more is_long_read acts more x.no_long_read y.no_long_read;
     }
 
 pub done_nothing : (o : Outside) → HaveDone o o []
-done_nothing o = record { between = nothing_between o; no_write = refl; no_main_read = refl }
+done_nothing o = record { between = nothing_between o; no_write = refl; no_main_read = refl; no_long_read = refl }
 
 -- acts of a call of `open`
 pub done_open : (o p : Outside) (name : List ℕ) (answer : Opened) → MayOpen o name answer → Opens o name answer p → HaveDone o p (open_acts o name answer)
-done_open o p name (Id id) may opens = record { between = between_open o p name (Id id) may opens; no_write = refl; no_main_read = refl }
-done_open o p name Absent may opens = record { between = between_open o p name Absent may opens; no_write = refl; no_main_read = refl }
-done_open o p name Failed may opens = record { between = between_open o p name Failed may opens; no_write = refl; no_main_read = refl }
-done_open o p name Memory may opens = record { between = between_open o p name Memory may opens; no_write = refl; no_main_read = refl }
+done_open o p name (Id id) may opens = record { between = between_open o p name (Id id) may opens; no_write = refl; no_main_read = refl; no_long_read = refl }
+done_open o p name Absent may opens = record { between = between_open o p name Absent may opens; no_write = refl; no_main_read = refl; no_long_read = refl }
+done_open o p name Failed may opens = record { between = between_open o p name Failed may opens; no_write = refl; no_main_read = refl; no_long_read = refl }
+done_open o p name Memory may opens = record { between = between_open o p name Memory may opens; no_write = refl; no_main_read = refl; no_long_read = refl }
 
 not_main : (id : ℕ) → 0 < id → (id == 0) ≡ false
 not_main id some = ne_eqb id 0 (λ e. absurd (omega (arith, e, some)))
 
 -- of a document
-pub done_bytes : (o p : Outside) (id n : ℕ) → 0 < id → Reads o id (Bytes n) p → HaveDone o p (Read id n ∷ [])
-done_bytes o p id n some reads = record { between = between_read o p id (Bytes n) reads; no_write = refl; no_main_read = ap (λ (b : Bool). b || false) (not_main id some) }
+not_long : (n : ℕ) → n ≤ 4096 → nat_lt 4096 n ≡ false
+not_long n few = grind (arith, nat_tests)
+
+pub done_bytes : (o p : Outside) (id n : ℕ) → 0 < id → n ≤ 4096 → Reads o id (Bytes n) p → HaveDone o p (Read id n ∷ [])
+done_bytes o p id n some few reads =
+    record {
+      between = between_read o p id (Bytes n) reads;
+      no_write = refl;
+      no_main_read = ap (λ (b : Bool). b || false) (not_main id some);
+      no_long_read = ap (λ (b : Bool). b || false) (not_long n few);
+    }
 
 pub done_end : (o p : Outside) (id : ℕ) → 0 < id → Reads o id End p → HaveDone o p (Read id 0 ∷ [])
-done_end o p id some reads = record { between = between_read o p id End reads; no_write = refl; no_main_read = ap (λ (b : Bool). b || false) (not_main id some) }
+done_end o p id some reads = record { between = between_read o p id End reads; no_write = refl; no_main_read = ap (λ (b : Bool). b || false) (not_main id some); no_long_read = refl }
 
 pub done_unread : (o p : Outside) (id : ℕ) → ReadFault id o p → HaveDone o p []
-done_unread o p id fault = record { between = between_read o p id Unread fault; no_write = refl; no_main_read = refl }
+done_unread o p id fault = record { between = between_read o p id Unread fault; no_write = refl; no_main_read = refl; no_long_read = refl }
 
 -- an id that was given back
 pub record HasClosed (o p : Outside) : Type 0 where
@@ -55,8 +66,8 @@ pub record HasClosed (o p : Outside) : Type 0 where
 pub has_closed : (o p : Outside) (id : ℕ) → 0 < id → Closes o id p → HasClosed o p
 has_closed o p id some closes =
     elim (between_close o p id some closes) [
-      | inl b ↦ record { acts = Close id ∷ []; closes = tt; done = record { between = b; no_write = refl; no_main_read = refl } }
-      | inr b ↦ record { acts = []; closes = tt; done = record { between = b; no_write = refl; no_main_read = refl } }
+      | inl b ↦ record { acts = Close id ∷ []; closes = tt; done = record { between = b; no_write = refl; no_main_read = refl; no_long_read = refl } }
+      | inr b ↦ record { acts = []; closes = tt; done = record { between = b; no_write = refl; no_main_read = refl; no_long_read = refl } }
     ]
 
 -- what giving back leaves as it was

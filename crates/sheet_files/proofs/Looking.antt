@@ -106,7 +106,7 @@ module _ (old : Reading) (was : Going) (last : StandsLast old.going.items (vec_l
     looks_halts name read on none new k (halt.Unopened file) looks going files limits start acts within = absurd looks
     looks_halts name read on none new k halt.Unread looks going files limits start acts within = unread_halts new k looks.0 looks.1 going files limits name read start acts within
     looks_halts name read on none new k halt.Memory looks going files limits start acts within =
-        memory_halts new (Read was.id looks.4.0 ∷ []) k (done_bytes o q was.id looks.4.0 some_id looks.4.1) refl (ap (λ (x : Outside). x.open_ids) looks.4.1) (subst (SameCounts o) (sym looks.4.1) (record { doc = refl; main = refl; out = refl; note = refl }))
+        memory_halts new (Read was.id looks.4.0 ∷ []) k (done_bytes o q was.id looks.4.0 some_id looks.4.2 looks.4.1) refl (ap (λ (x : Outside). x.open_ids) looks.4.1) (subst (SameCounts o) (sym looks.4.1) (record { doc = refl; main = refl; out = refl; note = refl }))
         (reads_once was looks.4.0 not_ended) looks.0 going limits name read start acts (asks_rightly old was last o wants name read on none looks.3 start acts within looks.4.0) within
 
     -- It was looked at, and has a byte.

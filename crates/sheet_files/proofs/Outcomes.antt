@@ -94,6 +94,7 @@ module _ (old new : Outside) (limits : Limits) (name : List ℕ) where
             between = done.between;
             no_write = done.no_write;
             no_main_read = done.no_main_read;
+            no_long_read = done.no_long_read;
             opened = (name ∷ [], ap (λ (d : Option ℕ). d ∷ []) (gone_place old.documents name may), tt);
             opens = if_told old.open_ids old.documents
                 (λ s docs e d reads. ap (λ (o : Option ℕ). o ∷ []) (sym (some_at (λ docs. place docs name ≡ None) old.documents docs d may)) ∙ ap (λ (l : Loads). map (place docs) l.opened) (sym (own_absent reads limits (document docs) name (document_none docs name (some_at _ old.documents docs d may)))));
@@ -118,6 +119,7 @@ module _ (old new : Outside) (limits : Limits) (name : List ℕ) where
             between = done.between;
             no_write = done.no_write;
             no_main_read = done.no_main_read;
+            no_long_read = done.no_long_read;
             opened = ([], refl, inr refl);
             opens = if_told old.open_ids old.documents (λ s docs e d reads. let own = own_begins reads limits (document docs) name comes_to_one in ([], name ∷ own.0, own.1, refl, inr (own.0, refl, refl)));
             fails = if_at old.open_ids (λ s e. inl refl);
@@ -147,6 +149,7 @@ module _ (old new : Outside) (limits : Limits) (name : List ℕ) where
             between = done.between;
             no_write = done.no_write;
             no_main_read = done.no_main_read;
+            no_long_read = done.no_long_read;
             opened = (names, opened, tt);
             opens = if_told old.open_ids old.documents (λ s docs e d reads. let f = told_at _ old.open_ids old.documents s docs e d first reads in (names, f.0, f.1, opened ∙ places_told old docs names d));
             fails = if_at old.open_ids (λ s e. tt);
@@ -219,6 +222,7 @@ module _ (start o p : Outside) (limits : Limits) (name : List ℕ) (going : List
             between = all_done.between;
             no_write = all_done.no_write;
             no_main_read = all_done.no_main_read;
+            no_long_read = all_done.no_long_read;
             opened = (names_of files ++ names_in missing, all_opened, tt);
             opens = if_told start.open_ids start.documents
                 (λ s docs e d reads. all_opened ∙ places_told start docs (names_of files ++ names_in missing) d ∙ ap (map (place docs)) (sym names_are) ∙ ap (λ (l : Loads). map (place docs) l.opened) (sym (gives (document docs) (told_seen s docs e d) reads)));
@@ -249,6 +253,7 @@ module _ (start o p : Outside) (limits : Limits) (name : List ℕ) (going : List
             between = all_done.between;
             no_write = all_done.no_write;
             no_main_read = all_done.no_main_read;
+            no_long_read = all_done.no_long_read;
             opened = (names_of files ++ names_in missing, all_opened, names_same ∙ names_whole loaded.files);
             opens = if_told start.open_ids start.documents
                 (λ s docs e d reads. all_opened ∙ places_told start docs (names_of files ++ names_in missing) d ∙ ap (map (place docs)) names_same ∙ ap (λ (l : Loads). map (place docs) l.opened) (sym (gives (document docs) (told s docs e d) reads)));
@@ -292,6 +297,7 @@ module _ (start o p : Outside) (limits : Limits) (name : List ℕ) (acts closes 
             between = halt_done.between;
             no_write = halt_done.no_write;
             no_main_read = halt_done.no_main_read;
+            no_long_read = halt_done.no_long_read;
             opened = (names, halt_opened, in_names);
             opens = if_told start.open_ids start.documents
                 (λ s docs e d reads. let t = told_at (FailsThere file offset) start.open_ids start.documents s docs e d there reads in (names, t.0, t.1, halt_opened ∙ places_told start docs names d, t.2));

@@ -1,5 +1,5 @@
 -- What the steps of reading come to, by what the program keeps before and behind them.
-use Rattle.std.proofs.Common.{◌≡◌, ℕ, suc, ◌+◌, ◌<◌, Bool, true, false, List, [], ◌∷◌, ◌++◌, length, drop, Option, Some, None, IfSome, Result, Ok, Err, refl, sym, ap, subst, ◌∙◌, arith, append_assoc, length-append, inl, inr}
+use Rattle.std.proofs.Common.{◌≡◌, ℕ, suc, ◌+◌, ◌<◌, ◌≤◌, Bool, true, false, List, [], ◌∷◌, ◌++◌, length, drop, Option, Some, None, IfSome, Result, Ok, Err, refl, sym, ap, subst, ◌∙◌, arith, append_assoc, length-append, inl, inr}
 use Rattle.std.proofs.lemmas.Bool.{eq-eqb, false≢true, ne_eqb}
 use Rattle.std.specs.Option.{option_map}
 use Rattle.std.specs.Prelude.{if◌then◌else◌}
@@ -133,10 +133,10 @@ module _ (o p : Outside) (g h : Going) (some : 0 < g.id) (not_ended : g.reader.l
   begun_now left =
       subst (λ (b : Bool). IsOf (Some (h.bytes.items ++ left)) (if b then Whole h.bytes.items else Begun h.bytes.items)) (sym (ap (λ (s : Source). s.lexer.ended) reader ∙ not_ended)) (left, refl)
 
-  piece_goes : 0 < length piece → Reads o g.id (Bytes (length piece)) p → GoesOnTo o p (Read g.id (length piece) ∷ []) g h
-  piece_goes more reads =
+  piece_goes : 0 < length piece → length piece ≤ 4096 → Reads o g.id (Bytes (length piece)) p → GoesOnTo o p (Read g.id (length piece) ∷ []) g h
+  piece_goes more few reads =
       record {
-        done = done_bytes o p g.id (length piece) some reads;
+        done = done_bytes o p g.id (length piece) some few reads;
         opens_none = refl;
         ids = ap (λ (q : Outside). q.open_ids) reads;
         id = id;
@@ -166,7 +166,7 @@ gets_goes o p g h some not_ended gets =
       | inl e ↦ let none : h.bytes.items ≡ g.bytes.items = gets.bytes ∙ ap (λ (l : List ℕ). g.bytes.items ++ l) e.1 ∙ append_none g.bytes.items in
           let same = same_goes o g h gets.others.0 gets.others.1 none (ap (λ (s : Source). s.lexer.ended) gets.others.2) in
           subst (λ (l : List Act). GoesOnTo o p l g h) (sym e.0) (subst (λ (q : Outside). GoesOnTo o q [] g h) (sym e.2) same)
-      | inr e ↦ subst (λ (l : List Act). GoesOnTo o p l g h) (sym e.0) (piece_goes o p g h some not_ended gets.piece gets.next gets.bytes gets.others.0 gets.others.1 gets.others.2 e.2 e.3)
+      | inr e ↦ subst (λ (l : List Act). GoesOnTo o p l g h) (sym e.0) (piece_goes o p g h some not_ended gets.piece gets.next gets.bytes gets.others.0 gets.others.1 gets.others.2 e.2 e.4 e.3)
     ]
 
 -- its end was told

@@ -1,5 +1,5 @@
 -- What acts say of the documents that were opened.
-use Rattle.std.specs.Prelude.{◌≡◌, ℕ, ◌+◌, Bool, true, false, ◌==◌, ◌||◌, if◌then◌else◌, List, [], ◌∷◌, Option, Some, None}
+use Rattle.std.specs.Prelude.{◌≡◌, ℕ, ◌+◌, Bool, true, false, ◌==◌, nat_lt, ◌||◌, if◌then◌else◌, List, [], ◌∷◌, Option, Some, None}
 use Rattle.stx_host.specs.declared.act.Act.{Act}
 use Rattle.stx_host.specs.declared.act.Act.TheVariants.{Open, Read, Write}
 
@@ -13,6 +13,11 @@ opens (act ∷ acts) = opens acts
 abbrev pub is_write : Act → Bool
 is_write (Write lane len) = true
 is_write act = false
+
+-- the act is a read that got more than 4,096 bytes
+abbrev pub is_long_read : Act → Bool
+is_long_read (Read id got) = nat_lt 4096 got
+is_long_read act = false
 
 -- how many bytes of an id were read since it was given last, where so many were before these acts: an id may be given again
 abbrev pub read_behind : (before id : ℕ) → List Act → ℕ

@@ -10,7 +10,7 @@ use Rattle.stx_host.specs.declared.act.Doc.{Doc}
 use Rattle.xml_events.specs.Source.{events_left}
 use Rattle.sheet_loader.specs.Files.{changed}
 use Rattle.sheet_loader.specs.Levels.{name_at}
-use Rattle.sheet_files.specs.Acts.{NoneBehindEnd, given_for, is_write, opens, read_since_open}
+use Rattle.sheet_files.specs.Acts.{NoneBehindEnd, given_for, is_long_read, is_write, opens, read_since_open}
 use Rattle.sheet_files.specs.Opened.{AreOf, Came, Begun, Whole, Seen, documents_told, names_in, place_told, places, whole}
 use Rattle.sheet_files.specs.Undecided.{number_of}
 use Rattle.sheet_files.specs.declared.going.Going.{Going}
@@ -96,11 +96,12 @@ pub record AreOnce (acts : List Act) (going : List Going) : Type 0 where
   pub none_behind : NoneBehindEnd acts
   pub unended : AreUnended acts going
 
--- what acts have done since a moment: nothing was written, and nothing of the main document was read
+-- what acts have done since a moment: nothing was written, nothing of the main document was read, and no read got more than 4,096 bytes
 pub record HaveDone (start o : Outside) (acts : List Act) : Type 0 where
   pub between : Between start o acts [] []
   pub no_write : list_any is_write acts ≡ false
   pub no_main_read : list_any is_main_read acts ≡ false
+  pub no_long_read : list_any is_long_read acts ≡ false
 
 -- no count of failures has risen
 pub record SameCounts (start o : Outside) : Type 0 where

@@ -17,7 +17,7 @@ use Rattle.sheet_model.specs.Sound.{IsSound}
 use Rattle.sheet_model.specs.declared.sheet.Sheet as model
 use Rattle.sheet_loader.specs.Files.{Documents, load, loads}
 use Rattle.sheet_loader.specs.Values.{Reads}
-use Rattle.sheet_files.specs.Acts.{NoneBehindEnd, given_for, is_write, opens, read_since_open}
+use Rattle.sheet_files.specs.Acts.{NoneBehindEnd, given_for, is_long_read, is_write, opens, read_since_open}
 use Rattle.sheet_files.specs.Opened.{Seen, AreOf, documents_told, names_in, places, whole}
 use Rattle.sheet_files.specs.Undecided.{IsUndecided}
 use Rattle.sheet_files.specs.declared.load.Loaded.{Loaded}
@@ -64,12 +64,13 @@ FailsAfter told (Err (Host file fault offset)) acts =
     (offset ≡ 0) ⊎ ((id : ℕ) × (given_for id acts ≡ Some (option_and_then (λ docs. place docs file) told)) × (offset ≡ read_since_open id acts))
 FailsAfter told answer acts = Unit {0}
 
--- What loading does: it opens the sheet's files in their order, reads of them only while what was read doesn't decide the sheet, and not behind
--- their ends, reads nothing of the main document, and gives the lanes nothing.
+-- What loading does: it opens the sheet's files in their order, reads of them 4,096 bytes at a time at most, only while what was read doesn't
+-- decide the sheet, and not behind their ends, reads nothing of the main document, and gives the lanes nothing.
 pub record LoadActs (old new : Outside) (limits : Limits) (name : List ℕ) (answer : Result Loaded Outcome) (acts : List Act) : Type 0 where
   pub between : Between old new acts [] []
   pub no_write : list_any is_write acts ≡ false
   pub no_main_read : list_any is_main_read acts ≡ false
+  pub no_long_read : list_any is_long_read acts ≡ false
   pub opened : (names : List (List ℕ)) × (opens acts ≡ places old names) × NamesFile names answer
   pub opens : IfSome (documents_told old) (λ docs. (reads : Reads) → OpensInOrder (place docs) (load reads limits (document docs) name).opened answer acts)
   pub fails : IfSome old.open_ids (λ ids. FailsAfter old.documents answer acts)

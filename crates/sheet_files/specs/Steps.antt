@@ -42,11 +42,11 @@ use Rattle.sheet_files.specs.declared.reading.Halt.{Halt}
 use Rattle.sheet_files.specs.declared.reading.Halt.TheVariants as halt
 use Rattle.sheet_files.specs.declared.reading.Reading.{Reading}
 
--- A look at a file: nothing is read where bytes are left of what was, and else the next piece, or the end.
+-- A look at a file: nothing is read where bytes are left of what was, and else the next piece of at most 4,096 bytes, or the end.
 pub record Gets (old new : Outside) (g h : Going) : Type 0 where
   pub acts : List Act
   pub piece : List ℕ
-  pub done : ((acts ≡ []) × (piece ≡ []) × (new ≡ old)) ⊎ ((acts ≡ Read g.id (length piece) ∷ []) × (length g.bytes.items ≤ g.taken) × (0 < length piece) × HostReads old g.id (Bytes (length piece)) new)
+  pub done : ((acts ≡ []) × (piece ≡ []) × (new ≡ old)) ⊎ ((acts ≡ Read g.id (length piece) ∷ []) × (length g.bytes.items ≤ g.taken) × (0 < length piece) × HostReads old g.id (Bytes (length piece)) new × (length piece ≤ 4096))
   pub next : IfSome (old.to_come g.id) (λ bytes. bytes ≡ piece ++ drop (length piece) bytes)
   pub bytes : h.bytes.items ≡ g.bytes.items ++ piece
   pub others : (h.id ≡ g.id) × (h.number ≡ g.number) × (h.reader ≡ g.reader) × (h.taken ≡ g.taken)
@@ -55,7 +55,7 @@ abbrev pub Looks : (old new : Outside) → (g h : Going) → Result Next Halt �
 Looks old new g h (Ok next.Byte) = Gets old new g h × (h.taken < length h.bytes.items)
 Looks old new g h (Ok next.End) = (h ≡ g) × (length g.bytes.items ≤ g.taken) × IfSome (old.to_come g.id) (λ bytes. bytes ≡ []) × HostReads old g.id End new
 Looks old new g h (Err halt.Unread) = (h ≡ g) × ReadFault g.id old new
-Looks old new g h (Err halt.Memory) = (h.id ≡ g.id) × (h.number ≡ g.number) × (h.reader ≡ g.reader) × (length g.bytes.items ≤ g.taken) × ((got : ℕ) × HostReads old g.id (Bytes got) new)
+Looks old new g h (Err halt.Memory) = (h.id ≡ g.id) × (h.number ≡ g.number) × (h.reader ≡ g.reader) × (length g.bytes.items ≤ g.taken) × ((got : ℕ) × HostReads old g.id (Bytes got) new × (got ≤ 4096))
 Looks old new g h (Err other) = ⊥
 
 -- a file of which nothing is read

@@ -42,7 +42,7 @@ returns-in_ok-extend_from_slice-in-Bytes g c =
       record {
         acts = Read self.id (length (take n room)) ∷ [];
         piece = take n room;
-        done = inr (refl, omega (arith, test, is, count), omega (arith, len, some), subst (λ (k : ℕ). Reads o self.id (Bytes k) (g.H.Host.outside c.read.new.self)) (sym len) c.in-Bytes.ensures.change);
+        done = inr (refl, omega (arith, test, is, count), omega (arith, len, some), subst (λ (k : ℕ). Reads o self.id (Bytes k) (g.H.Host.outside c.read.new.self)) (sym len) c.in-Bytes.ensures.change, omega (arith, len, fits, c.read.auto.room));
         next = subst (λ (k : ℕ). IfSome (o.to_come self.id) (λ bytes. bytes ≡ take n room ++ drop k bytes)) (sym len) answer.next;
         bytes = items;
         others = (refl, refl, refl, refl);
