@@ -1,5 +1,5 @@
 -- A result takes all parts of a good document.
-use Rattle.std.proofs.Common.{◌≡◌, ◌≢◌, ℕ, suc, ◌+◌, ◌-◌, ◌<◌, ◌≤◌, Bool, true, ◌&&◌, List, [], ◌∷◌, ◌++◌, Option, Some, None, length, map, refl, sym, ap, subst, ◌∙◌, arith, ltb-true, lt-ltb}
+use Rattle.std.proofs.Common.{◌≡◌, ◌≢◌, ℕ, suc, ◌+◌, ◌-◌, ◌<◌, ◌≤◌, Bool, true, false, ◌&&◌, List, [], ◌∷◌, ◌++◌, Option, Some, None, length, map, refl, sym, ap, subst, ◌∙◌, arith, ltb-true, lt-ltb}
 use Rattle.std.specs.Prelude.{if◌then◌else◌, nat_lt}
 use Rattle.std.specs.List.{list_all}
 use Rattle.std.proofs.lemmas.Bool.{and_from, and_parts}
@@ -8,6 +8,7 @@ use Rattle.stx_base.specs.declared.name.Attr.{Attr}
 use Rattle.stx_base.specs.declared.name.Binding.{Binding}
 use Rattle.stx_base.specs.declared.name.Name.{Name}
 use Rattle.stx_base.specs.declared.part.Part.{Part}
+use Rattle.stx_base.specs.declared.part.Part.TheVariants as part
 use Rattle.result_writer.specs.Allowed.{are_chars, is_good_attribute, is_good_comment, is_good_data, is_good_name, is_good_target, same}
 use Rattle.result_writer.specs.Target as target
 use Rattle.result_writer.specs.Target.{Left, attribute_fault, chars_fault, closed, comment_fault, depth, end_of, fault, first_fault, innermost, instruction_fault, is_closed, left_by, next, nothing, or_else, same_name, settled, start_fault, unless, with_attribute}
@@ -16,12 +17,11 @@ use Rattle.result_writer.specs.declared.fault.ResultFault.TheVariants.{BadName, 
 use Rattle.result_writer.specs.declared.tag.HeldTag.{HeldTag}
 use Rattle.xml_events.specs.Tree.{Why, Leaf, Chars, CData, Comment, Pi, Element, Forest, End, Cut, Single, Nested, Stage, Waiting, Ready, Entered}
 use Rattle.stx_engine.specs.Accepted.{TakesGood, is_good, is_good_attr, is_good_element, is_good_leaf}
-use Rattle.stx_engine.specs.Meaning.{Complete, Refused, attribute_part, end_parts, leaf_parts, start_parts}
+use Rattle.stx_engine.specs.Meaning.{Complete, Refused, attribute_part, copied_attrs, end_parts, leaf_parts, parts_if, start_parts}
 use Rattle.stx_engine.specs.Opens.{named, names_by, names_of}
 use Rattle.stx_engine.specs.Passed.{Passed, once_ready, passed, put, run_from, then_put, unless_refused, unless_stopped, with_first}
 use Rattle.stx_engine.specs.Scope.{scope_within}
-use Rattle.stx_engine.specs.declared.pass.Pass.{Pass}
-use Rattle.stx_engine.specs.declared.pass.Pass.TheVariants as pass
+use Rattle.sheet_model.specs.declared.pass.Kinds.{Kinds}
 use Rattle.stx_engine.proofs.Beginnings.{run-passed}
 use Rattle.stx_engine.proofs.Copying.{settled-names}
 
@@ -98,30 +98,27 @@ module _ (limit : ℕ) where
 
   -- The parts of a node
 
-  leaf-fine : (l : Left) (p : Pass) (leaf : Leaf) → is_good_leaf leaf ≡ true → Fine limit l (leaf_parts p leaf) (names_of l)
-  leaf-fine l pass.All (Chars offset text) h =
-      record { faultless = both-none (chars_fault text) None (unless-none (are_chars text) BadChar None h refl) refl; behind = settled-names l.elements l.held }
-  leaf-fine l pass.All (CData offset text) h =
-      record { faultless = both-none (chars_fault text) None (unless-none (are_chars text) BadChar None h refl) refl; behind = settled-names l.elements l.held }
-  leaf-fine l pass.All (Comment offset text) h =
+  parts-fine : (l : Left) (t : Bool) (ps : List Part) → Fine limit l ps (names_of l) → Fine limit l (parts_if t ps) (names_of l)
+  parts-fine l true ps h = h
+  parts-fine l false ps h = record { faultless = refl; behind = refl }
+
+  leaf-fine : (l : Left) (p : Kinds) (leaf : Leaf) → is_good_leaf leaf ≡ true → Fine limit l (leaf_parts p leaf) (names_of l)
+  leaf-fine l p (Chars offset text) h =
+      parts-fine l p.text _ (record { faultless = both-none (chars_fault text) None (unless-none (are_chars text) BadChar None h refl) refl; behind = settled-names l.elements l.held })
+  leaf-fine l p (CData offset text) h =
+      parts-fine l p.text _ (record { faultless = both-none (chars_fault text) None (unless-none (are_chars text) BadChar None h refl) refl; behind = settled-names l.elements l.held })
+  leaf-fine l p (Comment offset text) h =
       let b = and_parts (are_chars text) (is_good_comment text) h in
-      record {
+      parts-fine l p.comments _ (record {
         faultless = both-none (comment_fault text) None (unless-none (are_chars text) BadChar _ b.0 (unless-none (is_good_comment text) BadComment None b.1 refl)) refl;
         behind = settled-names l.elements l.held;
-      }
-  leaf-fine l pass.All (Pi offset target text) h =
+      })
+  leaf-fine l p (Pi offset target text) h =
       let b = and_parts (are_chars text) (is_good_target target && is_good_data text) h in
-      record {
+      parts-fine l p.instructions _ (record {
         faultless = both-none (instruction_fault target text) None (unless-none (are_chars text) BadChar _ b.0 (unless-none (is_good_target target && is_good_data text) BadPi None b.1 refl)) refl;
         behind = settled-names l.elements l.held;
-      }
-  leaf-fine l pass.Chars (Chars offset text) h =
-      record { faultless = both-none (chars_fault text) None (unless-none (are_chars text) BadChar None h refl) refl; behind = settled-names l.elements l.held }
-  leaf-fine l pass.Chars (CData offset text) h =
-      record { faultless = both-none (chars_fault text) None (unless-none (are_chars text) BadChar None h refl) refl; behind = settled-names l.elements l.held }
-  leaf-fine l pass.Chars (Comment offset text) h = record { faultless = refl; behind = refl }
-  leaf-fine l pass.Chars (Pi offset target text) h = record { faultless = refl; behind = refl }
-  leaf-fine l pass.None leaf h = record { faultless = refl; behind = refl }
+      })
 
   attrs-fine : (es : List target.Element) (tag : HeldTag) (attrs : List Attr) → list_all is_good_attr attrs ≡ true →
       Fine limit (record { elements = es; held = Some tag }) (map attribute_part attrs) (tag.name ∷ named es)
@@ -138,29 +135,35 @@ module _ (limit : ℕ) where
       }
 
   -- the open elements within one that is passed
-  abbrev within : Pass → Name → List Name → List Name
-  within pass.All name names = name ∷ names
-  within pass.Chars name names = names
-  within pass.None name names = names
+  abbrev within : Kinds → Name → List Name → List Name
+  within p name names = if p.elements then name ∷ names else names
 
-  within-length : (p : Pass) (name : Name) (names : List Name) → length (within p name names) ≤ suc (length names)
-  within-length pass.All name names = omega arith
-  within-length pass.Chars name names = omega arith
-  within-length pass.None name names = omega arith
+  within-length : (p : Kinds) (name : Name) (names : List Name) → length (within p name names) ≤ suc (length names)
+  within-length p name names = by_elements p.elements where
+    by_elements : (t : Bool) → length (if t then name ∷ names else names) ≤ suc (length names)
+    by_elements true = omega arith
+    by_elements false = omega arith
 
-  start-fine : (l : Left) (p : Pass) (scope : List Binding) (e : Element) → is_good_element e ≡ true → length (names_of l) < limit →
+  attrs-good : (t : Bool) (attrs : List Attr) → list_all is_good_attr attrs ≡ true → list_all is_good_attr (if t then attrs else []) ≡ true
+  attrs-good true attrs h = h
+  attrs-good false attrs h = refl
+
+  start-fine : (l : Left) (p : Kinds) (scope : List Binding) (e : Element) → is_good_element e ≡ true → length (names_of l) < limit →
       Fine limit l (start_parts p scope e.name e.attrs) (within p e.name (names_of l))
-  start-fine l pass.All scope e h room =
+  start-fine l p scope e h room =
       let b = and_parts (is_good_name e.name) (list_all is_good_attr e.attrs) h in
-      let on = attrs-fine (settled l.elements l.held) (record { name = e.name; scope = scope; attrs = [] }) e.attrs b.1 in
+      let attrs = copied_attrs p e.attrs in
+      let on = attrs-fine (settled l.elements l.held) (record { name = e.name; scope = scope; attrs = [] }) attrs (attrs-good p.attributes e.attrs b.1) in
       let n = depth-names l.elements l.held in
       let fits : nat_lt (depth l.elements l.held) limit ≡ true = lt-ltb _ _ (omega (arith, n, room)) in
-      record {
+      by_elements p.elements (record {
         faultless = both-none (start_fault limit l e.name) _ (unless-none (is_good_name e.name) BadName _ b.0 (unless-none (nat_lt (depth l.elements l.held) limit) ResultDepth None fits refl)) on.faultless;
         behind = on.behind ∙ ap (λ ns. e.name ∷ ns) (settled-names l.elements l.held);
-      }
-  start-fine l pass.Chars scope e h room = record { faultless = refl; behind = refl }
-  start-fine l pass.None scope e h room = record { faultless = refl; behind = refl }
+      }) where
+        by_elements : (t : Bool) → Fine limit l (part.Start e.name scope ∷ map attribute_part (copied_attrs p e.attrs)) (e.name ∷ names_of l) →
+            Fine limit l (parts_if t (part.Start e.name scope ∷ map attribute_part (copied_attrs p e.attrs))) (if t then e.name ∷ names_of l else names_of l)
+        by_elements true f = f
+        by_elements false f = record { faultless = refl; behind = refl }
 
   end-by : (es : List target.Element) (h : Option HeldTag) (name : Name) (ns : List Name) → names_by es h ≡ name ∷ ns →
       (end_of (innermost es h) name ≡ None) × (named (closed es h) ≡ ns)
@@ -172,15 +175,16 @@ module _ (limit : ℕ) where
       let first : name ≡ x.name = cc in
       (unless-none (same_name x.name name) WrongEnd None (subst (λ n. same_name x.name n ≡ true) (sym first) (same_name-self x.name)) refl, cc)
 
-  end-fine : (l : Left) (p : Pass) (name : Name) (ns : List Name) → is_good_name name ≡ true → names_of l ≡ within p name ns → Fine limit l (end_parts p name) ns
-  end-fine l pass.All name ns good h =
-      let b = end-by l.elements l.held name ns h in
-      record { faultless = both-none _ None (unless-none (is_good_name name) BadName _ good b.0) refl; behind = b.1 }
-  end-fine l pass.Chars name ns good h = record { faultless = refl; behind = h }
-  end-fine l pass.None name ns good h = record { faultless = refl; behind = h }
+  end-fine : (l : Left) (p : Kinds) (name : Name) (ns : List Name) → is_good_name name ≡ true → names_of l ≡ within p name ns → Fine limit l (end_parts p name) ns
+  end-fine l p name ns good = by_elements p.elements where
+    by_elements : (t : Bool) → names_of l ≡ (if t then name ∷ ns else ns) → Fine limit l (parts_if t (part.End name ∷ [])) ns
+    by_elements true h =
+        let b = end-by l.elements l.held name ns h in
+        record { faultless = both-none _ None (unless-none (is_good_name name) BadName _ good b.0) refl; behind = b.1 }
+    by_elements false h = record { faultless = refl; behind = h }
 
   -- a list of nodes
-  taken : (p : Pass) (scope : List Binding) (f : Forest) (room : ℕ) (l : Left) (ns : List Name) → names_of l ≡ ns → is_good room f ≡ true → room + length ns ≤ limit → Taken limit l (passed p scope f) ns
+  taken : (p : Kinds) (scope : List Binding) (f : Forest) (room : ℕ) (l : Left) (ns : List Name) → names_of l ≡ ns → is_good room f ≡ true → room + length ns ≤ limit → Taken limit l (passed p scope f) ns
   taken p scope (End m offset) room l ns is h fits = record { faultless = refl; behind = λ e. is }
   taken p scope (Cut why) room l ns is h fits = record { faultless = refl; behind = λ e. absurd cc }
   taken p scope (Single m leaf next) room l ns is h fits =

@@ -27,7 +27,7 @@ use Rattle.stx_engine.specs.Passed.{passed, run_from, with_first}
 use Rattle.stx_engine.specs.Passed as gives
 use Rattle.stx_engine.specs.Opens.{names_in, opens_by}
 use Rattle.stx_engine.specs.declared.engine.Engine.{Engine}
-use Rattle.stx_engine.specs.declared.pass.Pass.{Pass}
+use Rattle.sheet_model.specs.declared.pass.Kinds.{Kinds}
 use Rattle.stx_engine.proofs.Passing.{outcome-passed, run_of_tree}
 
 -- What is given is the text of what a run puts
@@ -45,7 +45,7 @@ parts-back : (ps : List Part) → parts_put (map Put ps) ≡ ps
 parts-back [] = refl
 parts-back (p ∷ ps) = ap (λ l. p ∷ l) (parts-back ps)
 
-pub run-passed : (limit : ℕ) (pass : Pass) (tree : Forest) → run_of (outcome limit pass tree) ≡ run_of_tree limit pass tree
+pub run-passed : (limit : ℕ) (pass : Kinds) (tree : Forest) → run_of (outcome limit pass tree) ≡ run_of_tree limit pass tree
 run-passed limit pass tree =
     ap run_of (outcome-passed limit pass tree) ∙ ap (λ l. record { parts = l; ending = (run_of_tree limit pass tree).ending }) (parts-back (run_of_tree limit pass tree).parts)
 
@@ -82,10 +82,10 @@ module _ (limits : Limits) where
 
 -- An engine that begins
 
-module _ (limits : Limits) (pass : Pass) (e : Engine)
+module _ (limits : Limits) (pass : Kinds) (e : Engine)
     (document : (bytes : List ℕ) (ended : Bool) → future e.reader bytes ended ≡ doc limits false bytes ended ∷ []) (over : e.reader.over ≡ None)
     (asks : e.copier.pass ≡ pass) (scope : e.copier.scope ≡ []) (around : e.copier.around ≡ []) (writer : e.copier.writer ≡ fresh limits.elements) where
-  abbrev given_by : Pass → List Binding → List (Option (List Binding)) → Target → Future → Given
+  abbrev given_by : Kinds → List Binding → List (Option (List Binding)) → Target → Future → Given
   given_by p s os t f = given_of t (rest p s (opens_by (names_in p t.left) (reverse os)) f)
 
   -- it gives what is put on the document's tree

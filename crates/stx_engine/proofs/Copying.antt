@@ -1,14 +1,14 @@
 -- What a copier does with events.
 use Rattle.std.proofs.lemmas.List.{reverse-append}
-use Rattle.std.proofs.Common.{reverse, ◌≡◌, ◌≢◌, ◌⊎◌, ⊎_elim, inl, inr, drop, ℕ, List, [], ◌∷◌, ◌++◌, Option, Some, None, Ok, Err, Result, refl, sym, ap, ◌∙◌, subst, append_assoc, append-nil}
-use Rattle.std.specs.Prelude.{IfErr, IsErrAnd, OnErr, OnOk, unwrap_or}
+use Rattle.std.proofs.Common.{reverse, ◌≡◌, ◌≢◌, Bool, true, false, ◌⊎◌, ⊎_elim, inl, inr, drop, ℕ, List, [], ◌∷◌, ◌++◌, Option, Some, None, Ok, Err, Result, refl, sym, ap, ◌∙◌, subst, append_assoc, append-nil}
+use Rattle.std.specs.Prelude.{if◌then◌else◌, IfErr, IsErrAnd, OnErr, OnOk, unwrap_or}
 use Rattle.stx_base.specs.declared.name.Attr.{Attr}
 use Rattle.stx_base.specs.declared.name.Binding.{Binding}
 use Rattle.stx_base.specs.declared.name.Name.{Name}
 use Rattle.xml_events.specs.Document.{inner, outer}
-use Rattle.stx_engine.specs.declared.pass.Pass.{Pass}
+use Rattle.sheet_model.specs.declared.pass.Kinds.{Kinds}
 use Rattle.stx_engine.specs.Opens.{Open, first_name, names_behind, names_by, names_in, names_of, named, opens_by}
-use Rattle.stx_engine.specs.Meaning.{end_parts, leaf_parts, start_parts}
+use Rattle.stx_engine.specs.Meaning.{end_parts, leaf_parts, parts_if, start_parts}
 use Rattle.stx_engine.specs.Passed.{passed, put, then_put}
 use Rattle.stx_engine.specs.Scope.{scope_within}
 use Rattle.stx_base.specs.Course.{Begins}
@@ -23,7 +23,6 @@ use Rattle.xml_events.specs.Tree.{Chars, CData, Comment, Element, Future, Pi}
 use Rattle.xml_events.specs.declared.event.Event.TheVariants as event
 use Rattle.stx_base.specs.declared.node.First.{First}
 use Rattle.stx_base.specs.declared.part.Part.TheVariants as part
-use Rattle.stx_engine.specs.declared.pass.Pass.TheVariants as pass
 use Rattle.stx_engine.proofs.Rest.{rest-end, rest-leaf, rest-start}
 use Rattle.stx_engine.specs.Copying.{Copying}
 use Rattle.stx_engine.specs.declared.copier.Turn.{Turn}
@@ -149,11 +148,15 @@ pub start-names : (old new : Target) (name : Name) (scope : List Binding) (r : R
 start-names old new name scope r h = OnOk-weaker r (λ e. ap (λ (t : Target). names_of t.left) e ∙ ap (λ ns. name ∷ ns) (settled-names old.left.elements old.left.held)) h
 
 -- an element that is open is known by its name, where its end is put
-one-more-open : (p : Pass) (scope : List Binding) (o : Open) (l : Left) (os : List (Option (List Binding))) (f : Future)
+one-more-open : (p : Kinds) (scope : List Binding) (o : Open) (l : Left) (os : List (Option (List Binding))) (f : Future)
     → rest p scope (o ∷ opens_by (names_in p l) os) f ≡ rest p scope (opens_by (names_behind p o.name l) (o.outer ∷ os)) f
-one-more-open pass.All scope o l os f = refl
-one-more-open pass.Chars scope o l os f = refl
-one-more-open pass.None scope o l os f = refl
+one-more-open p scope o l os f = by_elements p.elements where
+  by_elements : (t : Bool) →
+      then_put (passed p scope (inner f)) (put (parts_if t (part.End o.name ∷ [])) (rest p (unwrap_or o.outer scope) (opens_by (if t then names_of l else []) os) (outer f)))
+      ≡ then_put (passed p scope (inner f)) (put (parts_if t (part.End (first_name (if t then o.name ∷ names_of l else [])) ∷ []))
+      (rest p (unwrap_or o.outer scope) (opens_by (drop 1 (if t then o.name ∷ names_of l else [])) os) (outer f)))
+  by_elements true = refl
+  by_elements false = refl
 
 -- it was put and kept
 pub takes-start : (c new : Copying) (t : Target) (o : Open) (attrs : List Attr) (before now : List ℕ)
@@ -177,10 +180,8 @@ takes-refused c new t o attrs before now (Fault x) h = (h.0, h.1, λ f. let p = 
 takes-refused c new t o attrs before now Memory h = (h.0, h.1, λ f. let p = rest c.pass c.scope (o ∷ opens c) f in h.2 p.parts p.stop)
 
 -- a leaf was put
-names-in : (p : Pass) (l m : Left) → names_of l ≡ names_of m → names_in p l ≡ names_in p m
-names-in pass.All l m e = e
-names-in pass.Chars l m e = refl
-names-in pass.None l m e = refl
+names-in : (p : Kinds) (l m : Left) → names_of l ≡ names_of m → names_in p l ≡ names_in p m
+names-in p l m e = ap (λ ns. if p.elements then ns else []) e
 
 pub leaf-taken : (c : Copying) (t : Target) (p : Part) (before now : List ℕ) → fault c.writer.limit c.writer.left p ≡ None → t ≡ behind c.writer p → now ≡ before ++ settles c.writer.left p
     → names_of (next c.writer.left p) ≡ names_of c.writer.left → Takes (leaf_ahead c (p ∷ [])) (record c { writer = t }) before now (Ok More)
@@ -207,7 +208,7 @@ leaf-refused c new p before now e (Ok turn) k h u = absurd k
 leaf-refused c new p before now e (Err stop) k h u = subst (λ s. Takes (leaf_ahead c (p ∷ [])) new before now (Err s)) (sym k) (leaf-stopped c new p before now e h u)
 
 -- what was before an element is again behind it
-pub rest-outer : (p : Pass) (scope around : List Binding) (name : Name) (outside : Option (List Binding)) (os : List Open) (f : Future) → unwrap_or outside scope ≡ around
+pub rest-outer : (p : Kinds) (scope around : List Binding) (name : Name) (outside : Option (List Binding)) (os : List Open) (f : Future) → unwrap_or outside scope ≡ around
     → rest p scope (record { name = name; outer = Some around } ∷ os) f ≡ rest p scope (record { name = name; outer = outside } ∷ os) f
 rest-outer p scope around name outside os f e =
     ap (λ s. then_put (passed p scope (inner f)) (put (end_parts p name) (rest p s os (outer f)))) (sym e)
@@ -248,7 +249,7 @@ closed-names [] None = refl
 closed-names (e ∷ es) None = refl
 
 -- the end of the innermost element was put
-pub end-taken : (c : Copying) (t : Target) (before now : List ℕ) → c.pass ≡ pass.All → innermost c.writer.left.elements c.writer.left.held ≢ None
+pub end-taken : (c : Copying) (t : Target) (before now : List ℕ) → c.pass.elements ≡ true → innermost c.writer.left.elements c.writer.left.held ≢ None
     → ((name : Name) → innermost c.writer.left.elements c.writer.left.held ≡ Some name → fault c.writer.limit c.writer.left (part.End name) ≡ None)
     → ((name : Name) → t ≡ behind c.writer (part.End name)) → ((name : Name) → now ≡ before ++ settles c.writer.left (part.End name))
     → Takes (close_ahead c None) (record c { writer = t }) before now (Ok More)
@@ -262,14 +263,14 @@ end-taken c t before now all some taken ok written =
       written n,
       λ f.
           let p = rest c.pass c.scope (opens_by (drop 1 (names_in c.pass l)) (reverse c.around)) f in
-          ap (λ x. given_of c.writer (put (end_parts x (first_name (names_in x l))) p)) all
+          ap (λ t. given_of c.writer (put (parts_if t (part.End (first_name (if t then names_of l else [])) ∷ [])) p)) all
           ∙ puts p.parts p.stop
           ∙ ap (λ ns. ahead (settles l (part.End n)) (given_of t (rest c.pass c.scope (opens_by ns (reverse c.around)) f)))
-          (ap (λ x. drop 1 (names_in x l)) all ∙ sym (closed-names l.elements l.held) ∙ ap (λ (x : Target). names_of x.left) (sym (ok n)) ∙ ap (λ x. names_in x t.left) (sym all)),
+          (ap (λ x. drop 1 (if x then names_of l else [])) all ∙ sym (closed-names l.elements l.held) ∙ ap (λ (x : Target). names_of x.left) (sym (ok n)) ∙ ap (λ x. if x then names_of t.left else []) (sym all)),
     )
 
 -- there was none, or memory was wanting
-pub end-refused : (c new : Copying) (before now : List ℕ) (e : WriteStop) (r : Result Turn WriteStop) → IsErrAnd r (λ stop. stop ≡ e) → c.pass ≡ pass.All
+pub end-refused : (c new : Copying) (before now : List ℕ) (e : WriteStop) (r : Result Turn WriteStop) → IsErrAnd r (λ stop. stop ≡ e) → c.pass.elements ≡ true
     → (innermost c.writer.left.elements c.writer.left.held ≡ None → e ≡ Fault UnmatchedEnd) → ((name : Name) → innermost c.writer.left.elements c.writer.left.held ≡ Some name → e ≡ Memory)
     → now ≡ before → Takes (close_ahead c None) new before now r
 end-refused c new before now e (Ok turn) k all none some u = absurd k
@@ -280,7 +281,7 @@ end-refused c new before now e (Err stop) k all none some u =
       u ∙ sym (append-nil before),
       λ f.
           let p = rest c.pass c.scope (opens_by (drop 1 (names_in c.pass c.writer.left)) (reverse c.around)) f in
-          ap (λ x. given_of c.writer (put (end_parts x (first_name (names_in x c.writer.left))) p)) all
+          ap (λ t. given_of c.writer (put (parts_if t (part.End (first_name (if t then names_of c.writer.left else [])) ∷ [])) p)) all
           ∙ ap (λ ns. given_of c.writer (put (part.End (first_name ns) ∷ []) p)) (no-name c.writer.left.elements c.writer.left.held h)
           ∙ ap (λ i. unless_refused (end_of i (first_name [])) (ahead (settles c.writer.left (part.End (first_name []))) (given c.writer.limit (next c.writer.left (part.End (first_name []))) p.parts p.stop))) h,
     ))
@@ -292,37 +293,17 @@ end-refused c new before now e (Err stop) k all none some u =
 pub told-start : (c : Copying) (e : Element) (first : First) (f : Future) → given_by c (event.Start e.offset e.name e.attrs e.decls first) f ≡ start_ahead c e.name e.attrs e.decls f
 told-start c e first f = ap (given_of c.writer) (rest-start c.pass c.scope (opens c) e first f)
 
-placeless : (p : Pass) (offset : ℕ) (text : List ℕ) → leaf_parts p (Chars offset text) ≡ leaf_parts p (Chars 0 text)
-placeless pass.All offset text = refl
-placeless pass.Chars offset text = refl
-placeless pass.None offset text = refl
-
-placeless-cdata : (p : Pass) (offset : ℕ) (text : List ℕ) → leaf_parts p (CData offset text) ≡ leaf_parts p (Chars 0 text)
-placeless-cdata pass.All offset text = refl
-placeless-cdata pass.Chars offset text = refl
-placeless-cdata pass.None offset text = refl
-
-placeless-comment : (p : Pass) (offset : ℕ) (text : List ℕ) → leaf_parts p (Comment offset text) ≡ leaf_parts p (Comment 0 text)
-placeless-comment pass.All offset text = refl
-placeless-comment pass.Chars offset text = refl
-placeless-comment pass.None offset text = refl
-
-placeless-instruction : (p : Pass) (offset : ℕ) (target text : List ℕ) → leaf_parts p (Pi offset target text) ≡ leaf_parts p (Pi 0 target text)
-placeless-instruction pass.All offset target text = refl
-placeless-instruction pass.Chars offset target text = refl
-placeless-instruction pass.None offset target text = refl
-
 pub told-chars : (c : Copying) (offset : ℕ) (text : List ℕ) (f : Future) → given_by c (event.Chars offset text) f ≡ leaf_ahead c (leaf_parts c.pass (Chars 0 text)) f
-told-chars c offset text f = ap (given_of c.writer) (rest-leaf c.pass c.scope (opens c) (Chars offset text) f ∙ ap (λ ps. put ps (still c f)) (placeless c.pass offset text))
+told-chars c offset text f = ap (given_of c.writer) (rest-leaf c.pass c.scope (opens c) (Chars offset text) f)
 
 pub told-cdata : (c : Copying) (offset : ℕ) (text : List ℕ) (f : Future) → given_by c (event.CData offset text) f ≡ leaf_ahead c (leaf_parts c.pass (Chars 0 text)) f
-told-cdata c offset text f = ap (given_of c.writer) (rest-leaf c.pass c.scope (opens c) (CData offset text) f ∙ ap (λ ps. put ps (still c f)) (placeless-cdata c.pass offset text))
+told-cdata c offset text f = ap (given_of c.writer) (rest-leaf c.pass c.scope (opens c) (CData offset text) f)
 
 pub told-comment : (c : Copying) (offset : ℕ) (text : List ℕ) (f : Future) → given_by c (event.Comment offset text) f ≡ leaf_ahead c (leaf_parts c.pass (Comment 0 text)) f
-told-comment c offset text f = ap (given_of c.writer) (rest-leaf c.pass c.scope (opens c) (Comment offset text) f ∙ ap (λ ps. put ps (still c f)) (placeless-comment c.pass offset text))
+told-comment c offset text f = ap (given_of c.writer) (rest-leaf c.pass c.scope (opens c) (Comment offset text) f)
 
 pub told-instruction : (c : Copying) (offset : ℕ) (target text : List ℕ) (f : Future) → given_by c (event.Pi offset target text) f ≡ leaf_ahead c (leaf_parts c.pass (Pi 0 target text)) f
-told-instruction c offset target text f = ap (given_of c.writer) (rest-leaf c.pass c.scope (opens c) (Pi offset target text) f ∙ ap (λ ps. put ps (still c f)) (placeless-instruction c.pass offset target text))
+told-instruction c offset target text f = ap (given_of c.writer) (rest-leaf c.pass c.scope (opens c) (Pi offset target text) f)
 
 pub told-end : (c : Copying) (offset : ℕ) (f : Future) → given_by c (event.End offset) f ≡ end_ahead c f
 told-end c offset f = ap (given_of c.writer) (rest-end c.pass c.scope (opens c) offset f)

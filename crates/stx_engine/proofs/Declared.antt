@@ -14,12 +14,11 @@ use Rattle.result_writer.specs.Target.{Left, fault, first_fault, next, nothing, 
 use Rattle.result_writer.specs.declared.fault.ResultFault.{ResultFault}
 use Rattle.xml_events.specs.Tree.{Why, Leaf, Chars, CData, Comment, Pi, Forest, End, Cut, Single, Nested, Stage, Waiting, Ready, Entered}
 use Rattle.stx_engine.specs.Accepted.{RunsNest, declares_names}
-use Rattle.stx_engine.specs.Meaning.{attribute_part, end_parts, leaf_parts, start_parts}
+use Rattle.stx_engine.specs.Meaning.{attribute_part, copied_attrs, end_parts, leaf_parts, parts_if, start_parts}
 use Rattle.stx_engine.specs.Output.{is_sound_part, output}
 use Rattle.stx_engine.specs.Passed.{Passed, once_ready, passed, put, run_from, then_put, unless_refused, unless_stopped, with_first}
 use Rattle.stx_engine.specs.Scope.{scope_within}
-use Rattle.stx_engine.specs.declared.pass.Pass.{Pass}
-use Rattle.stx_engine.specs.declared.pass.Pass.TheVariants as pass
+use Rattle.sheet_model.specs.declared.pass.Kinds.{Kinds}
 use Rattle.stx_engine.proofs.Beginnings.{run-passed}
 use Rattle.stx_engine.proofs.Parts.{parts-nest}
 
@@ -66,26 +65,21 @@ all-attributes : (attrs : List Attr) → all (map attribute_part attrs)
 all-attributes [] = refl
 all-attributes (a ∷ attrs) = and_from true _ refl (all-attributes attrs)
 
-all-start : (p : Pass) (scope : List Binding) (name : Name) (attrs : List Attr) → list_all named scope ≡ true → all (start_parts p scope name attrs)
-all-start pass.All scope name attrs h = and_from _ _ h (all-attributes attrs)
-all-start pass.Chars scope name attrs h = refl
-all-start pass.None scope name attrs h = refl
+all-if : (t : Bool) (ps : List Part) → all ps → all (parts_if t ps)
+all-if true ps h = h
+all-if false ps h = refl
 
-all-end : (p : Pass) (name : Name) → all (end_parts p name)
-all-end pass.All name = refl
-all-end pass.Chars name = refl
-all-end pass.None name = refl
+all-start : (p : Kinds) (scope : List Binding) (name : Name) (attrs : List Attr) → list_all named scope ≡ true → all (start_parts p scope name attrs)
+all-start p scope name attrs h = all-if p.elements _ (and_from _ _ h (all-attributes (copied_attrs p attrs)))
 
-all-leaf : (p : Pass) (leaf : Leaf) → all (leaf_parts p leaf)
-all-leaf pass.All (Chars offset text) = refl
-all-leaf pass.All (CData offset text) = refl
-all-leaf pass.All (Comment offset text) = refl
-all-leaf pass.All (Pi offset target text) = refl
-all-leaf pass.Chars (Chars offset text) = refl
-all-leaf pass.Chars (CData offset text) = refl
-all-leaf pass.Chars (Comment offset text) = refl
-all-leaf pass.Chars (Pi offset target text) = refl
-all-leaf pass.None leaf = refl
+all-end : (p : Kinds) (name : Name) → all (end_parts p name)
+all-end p name = all-if p.elements _ refl
+
+all-leaf : (p : Kinds) (leaf : Leaf) → all (leaf_parts p leaf)
+all-leaf p (Chars offset text) = all-if p.text _ refl
+all-leaf p (CData offset text) = all-if p.text _ refl
+all-leaf p (Comment offset text) = all-if p.comments _ refl
+all-leaf p (Pi offset target text) = all-if p.instructions _ refl
 
 all-then : (p q : Passed) → all p.parts → all q.parts → all (then_put p q).parts
 all-then p q h k = by_stop p.stop where
@@ -101,7 +95,7 @@ all-once Waiting (Nested m e kids next) p h = h
 all-once (Ready first) kids p h = h
 all-once (Entered first) kids p h = h
 
-all-passed : (p : Pass) (scope : List Binding) (f : Forest) → list_all named scope ≡ true → declares_names f ≡ true → all (passed p scope f).parts
+all-passed : (p : Kinds) (scope : List Binding) (f : Forest) → list_all named scope ≡ true → declares_names f ≡ true → all (passed p scope f).parts
 all-passed p scope (End m offset) h k = refl
 all-passed p scope (Cut why) h k = refl
 all-passed p scope (Single m leaf next) h k = all-append (leaf_parts p leaf) (passed p scope next).parts (all-leaf p leaf) (all-passed p scope next h k)

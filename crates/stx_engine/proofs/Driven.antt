@@ -38,7 +38,7 @@ use Rattle.fault_report.specs.declared.outcome.HostFault.{HostFault}
 use Rattle.fault_report.specs.declared.outcome.HostFault.TheVariants as fault
 use Rattle.fault_report.specs.declared.outcome.Outcome.{Outcome}
 use Rattle.fault_report.specs.declared.outcome.Outcome.TheVariants.{Done, Run, Usage, Sheet, Xml, Host, Fuel, Memory}
-use Rattle.stx_engine.specs.declared.pass.Pass.{Pass}
+use Rattle.sheet_model.specs.declared.pass.Kinds.{Kinds}
 use Rattle.stx_engine.proofs.Prefixes.{begins_after, begins_front}
 
 pub counts-then : (a b c : Outside) → SameCounts a b → SameCounts b c → SameCounts a c
@@ -180,7 +180,7 @@ module _ (start : Engine) (main : List ℕ) where
 
 -- A run so far
 
-module _ (limits : Limits) (pass : Pass) (start : Engine) where
+module _ (limits : Limits) (pass : Kinds) (start : Engine) where
   -- what was written, and what is to be written next, where the main document is told
   pub record Going (main : List ℕ) (acts : List Act) (ended : Bool) (out next : List ℕ) (e : Engine) (p : Pumped) : Type 0 where
     pub reads : AtMainReads acts out [] (λ taken. IsSettledAt limits pass (take taken.main_read main) taken)

@@ -27,7 +27,7 @@ use Rattle.stx_engine.specs.Output.{output}
 use Rattle.stx_engine.specs.Passed.{Passed, Run, once_ready, passed, put, run_from, stopped, then_put, unless_refused, unless_stopped, with_first}
 use Rattle.stx_engine.specs.Scope.{scope_within}
 use Rattle.stx_engine.specs.Plain.{pass_of}
-use Rattle.stx_engine.specs.declared.pass.Pass.{Pass}
+use Rattle.sheet_model.specs.declared.pass.Kinds.{Kinds}
 use Rattle.stx_engine.proofs.Beginnings.{run-passed}
 
 -- q is p, or p is stopped for want of more, and its parts are the first of q
@@ -68,7 +68,7 @@ longer-once (End m offset) list p q h k = subst (λ l. Longer p (once_ready (sta
 longer-once (Single m leaf next) list p q h k = subst (λ l. Longer p (once_ready (stage_by l) l q)) (sym h.1) k
 longer-once (Nested m e kids next) list p q h k = subst (λ l. Longer p (once_ready (stage_by l) l q)) (sym h.3) k
 
-longer : (p : Pass) (scope : List Binding) (old new : Forest) → Grows old new → Longer (passed p scope old) (passed p scope new)
+longer : (p : Kinds) (scope : List Binding) (old new : Forest) → Grows old new → Longer (passed p scope old) (passed p scope new)
 longer p scope (End m offset) new h = inl (ap (passed p scope) h)
 longer p scope (Cut Need) new h = longer-nothing (passed p scope new)
 longer p scope (Cut (Bad fault)) new h = inl (ap (passed p scope) h)
@@ -156,7 +156,7 @@ module _ (grow : DocumentsGrow) where
   run-stays limits p bytes more ended =
       over-stays limits.elements p (doc limits false bytes false) (doc limits false (bytes ++ more) ended) (grow limits false false bytes more ended)
 
-  by_mode : (m : Mode) (c : Command) (opened : List (List ℕ)) (o : Option Pass) (plan : Plan) (bytes more : List ℕ) → plan_by m c.limits o ≡ Some plan
+  by_mode : (m : Mode) (c : Command) (opened : List (List ℕ)) (o : Option Kinds) (plan : Plan) (bytes more : List ℕ) → plan_by m c.limits o ≡ Some plan
       → IfSome (mode_answer m c.limits c.sheet opened o (bytes ++ more)) (λ a. Begins (settled plan.limits plan.pass bytes) a.out)
   by_mode Plain c opened None plan bytes more e = absurd (none-some plan e)
   by_mode Plain c opened (Some pass) plan bytes more e =

@@ -16,7 +16,7 @@ use Rattle.stx_engine.specs.Answer.{Answer, answered, loaded, mode_answer, ran, 
 use Rattle.stx_engine.specs.Nesting.{EndsHaveStarts}
 use Rattle.stx_engine.specs.RunEnd.{sample_of}
 use Rattle.stx_engine.specs.Plain.{pass_of}
-use Rattle.stx_engine.specs.declared.pass.Pass.{Pass}
+use Rattle.sheet_model.specs.declared.pass.Kinds.{Kinds}
 use Rattle.stx_engine.proofs.Matching.{Matched, front_matched, nothing_matched}
 
 nothing-nests : (front : List ℕ) → Begins front [] → EndsHaveStarts front
@@ -27,7 +27,7 @@ only a b front e h = subst (λ (x : Answer). Begins front x.out → EndsHaveStar
 
 module _ (nest : DocumentsNest) where
   module _ (c : Command) (opened : List (List ℕ)) (a : Answer) (front : List ℕ) where
-    by_mode : (m : Mode) (o : Option Pass) (main : List ℕ) → mode_answer m c.limits c.sheet opened o main ≡ Some a → Begins front a.out → EndsHaveStarts front
+    by_mode : (m : Mode) (o : Option Kinds) (main : List ℕ) → mode_answer m c.limits c.sheet opened o main ≡ Some a → Begins front a.out → EndsHaveStarts front
     by_mode Check o main e b = only (answered Done [] opened) a front e (nothing-nests front) b
     by_mode Run None main e b = absurd (none-some a e)
     by_mode Run (Some pass) main e b = only (ran c.sheet opened (run_on c.limits pass main true)) a front e (nest c.limits pass main true front) b

@@ -6,7 +6,7 @@ use Rattle.stx_base.specs.declared.part.Part.{Part}
 use Rattle.result_writer.specs.Target.{Left, fault, next, nothing}
 use Rattle.result_writer.specs.declared.fault.ResultFault.{ResultFault}
 use Rattle.xml_events.specs.Tree.{Why, Begun, Leaf, Element, Forest, End, Cut, Single, Nested, Stage, Waiting, Ready, Entered}
-use Rattle.stx_engine.specs.declared.pass.Pass.{Pass}
+use Rattle.sheet_model.specs.declared.pass.Kinds.{Kinds}
 use Rattle.stx_engine.specs.Meaning as meaning
 use Rattle.stx_engine.specs.Meaning.{Put, Unready, Refused, Here, State, Asked, Nodes, Does, when_ready, start_parts, end_parts, leaf_parts, siblings, pass_leaf, pass_element, nodes, code, outcome, puts, ending_of, with_part}
 use Rattle.stx_engine.specs.Passed.{Passed, Run, put, unless_stopped, then_put, once_ready, passed, run_from, unless_refused, with_first}
@@ -151,15 +151,15 @@ module _ (limit : ℕ) where
       (puts_has last u (λ v. Ask (Nodes next asked v) k) (λ v. run_then v others.parts others.stop R) (λ v. does-so next asked v k R h)))))))))
 
   -- the run on a tree
-  abbrev pub run_of_tree : Pass → Forest → Run
+  abbrev pub run_of_tree : Kinds → Forest → Run
   run_of_tree pass tree = run_from limit nothing (passed pass [] tree).parts (passed pass [] tree).stop
 
-  pub ends-passed : (pass : Pass) (tree : Forest) → Has (meaning.meaning pass tree) (run_of_tree pass tree)
+  pub ends-passed : (pass : Kinds) (tree : Forest) → Has (meaning.meaning pass tree) (run_of_tree pass tree)
   ends-passed pass tree =
       let p = passed pass [] tree in
       subst (λ r. Has (meaning.meaning pass tree) r) (then-end nothing p.parts p.stop)
       (does-so tree (record { pass = pass; scope = [] }) (record { result = nothing }) (λ a. Halt (ending_of a.state.result)) (λ t. record { parts = []; ending = ending_of t })
       (λ offset t. stopped_so (code limit) [] (ending_of t.result)))
 
-  pub outcome-passed : (pass : Pass) (tree : Forest) → outcome limit pass tree ≡ Over (map Put (run_of_tree pass tree).parts) (run_of_tree pass tree).ending
+  pub outcome-passed : (pass : Kinds) (tree : Forest) → outcome limit pass tree ≡ Over (map Put (run_of_tree pass tree).parts) (run_of_tree pass tree).ending
   outcome-passed pass tree = outcome_is limit pass tree _ _ (ends-passed pass tree)

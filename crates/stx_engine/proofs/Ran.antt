@@ -44,7 +44,7 @@ use Rattle.stx_engine.specs.Output.{output}
 use Rattle.stx_engine.specs.Plain.{pass_of}
 use Rattle.stx_engine.specs.RunEnd.{line_in, on_sample, outcome_in, sample_of, status_in, summary_of}
 use Rattle.stx_engine.specs.Running.{Asks, CountsIn, FailedIn, FailedOn, FailedOnSheet, HasHead, IfDocFailed, IsAnswered, IsOwn, LoadsFirst, OpensNames, RefusesWords, Runs, TakesParts}
-use Rattle.stx_engine.specs.declared.pass.Pass.{Pass}
+use Rattle.sheet_model.specs.declared.pass.Kinds.{Kinds}
 use Rattle.stx_engine.specs.declared.run_end.RunEnd.{RunEnd}
 use Rattle.stx_engine.specs.declared.run_end.RunEnd.TheVariants.{Told, Sampled, Unnoted}
 use Rattle.stx_engine.specs.declared.run_end.Summary.{Summary}
@@ -201,7 +201,7 @@ module _ (words : List Word) (c : Command) (asked_for : command_of words ≡ Som
 
   -- An answer opens the names of the sheet's files
 
-  mode-opened : (mode : Mode) (opened : List (List ℕ)) (p : Option Pass) (main : List ℕ) (a : Answer) → mode_answer mode c.limits c.sheet opened p main ≡ Some a → opened ≡ a.opened
+  mode-opened : (mode : Mode) (opened : List (List ℕ)) (p : Option Kinds) (main : List ℕ) (a : Answer) → mode_answer mode c.limits c.sheet opened p main ≡ Some a → opened ≡ a.opened
   mode-opened Check opened p main a e = ap (λ x. x.opened) (same_Some (answered Done [] opened) a e)
   mode-opened Run opened None main a e = absurd (none-some a e)
   mode-opened Run opened (Some pass) main a e = ap (λ x. x.opened) (same_Some (ran c.sheet opened (run_on c.limits pass main true)) a e)
@@ -469,7 +469,7 @@ module _ (words : List Word) (c : Command) (asked_for : command_of words ≡ Som
     not_refused (Fuel file offset) acts out failed = subst IsSome (sym named) refl
     not_refused (Host file fault offset) acts out failed = subst IsSome (sym named) refl
 
-    takes_parts : DocumentsAreTaken → (pass : Pass) (o : Outcome) → RefusesSome c.limits pass o → TakesParts o
+    takes_parts : DocumentsAreTaken → (pass : Kinds) (o : Outcome) → RefusesSome c.limits pass o → TakesParts o
     takes_parts taken pass (Stopped file code offset) r = taken c.limits pass r.0 r.1 r.2 (usual words c asked_for).below r.3
     takes_parts taken pass (Host file fault offset) r = tt
     takes_parts taken pass Memory r = tt
@@ -522,7 +522,7 @@ module _ (words : List Word) (c : Command) (asked_for : command_of words ≡ Som
 
     -- The document was passed through
 
-    pub ran-driven : c.mode ≡ Run → (pass : Pass) → pass_of x.sheet ≡ Some pass → (o : Outcome) → Drives c.limits pass c.sheet mid new o → DocumentsAreTaken → Runs words old new (Told o)
+    pub ran-driven : c.mode ≡ Run → (pass : Kinds) → pass_of x.sheet ≡ Some pass → (o : Outcome) → Drives c.limits pass c.sheet mid new o → DocumentsAreTaken → Runs words old new (Told o)
     ran-driven plain pass passes o d taken = record {
       acts = l.acts ++ d.acts;
       out = d.out;
@@ -581,7 +581,7 @@ module _ (words : List Word) (c : Command) (asked_for : command_of words ≡ Som
 
     -- The sample was
 
-    pub ran-sampled : (records : ℕ) → c.mode ≡ Sample records → (pass : Pass) → pass_of x.sheet ≡ Some pass → (end : RunEnd) → DrivesSample c.limits pass c.sheet records mid new end → DocumentsAreTaken → Runs words old new end
+    pub ran-sampled : (records : ℕ) → c.mode ≡ Sample records → (pass : Kinds) → pass_of x.sheet ≡ Some pass → (end : RunEnd) → DrivesSample c.limits pass c.sheet records mid new end → DocumentsAreTaken → Runs words old new end
     ran-sampled records sample pass passes end d taken =
         let o : Outcome = outcome_in end in
         let none : list_any is_main_read (l.acts ++ d.acts) ≡ false = list_any-append is_main_read l.acts d.acts ∙ ap (λ b. b || list_any is_main_read d.acts) l.did.no_main_read ∙ d.no_main_read in

@@ -8,7 +8,7 @@ use Rattle.stx_base.specs.declared.node.First.{First}
 use Rattle.xml_events.specs.Tree.{Why, Told, Leaf, Element, End, Single, Nested, Future, Ready}
 use Rattle.stx_engine.specs.Opens.{Open, opens_by}
 use Rattle.stx_base.specs.declared.name.Name.{Name}
-use Rattle.stx_engine.specs.declared.pass.Pass.{Pass}
+use Rattle.sheet_model.specs.declared.pass.Kinds.{Kinds}
 use Rattle.stx_engine.specs.Meaning.{end_parts, leaf_parts, start_parts}
 use Rattle.stx_engine.specs.More.{ended, rest}
 use Rattle.stx_engine.specs.Passed.{Passed, passed, put, then_put, unless_stopped}
@@ -26,7 +26,7 @@ then_put-then_put p q r = by_stop p.stop refl where
   by_stop None e = rw e (then_put-put p.parts q r)
   by_stop (Some why) e = rw e refl
 
-module _ (p : Pass) (scope : List Binding) where
+module _ (p : Kinds) (scope : List Binding) where
   -- what is put after the innermost list
   abbrev onwards : List Open → Future → Passed → Passed
   onwards [] lists q = q

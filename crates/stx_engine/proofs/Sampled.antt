@@ -32,7 +32,7 @@ use Rattle.stx_engine.specs.declared.engine.Engine.{Engine}
 use Rattle.stx_engine.specs.declared.engine.Piece.TheVariants.{Start, End}
 use Rattle.stx_engine.specs.declared.engine.Pumped.{Pumped}
 use Rattle.stx_engine.specs.declared.engine.Pumped.TheVariants as pumped
-use Rattle.stx_engine.specs.declared.pass.Pass.{Pass}
+use Rattle.sheet_model.specs.declared.pass.Kinds.{Kinds}
 use Rattle.stx_engine.specs.declared.run_end.RunEnd.{RunEnd}
 use Rattle.stx_engine.specs.declared.run_end.RunEnd.TheVariants.{Told, Sampled, Unnoted}
 use Rattle.stx_engine.specs.declared.run_end.Summary.{Summary}
@@ -98,7 +98,7 @@ unless-fails f offset P (Sheet reason) told = subst (λ x. UnlessFailed x P) (sy
 unless-fails f offset P (Xml file fault) told = subst (λ x. UnlessFailed x P) (sym told) tt
 unless-fails f offset P (Fuel file at) told = subst (λ x. UnlessFailed x P) (sym told) tt
 
-module _ (limits : Limits) (pass : Pass) (start : Engine) (records : ℕ) where
+module _ (limits : Limits) (pass : Kinds) (start : Engine) (records : ℕ) where
   abbrev document : List ℕ
   document = sample_of records
 

@@ -15,7 +15,7 @@ use Rattle.stx_engine.specs.Ending.{BeginningIsOpen, WholeIsOver}
 use Rattle.stx_engine.specs.Meaning.{Complete, Refused, Unready, end_parts, start_parts}
 use Rattle.stx_engine.specs.Passed.{Passed, once_ready, passed, put, run_from, then_put, unless_refused, unless_stopped, with_first}
 use Rattle.stx_engine.specs.Scope.{scope_within}
-use Rattle.stx_engine.specs.declared.pass.Pass.{Pass}
+use Rattle.sheet_model.specs.declared.pass.Kinds.{Kinds}
 use Rattle.stx_engine.proofs.Beginnings.{run-passed}
 
 then-stop : (p q : Passed) → (then_put p q).stop ≡ option_or p.stop q.stop
@@ -33,7 +33,7 @@ once-stop (Ready first) kids p s h = h
 once-stop (Entered first) kids p s h = h
 
 -- a list is put as far as it goes
-pub passed-stop : (p : Pass) (scope : List Binding) (f : Forest) → (passed p scope f).stop ≡ stop_in f
+pub passed-stop : (p : Kinds) (scope : List Binding) (f : Forest) → (passed p scope f).stop ≡ stop_in f
 passed-stop p scope (End m offset) = refl
 passed-stop p scope (Cut why) = refl
 passed-stop p scope (Single m leaf next) = passed-stop p scope next

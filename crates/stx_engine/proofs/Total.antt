@@ -7,7 +7,7 @@ use Rattle.stx_base.specs.declared.part.Part.{Part}
 use Rattle.result_writer.specs.Target.{fault}
 use Rattle.result_writer.specs.declared.fault.ResultFault.{ResultFault}
 use Rattle.xml_events.specs.Tree.{Forest, End, Cut, Single, Nested, Stage, Waiting, Ready, Entered}
-use Rattle.stx_engine.specs.declared.pass.Pass.{Pass}
+use Rattle.sheet_model.specs.declared.pass.Kinds.{Kinds}
 use Rattle.stx_engine.specs.Meaning.{Said, Ending, Here, State, Asked, Job, Nodes, Does, when_ready, start_parts, end_parts, leaf_parts, siblings, pass_leaf, pass_element, nodes, code, meaning, size, outcome, puts, unless_refused, with_part}
 use Rattle.stx_engine.specs.Scope.{scope_within}
 
@@ -57,11 +57,11 @@ module _ (limit : ℕ) where
   code_fits : (q : Job) → Pre q → Fits (weight q) (Post q) (code limit q)
   code_fits (Nodes list asked s) p = nodes_fit list asked s
 
-  meaning_fits : (pass : Pass) (tree : Forest) → Fits (size tree + 1) (λ a. ⊥) (meaning pass tree)
+  meaning_fits : (pass : Kinds) (tree : Forest) → Fits (size tree + 1) (λ a. ⊥) (meaning pass tree)
   meaning_fits pass tree = (tt, omega arith, λ r p. tt)
 
-  pub has_meaning : (pass : Pass) (tree : Forest) → (os : List Said) × (e : Ending) × Ends (code limit) (meaning pass tree) os e
+  pub has_meaning : (pass : Kinds) (tree : Forest) → (os : List Said) × (e : Ending) × Ends (code limit) (meaning pass tree) os e
   has_meaning pass tree = has_end weight Pre Post (code limit) code_fits (size tree + 1) (meaning pass tree) (meaning_fits pass tree)
 
-  pub outcome_is : (pass : Pass) (tree : Forest) (os : List Said) (e : Ending) → Ends (code limit) (meaning pass tree) os e → outcome limit pass tree ≡ Over os e
+  pub outcome_is : (pass : Kinds) (tree : Forest) (os : List Said) (e : Ending) → Ends (code limit) (meaning pass tree) os e → outcome limit pass tree ≡ Over os e
   outcome_is pass tree os e h = end_at weight Pre Post (code limit) code_fits (size tree + 1) (meaning pass tree) (meaning_fits pass tree) os e h

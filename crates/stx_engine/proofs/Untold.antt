@@ -21,7 +21,7 @@ use Rattle.stx_engine.specs.Doing.{AreUsual}
 use Rattle.stx_engine.specs.Plain.{pass_of}
 use Rattle.stx_engine.specs.RunEnd.{sample_of}
 use Rattle.stx_engine.proofs.Limited.{usual}
-use Rattle.stx_engine.specs.declared.pass.Pass.{Pass}
+use Rattle.sheet_model.specs.declared.pass.Kinds.{Kinds}
 
 by_ending : (name : List ℕ) (e : Ending) → ((fault : ResultFault) → e ≢ Refused fault) → status_of (outcome_of name e) ≢ 1
 by_ending name Complete h k = absurd (omega (arith, k))
@@ -34,10 +34,10 @@ only a b e h = subst (λ (x : Answer). x.status ≢ 1) (same_Some a b e) h
 
 module _ (taken : DocumentsAreTaken) where
   module _ (c : Command) (usual : AreUsual c.limits) (opened : List (List ℕ)) where
-    by_run : (pass : Pass) (main : List ℕ) → (ran c.sheet opened (run_on c.limits pass main true)).status ≢ 1
+    by_run : (pass : Kinds) (main : List ℕ) → (ran c.sheet opened (run_on c.limits pass main true)).status ≢ 1
     by_run pass main k = by_ending c.sheet (run_on c.limits pass main true).ending (λ fault. taken c.limits pass main true fault usual.below) k
 
-    by_mode : (m : Mode) (o : Option Pass) (main : List ℕ) (a : Answer) → mode_answer m c.limits c.sheet opened o main ≡ Some a → a.status ≢ 1
+    by_mode : (m : Mode) (o : Option Kinds) (main : List ℕ) (a : Answer) → mode_answer m c.limits c.sheet opened o main ≡ Some a → a.status ≢ 1
     by_mode Check o main a e = only (answered Done [] opened) a e (λ k. absurd (omega (arith, k)))
     by_mode Run None main a e = absurd (none-some a e)
     by_mode Run (Some pass) main a e = only (ran c.sheet opened (run_on c.limits pass main true)) a e (by_run pass main)

@@ -11,7 +11,7 @@ use Rattle.xml_events.specs.declared.event.Event.TheVariants as event
 use Rattle.xml_events.specs.declared.event.Pull.TheVariants as pull
 use Rattle.stx_engine.specs.Copying.{Copying}
 use Rattle.stx_engine.specs.Opens.{Open}
-use Rattle.stx_engine.specs.declared.pass.Pass.{Pass}
+use Rattle.sheet_model.specs.declared.pass.Kinds.{Kinds}
 use Rattle.stx_base.specs.declared.part.Part.{Part}
 use Rattle.result_writer.specs.Target.{Left, Target, fault, next, settles}
 use Rattle.result_writer.specs.declared.fault.ResultFault.{ResultFault}
@@ -37,7 +37,7 @@ same-reason Need (Bad f) h = absurd cc
 same-reason (Bad f) Need h = absurd cc
 same-reason (Bad f) (Bad g) h = cc
 
-module _ (p : Pass) (scope : List Binding) (why : Why) where
+module _ (p : Kinds) (scope : List Binding) (why : Why) where
   -- an element that isn't ready puts nothing
   start-stopped : (e : Element) (kids next : Forest) → start_pulled e kids ≡ no_event why → passed p scope (Nested (stage_by kids) e kids next) ≡ stopped why
   start-stopped e (Cut w) next h = ap stopped (same-reason w why h)
@@ -105,7 +105,7 @@ end-within (Nested mark e (Nested m f kids more) next ∷ lists) offset h = absu
 
 -- Where nothing is known nothing is complete
 
-rest-nothing : (p : Pass) (scope : List Binding) (os : List Open) → (rest p scope os []).stop ≡ Some Need
+rest-nothing : (p : Kinds) (scope : List Binding) (os : List Open) → (rest p scope os []).stop ≡ Some Need
 rest-nothing p scope [] = refl
 rest-nothing p scope (o ∷ os) = refl
 

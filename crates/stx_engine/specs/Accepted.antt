@@ -13,7 +13,7 @@ use Rattle.stx_engine.specs.Answer.{Answer, answer, result_of, run_of, run_on}
 use Rattle.stx_engine.specs.Meaning.{Refused, outcome}
 use Rattle.stx_engine.specs.Nesting.{EndsHaveStarts}
 use Rattle.stx_engine.specs.Output.{output}
-use Rattle.stx_engine.specs.declared.pass.Pass.{Pass}
+use Rattle.sheet_model.specs.declared.pass.Kinds.{Kinds}
 
 abbrev pub is_good_leaf : Leaf → Bool
 is_good_leaf (Chars offset text) = are_chars text
@@ -36,7 +36,7 @@ is_good room (Nested m e kids next) = nat_lt 0 room && (is_good_element e && (is
 
 -- No result refuses a part of such a document, where so many of its elements may be open.
 abbrev pub TakesGood : Type 0
-TakesGood = (limit : ℕ) (pass : Pass) (tree : Forest) (fault : ResultFault) → is_good limit tree ≡ true → (run_of (outcome limit pass tree)).ending ≢ Refused fault
+TakesGood = (limit : ℕ) (pass : Kinds) (tree : Forest) (fault : ResultFault) → is_good limit tree ≡ true → (run_of (outcome limit pass tree)).ending ≢ Refused fault
 
 -- all prefixes that are declared are names, or none
 abbrev pub declares_names : Forest → Bool
@@ -48,7 +48,7 @@ declares_names (Nested m e kids next) = list_all (λ b. is_prefix b.prefix) e.de
 -- No end tag in a result of such a document lacks its start tag, wherever the result stops.
 abbrev pub RunsNest : Type 0
 RunsNest =
-    (limit : ℕ) (pass : Pass) (tree : Forest) (front : List ℕ)
+    (limit : ℕ) (pass : Kinds) (tree : Forest) (front : List ℕ)
     → declares_names tree ≡ true
     → Begins front (output (run_of (outcome limit pass tree)).parts)
     → EndsHaveStarts front
@@ -56,14 +56,14 @@ RunsNest =
 -- A result takes all parts of a document, where as many elements of it may be open as of the document.
 abbrev pub DocumentsAreTaken : Type 0
 DocumentsAreTaken =
-    (limits : Limits) (pass : Pass) (bytes : List ℕ) (ended : Bool) (fault : ResultFault)
+    (limits : Limits) (pass : Kinds) (bytes : List ℕ) (ended : Bool) (fault : ResultFault)
     → limits.depth ≤ limits.elements
     → (run_on limits pass bytes ended).ending ≢ Refused fault
 
 -- No end tag in a result lacks its start tag, wherever the result stops.
 abbrev pub DocumentsNest : Type 0
 DocumentsNest =
-    (limits : Limits) (pass : Pass) (bytes : List ℕ) (ended : Bool) (front : List ℕ)
+    (limits : Limits) (pass : Kinds) (bytes : List ℕ) (ended : Bool) (front : List ℕ)
     → Begins front (result_of (run_on limits pass bytes ended))
     → EndsHaveStarts front
 

@@ -18,7 +18,7 @@ use Rattle.stx_host.specs.Outside.{document}
 use Rattle.stx_host.specs.declared.act.Doc.{Doc}
 use Rattle.fault_report.specs.declared.outcome.Outcome.{Outcome}
 use Rattle.fault_report.specs.declared.outcome.Outcome.TheVariants.{Done, Run as Stopped, Usage, Sheet, Xml, Memory}
-use Rattle.stx_engine.specs.declared.pass.Pass.{Pass}
+use Rattle.sheet_model.specs.declared.pass.Kinds.{Kinds}
 use Rattle.fault_report.specs.Line.{line_of, status_of}
 use Rattle.result_writer.specs.declared.fault.ResultFault.{ResultFault}
 use Rattle.result_writer.specs.declared.fault.ResultFault.TheVariants as fault
@@ -45,7 +45,7 @@ run_of (Given said here) = record { parts = parts_put said; ending = Unready Nee
 run_of (Unknown said) = record { parts = parts_put said; ending = Unready Need }
 
 -- a run on a document's bytes, of which these are all, or where it isn't ended the first ones
-abbrev pub run_on : Limits → Pass → List ℕ → (ended : Bool) → Gives
+abbrev pub run_on : Limits → Kinds → List ℕ → (ended : Bool) → Gives
 run_on limits pass bytes ended = run_of (outcome limits.elements pass (doc limits false bytes ended))
 
 -- the bytes of a run's result
@@ -53,7 +53,7 @@ abbrev pub result_of : Gives → List ℕ
 result_of run = output run.parts
 
 -- what is settled of the result once these first bytes of a document are read
-abbrev pub settled : Limits → Pass → List ℕ → List ℕ
+abbrev pub settled : Limits → Kinds → List ℕ → List ℕ
 settled limits pass bytes = result_of (run_on limits pass bytes false)
 
 -- what is written to the two lanes, the status, and the names that are opened, in order
@@ -111,7 +111,7 @@ asks_any_run words = option_map_or (λ c. is_any_run c.mode) (command_of words) 
 -- what a run is made with
 pub record Plan : Type 0 where
   pub limits : Limits
-  pub pass : Pass
+  pub pass : Kinds
 
 -- what comes of the sheet that a command names: the names of its files, in the order in which they are opened, and the sheet or its
 -- first fault
@@ -123,7 +123,7 @@ accepted (Ok sheet) = Some sheet
 accepted (Err fault) = None
 
 -- the run on the main document that is asked for, where the words and the sheet are accepted, and the sheet passes documents through
-abbrev pub plan_by : Mode → Limits → Option Pass → Option Plan
+abbrev pub plan_by : Mode → Limits → Option Kinds → Option Plan
 plan_by Run limits pass = option_map (λ pass. record { limits = limits; pass = pass }) pass
 plan_by mode limits pass = None
 
@@ -143,7 +143,7 @@ sampled name opened records run =
     record (ran name opened run) { note = line_in (on_sample (summary_of records (result_of run)) (outcome_of name run.ending)) }
 
 -- what is answered with a sheet that is accepted: to a run only where it passes documents through
-abbrev pub mode_answer : Mode → Limits → (name : List ℕ) → (opened : List (List ℕ)) → Option Pass → (main : List ℕ) → Option Answer
+abbrev pub mode_answer : Mode → Limits → (name : List ℕ) → (opened : List (List ℕ)) → Option Kinds → (main : List ℕ) → Option Answer
 mode_answer Check limits name opened pass main = Some (answered Done [] opened)
 mode_answer Run limits name opened pass main = option_map (λ pass. ran name opened (run_on limits pass main true)) pass
 mode_answer (Sample records) limits name opened pass main =

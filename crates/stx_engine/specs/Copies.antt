@@ -9,10 +9,11 @@ use Rattle.result_writer.specs.declared.escape.Context.TheVariants.{Content}
 use Rattle.xml_events.specs.Document.{doc}
 use Rattle.xml_events.specs.Tree.{Chars, CData, Comment, Pi, Forest, End, Cut, Single, Nested}
 use Rattle.run_engine.specs.Run.{head}
+use Rattle.sheet_model.specs.Passing.{all_kinds, kinds, no_kind}
+use Rattle.sheet_model.specs.declared.pass.Pass.TheVariants as pass
 use Rattle.stx_engine.specs.Answer.{result_of, run_of, run_on}
 use Rattle.stx_engine.specs.Meaning.{Complete, outcome}
 use Rattle.stx_engine.specs.Scope.{scope_within}
-use Rattle.stx_engine.specs.declared.pass.Pass.TheVariants as pass
 
 -- a tree as nodes of a result, each element with the bindings in force in it
 abbrev pub nodes_of : (scope : List Binding) → Forest → Nodes
@@ -40,22 +41,22 @@ all_text (Nested m e kids next) = all_text kids ++ all_text next
 abbrev pub CopiesAll : Type 0
 CopiesAll =
     (limit : ℕ) (tree : Forest)
-    → let run = run_of (outcome limit pass.All tree) in run.ending ≡ Complete → run.parts ≡ parts_of (nodes_of [] tree)
+    → let run = run_of (outcome limit all_kinds tree) in run.ending ≡ Complete → run.parts ≡ parts_of (nodes_of [] tree)
 
 -- A document that is copied to its end is written as its nodes.
 abbrev pub WritesDocuments : Type 0
 WritesDocuments =
     (limits : Limits) (bytes : List ℕ) (ended : Bool)
-    → let run = run_on limits pass.All bytes ended in
+    → let run = run_on limits all_kinds bytes ended in
     run.ending ≡ Complete → result_of run ≡ head ++ written [] (nodes_of [] (doc limits false bytes ended))
 
 -- One of which the texts are copied to its end is written as these.
 abbrev pub WritesTexts : Type 0
 WritesTexts =
     (limits : Limits) (bytes : List ℕ) (ended : Bool)
-    → let run = run_on limits pass.Chars bytes ended in
+    → let run = run_on limits (kinds pass.Chars) bytes ended in
     run.ending ≡ Complete → result_of run ≡ head ++ escaped Content (encode_utf8_all (all_text (doc limits false bytes ended)))
 
 -- Where nothing is copied, no part is put.
 abbrev pub CopiesNothing : Type 0
-CopiesNothing = (limit : ℕ) (tree : Forest) → (run_of (outcome limit pass.None tree)).parts ≡ []
+CopiesNothing = (limit : ℕ) (tree : Forest) → (run_of (outcome limit no_kind tree)).parts ≡ []

@@ -29,7 +29,7 @@ use Rattle.sheet_runs.specs.declared.run.Ran.{Ran}
 use Rattle.stx_engine.specs.Driving.{Drives, DrivesSample}
 use Rattle.stx_engine.specs.Plain.{pass_of}
 use Rattle.stx_engine.specs.RunEnd.{end_of_run, end_of_sample}
-use Rattle.stx_engine.specs.declared.pass.Pass.{Pass}
+use Rattle.sheet_model.specs.declared.pass.Kinds.{Kinds}
 use Rattle.stx_engine.specs.declared.run_end.RunEnd.{RunEnd}
 use Rattle.stx_engine.specs.declared.run_end.RunEnd.TheVariants.{Told}
 
@@ -66,9 +66,9 @@ pub data Does (c : Command) (sheet : Sheet) (old new : Outside) (end : RunEnd) :
   -- nothing: the sheet alone was asked for
   Checks : c.mode ≡ Check → new ≡ old → end ≡ Told Done → Does c sheet old new end
   -- the main document, or the sample, was passed through
-  Passes : c.mode ≡ AsksRun → (pass : Pass) → pass_of sheet ≡ Some pass → (o : Outcome) → Drives c.limits pass c.sheet old new o → end ≡ Told o
+  Passes : c.mode ≡ AsksRun → (pass : Kinds) → pass_of sheet ≡ Some pass → (o : Outcome) → Drives c.limits pass c.sheet old new o → end ≡ Told o
       → Does c sheet old new end
-  PassesSample : (records : ℕ) → c.mode ≡ Sample records → (pass : Pass) → pass_of sheet ≡ Some pass → DrivesSample c.limits pass c.sheet records old new end
+  PassesSample : (records : ℕ) → c.mode ≡ Sample records → (pass : Kinds) → pass_of sheet ≡ Some pass → DrivesSample c.limits pass c.sheet records old new end
       → Does c sheet old new end
   -- it was run by the sheet
   RunsIt : c.mode ≡ AsksRun → pass_of sheet ≡ None → (ran : Ran) → RunsAny c.limits sheet main.Host old new ran → end ≡ end_of_run ran.end

@@ -18,7 +18,7 @@ use Rattle.xml_events.specs.Tree.{Need}
 use Rattle.fault_report.specs.declared.outcome.HostFault.TheVariants as fault
 use Rattle.fault_report.specs.declared.outcome.Outcome.{Outcome}
 use Rattle.fault_report.specs.declared.outcome.Outcome.TheVariants.{Done, Run, Usage, Sheet, Host, Fuel, Memory}
-use Rattle.stx_engine.specs.declared.pass.Pass.{Pass}
+use Rattle.sheet_model.specs.declared.pass.Kinds.{Kinds}
 use Rattle.stx_engine.specs.RunEnd.{on_sample, outcome_in, sample_of, summary_of}
 use Rattle.stx_engine.specs.declared.run_end.RunEnd.{RunEnd}
 use Rattle.stx_engine.specs.declared.run_end.RunEnd.TheVariants.{Unnoted}
@@ -40,7 +40,7 @@ FailedAt outcome acts out = Unit {0}
 
 -- Before a read of the main document: all that its first bytes settle was written to `Out`, and no more; and the run on them
 -- waits for more.
-pub record IsSettledAt (limits : Limits) (pass : Pass) (bytes : List ℕ) (taken : Taken) : Type 0 where
+pub record IsSettledAt (limits : Limits) (pass : Kinds) (bytes : List ℕ) (taken : Taken) : Type 0 where
   pub out : taken.out ≡ settled limits pass bytes
   pub note : taken.note ≡ []
   pub needs : (run_on limits pass bytes false).ending ≡ Unready Need
@@ -52,14 +52,14 @@ UnlessFailed Memory P = Unit {0}
 UnlessFailed outcome P = P
 
 -- a part is refused only where the run on some document ends so, and no fuel is spent
-abbrev pub RefusesSome : Limits → Pass → Outcome → Type 0
+abbrev pub RefusesSome : Limits → Kinds → Outcome → Type 0
 RefusesSome limits pass (Run file code offset) =
     (bytes : List ℕ) × (ended : Bool) × (fault : ResultFault) × ((run_on limits pass bytes ended).ending ≡ Refuses fault)
 RefusesSome limits pass (Fuel file offset) = ⊥
 RefusesSome limits pass outcome = Unit {0}
 
 -- how a run ends that the host and memory let end: all of its result was written
-abbrev pub EndsAs : Limits → Pass → (sheet main out : List ℕ) → Outcome → Type 0
+abbrev pub EndsAs : Limits → Kinds → (sheet main out : List ℕ) → Outcome → Type 0
 EndsAs limits pass sheet main out outcome =
     let run = run_on limits pass main true in
     UnlessFailed outcome ((out ≡ result_of run) × (outcome ≡ outcome_of sheet run.ending))
@@ -69,14 +69,14 @@ abbrev pub ReadsAll : (main : List ℕ) → List Act → (ended : Bool) → Outc
 ReadsAll main acts ended outcome = outcome ≡ Done → (ended ≡ true) × (main_read acts ≡ length main)
 
 -- what was written of a main document's result, at each read and in the end
-pub record WritesResult (limits : Limits) (pass : Pass) (sheet main : List ℕ) (acts : List Act) (ended : Bool) (out : List ℕ) (outcome : Outcome) : Type 0 where
+pub record WritesResult (limits : Limits) (pass : Kinds) (sheet main : List ℕ) (acts : List Act) (ended : Bool) (out : List ℕ) (outcome : Outcome) : Type 0 where
   pub reads : AtMainReads acts out [] (λ taken. IsSettledAt limits pass (take taken.main_read main) taken)
   pub prefix : Begins out (result_of (run_on limits pass main true))
   pub ends : EndsAs limits pass sheet main out outcome
   pub all : ReadsAll main acts ended outcome
 
 -- what a run did with the main document and to `Out`, and how it ended
-pub record Drives (limits : Limits) (pass : Pass) (sheet : List ℕ) (old new : Outside) (outcome : Outcome) : Type 0 where
+pub record Drives (limits : Limits) (pass : Kinds) (sheet : List ℕ) (old new : Outside) (outcome : Outcome) : Type 0 where
   pub acts : List Act
   pub out : List ℕ
   pub between : Between old new acts out []
@@ -91,13 +91,13 @@ pub record Drives (limits : Limits) (pass : Pass) (sheet : List ℕ) (old new : 
   pub told : (main : List ℕ) → old.to_come 0 ≡ Some main → WritesResult limits pass sheet main acts ended out outcome
 
 -- how a run on the sample ends that the host and memory let end: all of its result was written
-abbrev pub EndsSample : Limits → Pass → (sheet : List ℕ) → (records : ℕ) → (out : List ℕ) → RunEnd → Type 0
+abbrev pub EndsSample : Limits → Kinds → (sheet : List ℕ) → (records : ℕ) → (out : List ℕ) → RunEnd → Type 0
 EndsSample limits pass sheet records out end =
     let run = run_on limits pass (sample_of records) true in
     UnlessFailed (outcome_in end) ((out ≡ result_of run) × (end ≡ on_sample (summary_of records out) (outcome_of sheet run.ending)))
 
 -- what a run on the sample did, of which nothing is read, and how it ended
-pub record DrivesSample (limits : Limits) (pass : Pass) (sheet : List ℕ) (records : ℕ) (old new : Outside) (end : RunEnd) : Type 0 where
+pub record DrivesSample (limits : Limits) (pass : Kinds) (sheet : List ℕ) (records : ℕ) (old new : Outside) (end : RunEnd) : Type 0 where
   pub acts : List Act
   pub out : List ℕ
   pub between : Between old new acts out []

@@ -4,12 +4,12 @@ use Rattle.stx_base.specs.declared.limits.Limits.{Limits}
 use Rattle.xml_events.specs.Tree.{Need}
 use Rattle.stx_engine.specs.Answer.{run_on}
 use Rattle.stx_engine.specs.Meaning.{Complete, Unready}
-use Rattle.stx_engine.specs.declared.pass.Pass.{Pass}
+use Rattle.sheet_model.specs.declared.pass.Kinds.{Kinds}
 
 -- A run on a whole document needs no more of it.
 abbrev pub WholeIsOver : Type 0
-WholeIsOver = (limits : Limits) (pass : Pass) (bytes : List ℕ) → (run_on limits pass bytes true).ending ≢ Unready Need
+WholeIsOver = (limits : Limits) (pass : Kinds) (bytes : List ℕ) → (run_on limits pass bytes true).ending ≢ Unready Need
 
 -- A run on a document's first bytes is not done.
 abbrev pub BeginningIsOpen : Type 0
-BeginningIsOpen = (limits : Limits) (pass : Pass) (bytes : List ℕ) → (run_on limits pass bytes false).ending ≢ Complete
+BeginningIsOpen = (limits : Limits) (pass : Kinds) (bytes : List ℕ) → (run_on limits pass bytes false).ending ≢ Complete

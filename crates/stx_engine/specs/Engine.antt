@@ -21,7 +21,7 @@ use Rattle.stx_engine.specs.declared.engine.Reading.{Reading}
 use Rattle.stx_engine.specs.declared.engine.Reading.TheVariants as reading
 use Rattle.fault_report.specs.declared.outcome.Outcome.{Outcome}
 use Rattle.fault_report.specs.declared.outcome.Outcome.TheVariants.{Done, Run, Xml, Memory}
-use Rattle.stx_engine.specs.declared.pass.Pass.{Pass}
+use Rattle.sheet_model.specs.declared.pass.Kinds.{Kinds}
 
 -- the document that goes on may be handed more bytes, or its end
 abbrev pub Expects : Reader → Piece → Type 0
@@ -72,7 +72,7 @@ pub record IsWaiting (e : Engine) : Type 0 where
   pub nothing : more e [] false ≡ record { bytes = []; ending = Unready Need }
 
 -- what an engine gives is the text of the run on its document, and how that run ends
-abbrev pub Means : Limits → Pass → Engine → Type 0
+abbrev pub Means : Limits → Kinds → Engine → Type 0
 Means limits pass e =
     (bytes : List ℕ) (ended : Bool) → let run = run_on limits pass bytes ended in
     ((more e bytes ended).bytes ≡ text run.parts) × ((more e bytes ended).ending ≡ run.ending)

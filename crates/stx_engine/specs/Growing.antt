@@ -9,19 +9,19 @@ use Rattle.sheet_loader.specs.Values.{Reads}
 use Rattle.stx_engine.specs.Answer.{Plan, answer, asked, result_of, run_of, run_on, settled}
 use Rattle.stx_engine.specs.Meaning.{Unready, outcome}
 use Rattle.stx_engine.specs.Output.{output}
-use Rattle.stx_engine.specs.declared.pass.Pass.{Pass}
+use Rattle.sheet_model.specs.declared.pass.Kinds.{Kinds}
 
 -- What is settled stays so.
 abbrev pub SettledStays : Type 0
 SettledStays =
-    (limit : ℕ) (pass : Pass) (old new : Forest)
+    (limit : ℕ) (pass : Kinds) (old new : Forest)
     → Grows old new
     → Begins (output (run_of (outcome limit pass old)).parts) (output (run_of (outcome limit pass new)).parts)
 
 -- A run that needs no more of the document is over.
 abbrev pub OverStays : Type 0
 OverStays =
-    (limit : ℕ) (pass : Pass) (old new : Forest)
+    (limit : ℕ) (pass : Kinds) (old new : Forest)
     → Grows old new
     → (run_of (outcome limit pass old)).ending ≢ Unready Need
     → run_of (outcome limit pass new) ≡ run_of (outcome limit pass old)
@@ -29,13 +29,13 @@ OverStays =
 -- What a document's first bytes settle stays so, whatever bytes follow.
 abbrev pub BytesStay : Type 0
 BytesStay =
-    (limits : Limits) (pass : Pass) (bytes more : List ℕ) (ended : Bool)
+    (limits : Limits) (pass : Kinds) (bytes more : List ℕ) (ended : Bool)
     → Begins (settled limits pass bytes) (result_of (run_on limits pass (bytes ++ more) ended))
 
 -- A run that needs no more of the document is over.
 abbrev pub RunStays : Type 0
 RunStays =
-    (limits : Limits) (pass : Pass) (bytes more : List ℕ) (ended : Bool)
+    (limits : Limits) (pass : Kinds) (bytes more : List ℕ) (ended : Bool)
     → (run_on limits pass bytes false).ending ≢ Unready Need
     → run_on limits pass (bytes ++ more) ended ≡ run_on limits pass bytes false
 

@@ -1,5 +1,5 @@
 -- What a run does with a document's tree.
-use Rattle.std.specs.Prelude.{ℕ, ◌+◌, if◌then◌else◌, List, [], ◌∷◌, map, Option, Some, None}
+use Rattle.std.specs.Prelude.{ℕ, ◌+◌, Bool, if◌then◌else◌, List, [], ◌∷◌, map, Option, Some, None}
 use Rattle.stx_base.specs.Course.{Course, Ret, Halt, Say, Ask, and_then, Answer, value, run}
 use Rattle.stx_base.specs.declared.name.Attr.{Attr}
 use Rattle.stx_base.specs.declared.name.Binding.{Binding}
@@ -11,8 +11,7 @@ use Rattle.result_writer.specs.declared.fault.ResultFault.{ResultFault}
 use Rattle.result_writer.specs.declared.fault.ResultFault.TheVariants.{UnclosedResult}
 use Rattle.xml_events.specs.Tree.{Why, Begun, Stage, Waiting, Ready, Entered, Leaf, Chars, CData, Comment, Pi, Element, Forest, End, Cut, Single, Nested}
 use Rattle.stx_engine.specs.Scope.{scope_within}
-use Rattle.stx_engine.specs.declared.pass.Pass.{Pass}
-use Rattle.stx_engine.specs.declared.pass.Pass.TheVariants as pass
+use Rattle.sheet_model.specs.declared.pass.Kinds.{Kinds}
 
 -- what a run says: a part of the result
 pub data Said : Type 0 where
@@ -37,7 +36,7 @@ pub record Here : Type 0 where
 
 -- what asked for a list of nodes: the pass-through that is in force for it, and the bindings
 pub record Asked : Type 0 where
-  pub pass : Pass
+  pub pass : Kinds
   pub scope : List Binding
 
 -- what is done by recursion: a list of nodes
@@ -59,28 +58,26 @@ when_ready Waiting (Nested m element kids next) go = go
 abbrev pub attribute_part : Attr → Part
 attribute_part a = part.Attribute a.name a.value
 
--- the parts of an element's start, where these bindings are in force within it, and of its end, where elements are copied
-abbrev pub start_parts : Pass → (scope : List Binding) → Name → List Attr → List Part
-start_parts pass.All scope name attrs = part.Start name scope ∷ map attribute_part attrs
-start_parts pass.Chars scope name attrs = []
-start_parts pass.None scope name attrs = []
+-- the parts of a node of a kind that is copied
+abbrev pub parts_if : (copied : Bool) → List Part → List Part
+parts_if copied parts = if copied then parts else []
 
-abbrev pub end_parts : Pass → Name → List Part
-end_parts pass.All name = part.End name ∷ []
-end_parts pass.Chars name = []
-end_parts pass.None name = []
+abbrev pub copied_attrs : Kinds → List Attr → List Attr
+copied_attrs pass attrs = if pass.attributes then attrs else []
 
--- The part of another node, where such nodes are copied. CDATA sections aren't recognised, so that none is a node; it would be text.
-abbrev pub leaf_parts : Pass → Leaf → List Part
-leaf_parts pass.All (Chars offset text) = part.Chars text ∷ []
-leaf_parts pass.All (CData offset text) = part.Chars text ∷ []
-leaf_parts pass.All (Comment offset text) = part.Comment text ∷ []
-leaf_parts pass.All (Pi offset target text) = part.Pi target text ∷ []
-leaf_parts pass.Chars (Chars offset text) = part.Chars text ∷ []
-leaf_parts pass.Chars (CData offset text) = part.Chars text ∷ []
-leaf_parts pass.Chars (Comment offset text) = []
-leaf_parts pass.Chars (Pi offset target text) = []
-leaf_parts pass.None leaf = []
+-- the parts of an element's start, where these bindings are in force within it, and of its end
+abbrev pub start_parts : Kinds → (scope : List Binding) → Name → List Attr → List Part
+start_parts pass scope name attrs = parts_if pass.elements (part.Start name scope ∷ map attribute_part (copied_attrs pass attrs))
+
+abbrev pub end_parts : Kinds → Name → List Part
+end_parts pass name = parts_if pass.elements (part.End name ∷ [])
+
+-- The part of another node. CDATA sections aren't recognised, so that none is a node; it would be text.
+abbrev pub leaf_parts : Kinds → Leaf → List Part
+leaf_parts pass (Chars offset text) = parts_if pass.text (part.Chars text ∷ [])
+leaf_parts pass (CData offset text) = parts_if pass.text (part.Chars text ∷ [])
+leaf_parts pass (Comment offset text) = parts_if pass.comments (part.Comment text ∷ [])
+leaf_parts pass (Pi offset target text) = parts_if pass.instructions (part.Pi target text ∷ [])
 
 -- the siblings that remain
 abbrev pub siblings : Asked → Here → Does
@@ -131,7 +128,7 @@ abbrev pub ending_of : Left → Ending
 ending_of l = if is_closed l.elements l.held then Complete else Refused UnclosedResult
 
 -- what a run does: the document node's children are processed
-abbrev pub meaning : Pass → Forest → Does
+abbrev pub meaning : Kinds → Forest → Does
 meaning pass tree = Ask (Nodes tree (record { pass = pass; scope = [] }) (record { result = nothing })) (λ a. Halt (ending_of a.state.result))
 
 -- how much there is of a tree
@@ -142,5 +139,5 @@ size (Single m leaf next) = size next + 1
 size (Nested m e kids next) = size kids + size next + 1
 
 -- what a run says, and how it ends, where so many elements of the result may be open: calls are never nested deeper
-abbrev pub outcome : (limit : ℕ) → Pass → Forest → Answer Here Said Ending
+abbrev pub outcome : (limit : ℕ) → Kinds → Forest → Answer Here Said Ending
 outcome limit pass tree = value (run (code limit) (size tree + 1)) (meaning pass tree)

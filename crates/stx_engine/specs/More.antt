@@ -21,7 +21,7 @@ use Rattle.stx_engine.specs.Scope.{scope_within}
 use Rattle.stx_engine.specs.Copying.{Copying}
 use Rattle.stx_engine.specs.declared.copier.Turn.{Turn}
 use Rattle.stx_engine.specs.declared.copier.Turn.TheVariants.{More, Over}
-use Rattle.stx_engine.specs.declared.pass.Pass.{Pass}
+use Rattle.sheet_model.specs.declared.pass.Kinds.{Kinds}
 
 -- the bytes that still come, and how the run ends behind them
 pub record Given : Type 0 where
@@ -43,7 +43,7 @@ given limit l (p ∷ ps) stop = unless_refused (fault limit l p) (ahead (settles
 
 -- what the open lists still put on a future, from the innermost outwards: each the nodes still to come, and then the end of its element;
 -- these bindings are in force in the innermost
-abbrev pub rest : Pass → (scope : List Binding) → List Open → Future → Passed
+abbrev pub rest : Kinds → (scope : List Binding) → List Open → Future → Passed
 rest pass scope [] f = passed pass scope (inner f)
 rest pass scope (o ∷ os) f =
     then_put (passed pass scope (inner f)) (put (end_parts pass o.name) (rest pass (unwrap_or o.outer scope) os (outer f)))
@@ -110,7 +110,7 @@ start_ahead c name attrs decls f =
     (put (start_parts c.pass within name attrs) (rest c.pass within (record { name = name; outer = Some c.scope } ∷ opens c) f))
 
 -- where it is the end of the innermost list: the document's, if no element is open
-abbrev pub ended : Pass → (scope : List Binding) → List Open → Future → Passed
+abbrev pub ended : Kinds → (scope : List Binding) → List Open → Future → Passed
 ended pass scope [] f = record { parts = []; stop = None }
 ended pass scope (o ∷ os) f = put (end_parts pass o.name) (rest pass (unwrap_or o.outer scope) os f)
 

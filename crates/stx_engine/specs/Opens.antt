@@ -1,12 +1,11 @@
 -- The open elements of a run.
-use Rattle.std.specs.Prelude.{List, [], ◌∷◌, Option, Some, None, codes, drop, map}
+use Rattle.std.specs.Prelude.{if◌then◌else◌, List, [], ◌∷◌, Option, Some, None, codes, drop, map}
 use Rattle.stx_base.specs.declared.name.Binding.{Binding}
 use Rattle.stx_base.specs.declared.name.Name.{Name}
 use Rattle.result_writer.specs.Target as target
 use Rattle.result_writer.specs.Target.{Left}
 use Rattle.result_writer.specs.declared.tag.HeldTag.{HeldTag}
-use Rattle.stx_engine.specs.declared.pass.Pass.{Pass}
-use Rattle.stx_engine.specs.declared.pass.Pass.TheVariants as pass
+use Rattle.sheet_model.specs.declared.pass.Kinds.{Kinds}
 
 -- an open element, and the bindings in force around it, where it has declarations
 pub record Open : Type 0 where
@@ -25,16 +24,12 @@ abbrev pub names_of : Left → List Name
 names_of l = names_by l.elements l.held
 
 -- those of the elements whose ends are put
-abbrev pub names_in : Pass → Left → List Name
-names_in pass.All l = names_of l
-names_in pass.Chars l = []
-names_in pass.None l = []
+abbrev pub names_in : Kinds → Left → List Name
+names_in pass l = if pass.elements then names_of l else []
 
 -- behind the start of an element
-abbrev pub names_behind : Pass → Name → Left → List Name
-names_behind pass.All name l = name ∷ names_of l
-names_behind pass.Chars name l = []
-names_behind pass.None name l = []
+abbrev pub names_behind : Kinds → Name → Left → List Name
+names_behind pass name l = if pass.elements then name ∷ names_of l else []
 
 -- where no name is left any good one will do: its end is then `UnmatchedEnd`, and not `BadName`
 abbrev pub first_name : List Name → Name

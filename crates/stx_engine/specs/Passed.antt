@@ -7,7 +7,7 @@ use Rattle.result_writer.specs.declared.fault.ResultFault.{ResultFault}
 use Rattle.xml_events.specs.Tree.{Why, Stage, Waiting, Ready, Entered, Forest, End, Cut, Single, Nested}
 use Rattle.stx_engine.specs.Meaning.{Ending, Unready, Refused, ending_of, end_parts, leaf_parts, start_parts}
 use Rattle.stx_engine.specs.Scope.{scope_within}
-use Rattle.stx_engine.specs.declared.pass.Pass.{Pass}
+use Rattle.sheet_model.specs.declared.pass.Kinds.{Kinds}
 
 -- the parts that are to be put, and why nothing follows them, if so
 pub record Passed : Type 0 where
@@ -39,7 +39,7 @@ once_ready (Ready first) kids p = p
 once_ready (Entered first) kids p = p
 
 -- what a list of nodes puts, where these bindings are in force around it
-abbrev pub passed : Pass → (scope : List Binding) → Forest → Passed
+abbrev pub passed : Kinds → (scope : List Binding) → Forest → Passed
 passed pass scope (End m offset) = record { parts = []; stop = None }
 passed pass scope (Cut why) = stopped why
 passed pass scope (Single m leaf next) = put (leaf_parts pass leaf) (passed pass scope next)

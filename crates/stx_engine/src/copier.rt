@@ -1,17 +1,16 @@
-ghost use Rattle.std.specs.Prelude.{◌≡◌, ◌∷◌, [], None, IfOk, Ok, OnOk, length, map, suc, unwrap_or};
+ghost use Rattle.std.specs.Prelude.{◌≡◌, ◌∷◌, [], true, None, IfOk, Ok, OnOk, length, map, suc, unwrap_or};
 ghost use Rattle.result_writer.specs.Target.{fresh};
 ghost use Rattle.stx_base.specs.declared.part.Part.TheVariants as part;
 ghost use Rattle.xml_events.specs.Tree.{Chars, Comment, Pi};
-ghost use Rattle.stx_engine.specs.Meaning.{attribute_part, leaf_parts, start_parts};
+ghost use Rattle.stx_engine.specs.Meaning.{attribute_part, copied_attrs, leaf_parts, start_parts};
 ghost use Rattle.stx_engine.specs.More.{begin_ahead, close_ahead, end_ahead, given_by, leaf_ahead, start_ahead, Opened, Puts, Takes};
 ghost use Rattle.stx_engine.specs.Scope.{scope_within};
 ghost use Rattle.stx_engine.specs.Opens.{names_behind, names_in, names_of};
 ghost use Rattle.stx_engine.specs.declared.copier.Turn.TheVariants as turn;
-ghost use Rattle.stx_engine.specs.declared.pass.Pass.TheVariants as pass;
 
-use crate::pass::Pass;
 use crate::scope::scope_within;
 use result_writer::{WriteStop, Writer};
+use sheet_model::Kinds;
 use std::alloc::Global;
 use std::marker::Model;
 use std::mem;
@@ -29,7 +28,7 @@ pub enum Turn {
 #[derive(Debug, Drop)]
 pub struct Copier {
     alloc: Global,
-    pass: Pass,
+    pass: Kinds,
     /// The bindings in force in the innermost open element.
     scope: List<Binding>,
     /// Whether the writer's last start was in this scope, as most are. So it needn't be compared.
@@ -54,7 +53,7 @@ impl Model for Copier {
 
 impl Copier {
     /// A copier of a document that begins, into a result in which at most `limit` elements may be open at once.
-    pub fn new(alloc: Global, limit: u32, pass: Pass) -> Copier
+    pub fn new(alloc: Global, limit: u32, pass: Kinds) -> Copier
         ensures pass { result.pass ≡ pass }
         ensures scope { result.scope ≡ [] }
         ensures around { result.around ≡ [] }
@@ -182,9 +181,23 @@ impl Copier {
         ensures names { OnOk result (names_in self.old.pass self.new.writer.left ≡ names_behind self.old.pass name self.old.writer.left) }
         ensures others { self.new ≡ record self.old { writer = self.new.writer } }
     {
-        match self.pass {
-            Pass::All => self.put_start_tag(name, attrs, spare, out),
-            Pass::Chars | Pass::None => Ok(()),
+        if self.pass.elements {
+            let copied = self.copied(attrs);
+            self.put_start_tag(name, copied, spare, out)
+        } else {
+            Ok(())
+        }
+    }
+
+    // The attributes of an element that are copied.
+    #[inline(always)]
+    fn copied(&self, attrs: List<Attr>) -> List<Attr>
+        ensures { result ≡ copied_attrs self.now.pass attrs }
+    {
+        if self.pass.attributes {
+            attrs
+        } else {
+            List::new(self.alloc)
         }
     }
 
@@ -226,10 +239,10 @@ impl Copier {
         ensures takes { Takes (leaf_ahead self.old (leaf_parts self.old.pass (Chars 0 text.now))) self.new out.old.items out.new.items result }
         ensures opens { self.new.around ≡ self.old.around }
     {
-        match self.pass {
-            Pass::All => self.put_chars(text, out),
-            Pass::Chars => self.put_chars(text, out),
-            Pass::None => Ok(Turn::More),
+        if self.pass.text {
+            self.put_chars(text, out)
+        } else {
+            Ok(Turn::More)
         }
     }
 
@@ -246,9 +259,10 @@ impl Copier {
         ensures takes { Takes (leaf_ahead self.old (leaf_parts self.old.pass (Comment 0 text.now))) self.new out.old.items out.new.items result }
         ensures opens { self.new.around ≡ self.old.around }
     {
-        match self.pass {
-            Pass::All => self.put_comment(text, out),
-            Pass::Chars | Pass::None => Ok(Turn::More),
+        if self.pass.comments {
+            self.put_comment(text, out)
+        } else {
+            Ok(Turn::More)
         }
     }
 
@@ -269,9 +283,10 @@ impl Copier {
         ensures takes { Takes (leaf_ahead self.old (leaf_parts self.old.pass (Pi 0 target.now text.now))) self.new out.old.items out.new.items result }
         ensures opens { self.new.around ≡ self.old.around }
     {
-        match self.pass {
-            Pass::All => self.put_instruction(target, text, out),
-            Pass::Chars | Pass::None => Ok(Turn::More),
+        if self.pass.instructions {
+            self.put_instruction(target, text, out)
+        } else {
+            Ok(Turn::More)
         }
     }
 
@@ -313,14 +328,15 @@ impl Copier {
         ensures opens { self.new.around ≡ self.old.around }
     {
         self.leave(outer);
-        match self.pass {
-            Pass::All => self.put_end(spare, out),
-            Pass::Chars | Pass::None => Ok(Turn::More),
+        if self.pass.elements {
+            self.put_end(spare, out)
+        } else {
+            Ok(Turn::More)
         }
     }
 
     fn put_end(&mut self, spare: &mut Spare, out: &mut Vec<u8>) -> Result<Turn, WriteStop>
-        requires { self.old.pass ≡ pass.All }
+        requires { self.old.pass.elements ≡ true }
         ensures takes { Takes (close_ahead self.old None) self.new out.old.items out.new.items result }
         ensures opens { self.new.around ≡ self.old.around }
     {

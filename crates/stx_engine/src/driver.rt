@@ -16,14 +16,13 @@ ghost use Rattle.stx_engine.specs.Nesting.{EndsHaveStarts};
 ghost use Rattle.stx_engine.specs.Running.{Reports, Runs};
 ghost use Rattle.stx_engine.specs.Words.{spelled};
 ghost use Rattle.xml_events.specs.Source.{source};
-ghost use Rattle.stx_engine.specs.declared.pass.Pass.{Pass};
+ghost use Rattle.sheet_model.specs.declared.pass.Kinds.{Kinds};
 ghost use Rattle.stx_engine.specs.declared.run_end.RunEnd.TheVariants as end;
 ghost use Rattle.fault_report.specs.declared.outcome.Outcome.TheVariants as outcome;
 
 use crate::asked::Asked;
 use crate::engine::{Engine, Piece, Pumped};
 use crate::law;
-use crate::pass::Pass;
 use crate::plain::pass_of;
 use crate::run_end::{HOST_FAILED, RunEnd, Summary, end_of_run, end_of_sample};
 use command_words::{Command, Mode, Param as Given, WordsFault, read_words};
@@ -31,7 +30,7 @@ use fault_report::{HostFault, OUT_OF_MEMORY, Outcome};
 use run_engine::Engine as SheetEngine;
 use sample_maker::make_sample;
 use sheet_files::{Loaded, load_sheet};
-use sheet_model::Sheet;
+use sheet_model::{Kinds, Sheet};
 use sheet_runs::{End, Main, PIECE, Ran, failure, next_chunk, run_sheet, write};
 use std::alloc::Global;
 use stx_base::{Limits, List, Memory};
@@ -202,7 +201,7 @@ fn run_sample<H: Host>(
 }
 
 // An engine that passes documents through.
-fn passing(alloc: Global, asked: Asked, pass: Pass) -> Engine
+fn passing(alloc: Global, asked: Asked, pass: Kinds) -> Engine
     ensures reader { result.reader ≡ source asked.limits false }
     ensures sheet { result.sheet ≡ asked.name }
     ensures waits { IsWaiting result }
@@ -276,7 +275,7 @@ fn drive<H: Host>(alloc: Global, engine: Engine, host: &mut H) -> Outcome
     requires goes_on { GoesOn engine.reader.lexer }
     requires waits { IsWaiting engine }
     requires input { engine.reader.lexer.limits.input ≤ 2 ^ 50 }
-    ensures { (limits : Limits) (pass : Pass) → Means limits pass engine → Drives limits pass engine.sheet (H.outside host.old) (H.outside host.new) result }
+    ensures { (limits : Limits) (pass : Kinds) → Means limits pass engine → Drives limits pass engine.sheet (H.outside host.old) (H.outside host.new) result }
 {
     let mut engine = engine;
     let mut settled = Vec::new(alloc);
@@ -316,7 +315,7 @@ fn drive<H: Host>(alloc: Global, engine: Engine, host: &mut H) -> Outcome
 fn drive_sample<H: Host>(alloc: Global, engine: Engine, records: u64, host: &mut H) -> RunEnd
     requires goes_on { GoesOn engine.reader.lexer }
     requires waits { IsWaiting engine }
-    ensures { (limits : Limits) (pass : Pass) → Means limits pass engine → DrivesSample limits pass engine.sheet records (H.outside host.old) (H.outside host.new) result }
+    ensures { (limits : Limits) (pass : Kinds) → Means limits pass engine → DrivesSample limits pass engine.sheet records (H.outside host.old) (H.outside host.new) result }
 {
     sample_maker::law::pieces();
     let mut engine = engine;

@@ -8,9 +8,9 @@ ghost use Rattle.stx_engine.specs.declared.engine.Reading.TheVariants as reading
 ghost use Rattle.fault_report.specs.declared.outcome.Outcome.TheVariants as outcome;
 
 use crate::copier::{Copier, Turn};
-use crate::pass::Pass;
 use fault_report::Outcome;
 use result_writer::{ResultFault, WriteStop};
+use sheet_model::Kinds;
 use std::alloc::Global;
 use std::mem;
 use stx_base::{Limits, Memory, RunCode, Spare, Text, XmlFault};
@@ -70,7 +70,7 @@ pub struct Engine {
 
 impl Engine {
     /// What it gives from its start on is the meaning of the document.
-    pub fn new(alloc: Global, sheet: Text, pass: Pass, limits: Limits) -> Engine
+    pub fn new(alloc: Global, sheet: Text, pass: Kinds, limits: Limits) -> Engine
         ensures reader { result.reader ≡ source limits false }
         ensures sheet { result.sheet ≡ sheet }
         ensures waits { IsWaiting result }

@@ -3,7 +3,7 @@
 ghost use Rattle.std.specs.Prelude.{◌≡◌, ◌↔◌, [], ℕ, List, codes, map};
 ghost use Rattle.stx_base.specs.Course.{Ends, Over};
 ghost use Rattle.result_writer.specs.Target.{nothing};
-ghost use Rattle.stx_engine.specs.declared.pass.Pass.{Pass};
+ghost use Rattle.sheet_model.specs.declared.pass.Kinds.{Kinds};
 ghost use Rattle.stx_engine.specs.Meaning.{Said, Put, Ending, code, meaning, outcome};
 ghost use Rattle.stx_engine.specs.Passed.{passed, run_from};
 ghost use Rattle.stx_engine.specs.Accepted.{AnswersAreTaken, AnswersNest, DocumentsAreTaken, DocumentsNest, RunsNest, TakesGood};
@@ -16,14 +16,14 @@ ghost use Rattle.xml_events.specs.Tree.{Forest};
 
 /// Each sheet has exactly one meaning on each tree, and `outcome` is it.
 pub fn one_meaning()
-    ensures some { (limit : ℕ) (pass : Pass) (tree : Forest) → (os : List Said) × (e : Ending) × Ends (code limit) (meaning pass tree) os e }
-    ensures one { (limit : ℕ) (pass : Pass) (tree : Forest) (os ps : List Said) (e f : Ending) → Ends (code limit) (meaning pass tree) os e → Ends (code limit) (meaning pass tree) ps f → (os ≡ ps) × (e ≡ f) }
-    ensures function { (limit : ℕ) (pass : Pass) (tree : Forest) (os : List Said) (e : Ending) → Ends (code limit) (meaning pass tree) os e ↔ (outcome limit pass tree ≡ Over os e) }
+    ensures some { (limit : ℕ) (pass : Kinds) (tree : Forest) → (os : List Said) × (e : Ending) × Ends (code limit) (meaning pass tree) os e }
+    ensures one { (limit : ℕ) (pass : Kinds) (tree : Forest) (os ps : List Said) (e f : Ending) → Ends (code limit) (meaning pass tree) os e → Ends (code limit) (meaning pass tree) ps f → (os ≡ ps) × (e ≡ f) }
+    ensures function { (limit : ℕ) (pass : Kinds) (tree : Forest) (os : List Said) (e : Ending) → Ends (code limit) (meaning pass tree) os e ↔ (outcome limit pass tree ≡ Over os e) }
 {}
 
 /// A run puts, node after node, what each puts, up to the first that isn't ready, or the first part that the result refuses.
 pub fn run_by_nodes()
-    ensures { (limit : ℕ) (pass : Pass) (tree : Forest) →
+    ensures { (limit : ℕ) (pass : Kinds) (tree : Forest) →
         let p = passed pass [] tree in
         let r = run_from limit nothing p.parts p.stop in
         outcome limit pass tree ≡ Over (map Put r.parts) r.ending }

@@ -7,10 +7,8 @@ mod copier;
 mod driver;
 mod engine;
 pub mod law;
-mod pass;
 mod plain;
 mod run_end;
 mod scope;
 
 pub use driver::transform;
-pub use pass::Pass;

@@ -2,7 +2,7 @@ use Rattle.std.proofs.Common.{◌≡◌, ◌+◌, ◌-◌, ◌≤◌, ◌^◌, c
 use Rattle.stx_base.specs.declared.limits.Limits.{Limits}
 use Rattle.xml_tokens.specs.Reader.{fed}
 use Rattle.stx_engine.specs.declared.engine.Pumped.TheVariants as pumped
-use Rattle.stx_engine.specs.declared.pass.Pass.{Pass}
+use Rattle.sheet_model.specs.declared.pass.Kinds.{Kinds}
 use Rattle.stx_engine.specs.Engine.{GoesOn, IsWaiting, Means, is_main}
 use Rattle.stx_engine.proofs.Driven.{Driving}
 use Rattle.stx_engine.proofs.driver.drive.Given as goal
@@ -12,7 +12,7 @@ use Rattle.stx_engine.proofs.driver.drive.Given as goal
 abbrev pub invariant-loop-refused : goal.invariant-loop-refused
 invariant-loop-refused g l =
     (l.pumped ≡ pumped.Main → GoesOn l.engine.reader.lexer × (l.read ≤ fed l.engine.reader.lexer) × (l.engine.reader.lexer.limits.input ≤ 2 ^ 50) × IsWaiting l.engine × (l.engine.sheet ≡ l.fn.engine.sheet))
-    × ((limits : Limits) (pass : Pass) → Means limits pass l.fn.engine
+    × ((limits : Limits) (pass : Kinds) → Means limits pass l.fn.engine
     → Driving limits pass l.fn.engine (g.H.Host.outside l.initial.host) (g.H.Host.outside l.host) l.engine l.settled.items l.read l.written l.pumped)
 
 -- what the limit leaves

@@ -1,7 +1,7 @@
 use Rattle.std.proofs.Common.{◌≡◌, ◌+◌, length, cond}
 use Rattle.stx_base.specs.declared.limits.Limits.{Limits}
 use Rattle.stx_engine.specs.declared.engine.Pumped.TheVariants as pumped
-use Rattle.stx_engine.specs.declared.pass.Pass.{Pass}
+use Rattle.sheet_model.specs.declared.pass.Kinds.{Kinds}
 use Rattle.stx_engine.specs.Engine.{GoesOn, IsWaiting, Means, is_main}
 use Rattle.stx_engine.proofs.Sampled.{Sampling}
 use Rattle.stx_engine.proofs.driver.drive_sample.Given as goal
@@ -11,7 +11,7 @@ use Rattle.stx_engine.proofs.driver.drive_sample.Given as goal
 abbrev pub invariant-loop-refused : goal.invariant-loop-refused
 invariant-loop-refused g l =
     (l.pumped ≡ pumped.Main → GoesOn l.engine.reader.lexer × IsWaiting l.engine × (l.engine.sheet ≡ l.fn.engine.sheet))
-    × ((limits : Limits) (pass : Pass) → Means limits pass l.fn.engine
+    × ((limits : Limits) (pass : Kinds) → Means limits pass l.fn.engine
     → Sampling limits pass l.fn.engine l.records (g.H.Host.outside l.initial.host) (g.H.Host.outside l.host) l.engine l.settled.items l.sample l.input l.written l.pumped)
 
 -- the pieces that are left, and the end
