@@ -1,7 +1,7 @@
 //! Sheets that have nothing but a pass-through.
 
 ghost use Rattle.std.specs.Prelude.{◌≡◌};
-ghost use Rattle.stx_engine.specs.Plain.pass_of;
+ghost use Rattle.stx_engine.specs.Plain.{pass_of};
 
 use sheet_model::{Kinds, Sheet};
 
