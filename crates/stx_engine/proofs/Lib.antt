@@ -32,3 +32,6 @@ pub mod Stopped
 pub mod Copied
 pub mod Untold
 pub mod Giving
+pub mod OldSheets
+pub mod Unrecognised
+pub mod OldRuns

@@ -11,6 +11,7 @@ pub mod Headline
 pub mod Meaning
 pub mod More
 pub mod Nesting
+pub mod Older
 pub mod Opens
 pub mod Output
 pub mod Passed

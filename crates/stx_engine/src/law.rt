@@ -11,6 +11,7 @@ ghost use Rattle.stx_engine.specs.Copies.{CopiesAll, CopiesNothing, WritesDocume
 ghost use Rattle.stx_engine.specs.Ending.{BeginningIsOpen, WholeIsOver};
 ghost use Rattle.stx_engine.specs.Nesting.{EndsHaveStarts};
 ghost use Rattle.stx_engine.specs.Growing.{AnswerStays, BytesStay, RunStays};
+ghost use Rattle.stx_engine.specs.Older.{RunsAsBefore};
 ghost use Rattle.stx_engine.specs.Output.{PartsNest};
 ghost use Rattle.xml_events.specs.Tree.{Forest};
 
@@ -89,6 +90,14 @@ pub fn copies()
     ensures nothing { CopiesNothing }
 {
     result_writer::law::nodes();
+}
+
+/// What a sheet of version 1.0 came to and did before there was version 1.1.
+pub fn before()
+    ensures { RunsAsBefore }
+{
+    sheet_loader::law::versions();
+    xml_events::laws::joined();
 }
 
 /// Which end tags lack their start tags.
