@@ -12,7 +12,7 @@ use Rattle.sheet_model.specs.Entries.{alternative_entries, entries, expression_e
 use Rattle.sheet_model.specs.Names.{alternative_variables, free, is_same, pattern_variables, variables, with_params}
 use Rattle.sheet_model.specs.Parts.{copied_attributes, place}
 use Rattle.sheet_model.specs.Groups.{IsFound, IsNew}
-use Rattle.sheet_model.specs.Sound.{AreATree, AreReadableVariables, IsAttributeTest, IsContent, IsInFile, IsReadableInstruction, IsSound, StandsBehind, StandsIn, VariablesStand, group_names, procedure_says, template_says}
+use Rattle.sheet_model.specs.Sound.{AreATree, AreReadableVariables, IsAttributeTest, IsContent, IsInFile, IsReadableInstruction, IsReadableVariable, IsSound, StandsBehind, StandsIn, VariablesStand, group_names, procedure_says, template_says}
 use Rattle.stx_base.specs.declared.name.Name.{Name}
 use Rattle.stxpath_syntax.specs.Readable.{IsReadable, IsReadablePattern}
 use Rattle.sheet_model.specs.declared.instr.Instr.{Instr}
@@ -193,10 +193,10 @@ module _ (s : Sheet) (bare : All (IsBare (length s.groups)) s.templates) (no_pro
       instructions = all_in_none (λ (i : Instr). IsInFile s (place (out-Instr i))) (instructions s) no_instructions;
     };
     readable = record {
-      variables = all_in_none (λ (v : Variable). IfSome v.select IsReadable) s.variables no_variables;
+      variables = all_in_none IsReadableVariable s.variables no_variables;
       templates =
           All-weaker (IsBare (length s.groups)) (λ (t : Template). IsReadablePattern t.pattern.alternatives × AreReadableVariables t.params)
-          (λ t b. (b.readable, all_in_none (λ (v : Variable). IfSome v.select IsReadable) t.params b.params)) s.templates bare;
+          (λ t b. (b.readable, all_in_none IsReadableVariable t.params b.params)) s.templates bare;
       procedures = all_in_none (λ (p : Procedure). AreReadableVariables p.params) s.procedures no_procedures;
       instructions = all_in_none IsReadableInstruction (instructions s) no_instructions;
     };

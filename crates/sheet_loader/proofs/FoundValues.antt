@@ -1,5 +1,5 @@
 -- What the values of a tag without faults are: those of required attributes are there, and what is read of the path language is readable.
-use Rattle.std.proofs.Common.{◌≡◌, ℕ, ℤ, Bool, true, false, not, ◌&&◌, ◌||◌, List, [], ◌∷◌, ◌++◌, Option, Some, None, Result, Ok, Err, is_some, refl, ap, sym, ◌∙◌, bytes_eq, if◌then◌else◌}
+use Rattle.std.proofs.Common.{◌≡◌, ℕ, ℤ, Bool, true, false, not, ◌&&◌, ◌||◌, ◌==◌, length, List, [], ◌∷◌, ◌++◌, Option, Some, None, Result, Ok, Err, is_some, refl, ap, sym, ◌∙◌, bytes_eq, if◌then◌else◌}
 use Rattle.std.proofs.Math.Path.{subst}
 use Rattle.std.specs.List.{list_all, list_any}
 use Rattle.stx_base.specs.declared.fault.SheetCode.{SheetCode}
@@ -7,24 +7,28 @@ use Rattle.stx_base.specs.declared.fault.SheetCode.TheVariants as code
 use Rattle.stx_base.specs.declared.name.Attr.{Attr}
 use Rattle.stx_base.specs.declared.name.Binding.{Binding}
 use Rattle.stx_base.specs.declared.name.Name.{Name}
+use Rattle.stx_base.specs.Character.{is_ncname}
 use Rattle.stxpath_syntax.specs.Readable.{IsReadable, IsReadablePattern, IsReadableTemplate}
 use Rattle.stxpath_syntax.specs.Template.{IsExpression, IsPattern, IsTemplate, Read}
 use Rattle.stxpath_syntax.specs.declared.dialect.Dialect.{Dialect}
 use Rattle.stxpath_syntax.specs.declared.expr.Alternative.{Alternative}
 use Rattle.stxpath_syntax.specs.declared.expr.AvtPart.{AvtPart}
 use Rattle.stxpath_syntax.specs.declared.expr.Expr.{Expr}
+use Rattle.stxpath_syntax.specs.Words.{uri_of}
+use Rattle.sheet_model.specs.Sound.{IsSpelled}
 use Rattle.sheet_model.specs.declared.pass.Pass.{Pass}
 use Rattle.sheet_model.specs.declared.sheet.Sheet.{Sheet}
 use Rattle.xml_events.specs.Tree.{Element}
+use Rattle.xml_names.specs.QName.{has_colon, is_qname, local_of, prefix_of}
 use Rattle.sheet_loader.specs.Attributes.{Any, Expression, Form, Named, Passing, Patterned, Priority, Row, Template_of_value, Tests, Version, Word, required}
 use Rattle.sheet_loader.specs.Elements.{Kind, is_allowed}
 use Rattle.sheet_loader.specs.Judging.{declares_again, fault_of, first_of, found, is_loop, is_version, refuses, rows_of, value_found, values, values_found}
 use Rattle.sheet_loader.specs.Making.{Values, as_expression, as_name, behind, last_of, value_at}
 use Rattle.sheet_loader.specs.Reading.{Context, Item}
 use Rattle.sheet_loader.specs.Tags.{Found, found_at, found_by, is_bad_value, is_missing, is_unknown, path_fault, text_at}
-use Rattle.sheet_loader.specs.Values.{A_name, A_pass, A_pattern, A_priority, A_template, A_word, An_expression, Reads, Value, are_tests, is_one_of, name_in, pass_in, priority_of, read, read_tests, some_value, value_of}
+use Rattle.sheet_loader.specs.Values.{A_name, A_pass, A_pattern, A_priority, A_template, A_word, An_expression, Reads, Value, are_tests, is_one_of, name_in, named, pass_in, priority_of, read, read_tests, some_value, value_of}
 
--- what is read of the path language is what some text is read as
+-- what is read of the path language is what some text is read as, and a name is spelled
 abbrev pub ReadableAt : Option Value → Type 0
 ReadableAt (Some (An_expression x)) = IsReadable x
 ReadableAt (Some (A_pattern all)) = IsReadablePattern all
@@ -32,7 +36,7 @@ ReadableAt (Some (A_template parts)) = IsReadableTemplate parts
 ReadableAt (Some (A_word word)) = Unit {0}
 ReadableAt (Some (A_pass pass)) = Unit {0}
 ReadableAt (Some (A_priority p)) = Unit {0}
-ReadableAt (Some (A_name n)) = Unit {0}
+ReadableAt (Some (A_name n)) = IsSpelled n
 ReadableAt None = Unit {0}
 
 abbrev pub IsReadableFound : Found → Type 0
@@ -71,9 +75,16 @@ priority_readable : (o : Option ℤ) → IsReadableFound (Some (some_value A_pri
 priority_readable None = tt
 priority_readable (Some p) = tt
 
-name_readable : (o : Option Name) → IsReadableFound (Some (some_value A_name o))
-name_readable None = tt
-name_readable (Some n) = tt
+second : (a b : Bool) → (a && b) ≡ true → b ≡ true
+second true b h = h
+second false b h = absurd cc
+
+name_readable : (s : List Binding) (text : List ℕ) → IsReadableFound (Some (some_value A_name (name_in s text)))
+name_readable s text = by (is_qname text) refl (if length (prefix_of text) == 0 then Some [] else uri_of s (prefix_of text)) where
+  by : (b : Bool) → is_qname text ≡ b → (uri : Option (List ℕ)) → IsReadableFound (Some (some_value A_name (if not b then None else named uri text)))
+  by false q uri = tt
+  by true q None = tt
+  by true q (Some uri) = second (not (has_colon text) || is_ncname (prefix_of text)) (is_ncname (local_of text)) q
 
 -- the row of a name
 abbrev pub row_at : (word : List ℕ) → List Row → Option Row
@@ -99,7 +110,7 @@ module _ (reads : Reads) (d : Dialect) (s : List Binding) where
   value_readable Version text = tt
   value_readable Passing text = pass_readable (pass_in d text)
   value_readable Priority text = priority_readable (priority_of text)
-  value_readable Named text = name_readable (name_in s text)
+  value_readable Named text = name_readable s text
   value_readable Expression text = expression_readable d s text (reads.expression d s text) (reads.expressions d s text)
   value_readable Patterned text = pattern_readable d s text (reads.pattern d s text) (reads.patterns d s text)
   value_readable Tests text = tests_readable d s text (reads.pattern d s text) (reads.patterns d s text)

@@ -8,6 +8,7 @@ use Rattle.stx_base.specs.declared.fault.Place.{Place}
 use Rattle.stx_base.specs.declared.fault.SheetCode.TheVariants as code
 use Rattle.stx_base.specs.declared.name.Attr.{Attr}
 use Rattle.stx_base.specs.declared.name.Binding.{Binding}
+use Rattle.stx_base.specs.declared.name.Name.{Name}
 use Rattle.stx_base.specs.declared.node.NodeTest.{NodeTest}
 use Rattle.stx_base.specs.declared.node.NodeTest.TheVariants as test
 use Rattle.stxpath_syntax.specs.Readable.{IsReadable, IsReadablePattern, IsReadableTemplate}
@@ -24,8 +25,8 @@ use Rattle.stxpath_syntax.specs.declared.expr.Link.{Link}
 use Rattle.stxpath_syntax.specs.declared.expr.Link.TheVariants as link
 use Rattle.stxpath_syntax.specs.declared.expr.Pattern.{Pattern}
 use Rattle.sheet_model.specs.Body.{inner}
-use Rattle.sheet_model.specs.Parts.{conditions, content_expression, copied_attributes, expressions, templates}
-use Rattle.sheet_model.specs.Sound.{AreReadablePatterns, AreReadableTemplates, CopiesAttributes, IsAttributeTest, IsOfAttributes, IsReadableSheet}
+use Rattle.sheet_model.specs.Parts.{conditions, content_expression, copied_attributes, expressions, templates, variables_named}
+use Rattle.sheet_model.specs.Sound.{AreReadablePatterns, AreReadableTemplates, CopiesAttributes, IsAttributeTest, IsOfAttributes, IsReadableSheet, IsSpelled}
 use Rattle.sheet_model.specs.declared.instr.Instr.{Instr}
 use Rattle.sheet_model.specs.declared.instr.Instr.TheVariants as instr
 use Rattle.sheet_model.specs.declared.instr.Instr.TheOpen.{Instr-F}
@@ -40,18 +41,18 @@ use Rattle.sheet_model.specs.declared.sheet.Variable.{Variable}
 use Rattle.xml_events.specs.Tree.{Element, Forest}
 use Rattle.sheet_loader.proofs.Bodies.{BodyIs, ItemsAre, all_if, both_are, in_body, in_branches, in_otherwise, branches_are, items_append, none_is, one_by, params_are, parts_are, sheet_is, values_are}
 use Rattle.sheet_loader.proofs.Came.{Came, CameWhole, at_end, copies, includes, makes, passes, speaks, writes, attrs_of, copied_items, element_made, literal_item, referring}
-use Rattle.sheet_loader.proofs.FoundValues.{Faultless, ReadableAt, faultless, has_expression, has_pattern, present, row_at, values_readable}
-use Rattle.sheet_loader.specs.Attributes.{Expression, Patterned, Row, Tests, optional, required}
+use Rattle.sheet_loader.proofs.FoundValues.{Faultless, ReadableAt, faultless, has_expression, has_name, has_pattern, present, row_at, values_readable}
+use Rattle.sheet_loader.specs.Attributes.{Expression, Named, Patterned, Row, Tests, optional, required}
 use Rattle.sheet_loader.specs.Elements as element
 use Rattle.sheet_loader.specs.Elements.{Kind, Inside, Document, Declarations, Start_of_body, Body, Branches, With_params, Characters, Parts, Nothing, is_own, is_param, is_procedure, is_template, is_variable, makes_group}
 use Rattle.sheet_loader.specs.Judging.{is_declared_here, rows_of, scope_at, value_found, values}
 use Rattle.sheet_loader.specs.Load.{nothing}
-use Rattle.sheet_loader.specs.Making.{Values, as_expression, as_pattern, as_template, body, branches, characters, content_in, content_of, group_in, is_yes, item, name, or_else, otherwise, params, parts, pattern, select, template, value_at, variable, with_params}
+use Rattle.sheet_loader.specs.Making.{Values, as_expression, as_name, as_pattern, as_template, body, branches, characters, content_in, content_of, group_in, is_yes, item, name, or_else, otherwise, params, parts, pattern, select, template, value_at, variable, with_params}
 use Rattle.sheet_loader.specs.Making as making
 use Rattle.sheet_loader.specs.Read.{begun, element_parts, ended, listed, literal_attrs, made, parts_of_template, procedure_at, template_at, text_item, with_group, with_root}
 use Rattle.sheet_loader.specs.Reading.{Context, File, Instruction, Item, Listed, Loading, place}
 use Rattle.sheet_loader.specs.Tags.{Found, found_by, text_at}
-use Rattle.sheet_loader.specs.Values.{A_pattern, A_template, An_expression, Reads, Value, are_tests, is_attribute_test, is_bare, read, read_tests}
+use Rattle.sheet_loader.specs.Values.{A_name, A_pattern, A_template, An_expression, Reads, Value, are_tests, is_attribute_test, is_bare, read, read_tests}
 
 -- what is so of an instruction, a branch, a parameter and a value for one
 
@@ -62,12 +63,13 @@ Fine x =
     × AreReadablePatterns (conditions x)
     × AreReadablePatterns (copied_attributes x)
     × All (λ (p : Pattern). All IsAttributeTest p.alternatives) (copied_attributes x)
+    × All IsSpelled (variables_named x)
 
 abbrev TestIs : When → Type 0
 TestIs w = IsReadable w.test
 
 abbrev SelectIs : Variable → Type 0
-SelectIs v = IfSome v.select IsReadable
+SelectIs v = IsSpelled v.name × IfSome v.select IsReadable
 
 abbrev HandedIs : WithParam → Type 0
 HandedIs p = IsReadable p.select
@@ -188,19 +190,36 @@ maybe_tests o h = All-nil (λ (p : Pattern). All IsAttributeTest p.alternatives)
 abbrev pub HasSelect : List ℕ → Values → Type 0
 HasSelect word v = (x : Expr) × (as_expression (value_at word v) ≡ Some x)
 
+-- a name that stands there is spelled
+spelled_of : (o : Option Value) (n : Name) → as_name o ≡ Some n → ReadableAt o → IsSpelled (or_else making.nameless (as_name o))
+spelled_of (Some (A_name m)) n is h = h
+spelled_of o n is h = absurd cc
+
 abbrev pub Needs : Kind → Values → Type 0
 Needs element.Template v = (all : List Alternative) × (value_at (codes "match") v ≡ Some (A_pattern all))
 Needs element.ValueOf v = HasSelect (codes "select") v
 Needs element.Copy v = TestsAt (value_at (codes "attributes") v)
 Needs element.If v = HasSelect (codes "test") v
 Needs element.When v = HasSelect (codes "test") v
-Needs element.ForEachItem v = HasSelect (codes "select") v
+Needs element.ForEachItem v = HasSelect (codes "select") v × IsSpelled (name v)
+Needs element.Param v = IsSpelled (name v)
+Needs element.Variable v = IsSpelled (name v)
 Needs element.While v = HasSelect (codes "test") v
 Needs element.Assign v = HasSelect (codes "select") v
 Needs element.WithParam v = HasSelect (codes "select") v
 Needs other v = Unit {0}
 
 module _ (reads : Reads) (here : Context) (before : List Item) (sheet : Sheet) (e : Element) where
+  readable_at : (kind : Kind) (word : List ℕ) → ReadableAt (value_at word (values reads here kind e))
+  readable_at kind word = values_readable reads here.version.dialect (scope_at here e) (rows_of here kind) e.attrs word
+
+  -- a required name
+  named_at : (kind : Kind) → row_at (codes "name") (rows_of here kind) ≡ Some (required (codes "name") Named) → Faultless reads here before sheet e kind → IsSpelled (name (values reads here kind e))
+  named_at kind r f =
+      let there = has_name reads here.version.dialect (scope_at here e) (codes "name") (values reads here kind e)
+      (present reads here.version.dialect (scope_at here e) (rows_of here kind) e.attrs (codes "name") Named r f.complete f.paths) in
+      spelled_of (value_at (codes "name") (values reads here kind e)) there.0 there.1 (readable_at kind (codes "name"))
+
   -- a required expression
   has_select_at : (word : List ℕ) (kind : Kind) → row_at word (rows_of here kind) ≡ Some (required word Expression) → Faultless reads here before sheet e kind → HasSelect word (values reads here kind e)
   has_select_at word kind r f =
@@ -217,16 +236,15 @@ module _ (reads : Reads) (here : Context) (before : List Item) (sheet : Sheet) (
       (present reads here.version.dialect (scope_at here e) (rows_of here element.Template) e.attrs (codes "match") Patterned refl f.complete f.paths)
   needs element.Copy f = tests_at (found_by reads here.version.dialect (scope_at here e) Tests (text_at e.attrs (codes "attributes"))) (tests_found (text_at e.attrs (codes "attributes")))
   needs element.ValueOf f = has_select_at (codes "select") element.ValueOf refl f
-  needs element.ForEachItem f = has_select_at (codes "select") element.ForEachItem refl f
+  needs element.ForEachItem f = (has_select_at (codes "select") element.ForEachItem refl f, named_at element.ForEachItem refl f)
+  needs element.Param f = named_at element.Param refl f
+  needs element.Variable f = named_at element.Variable refl f
   needs element.Assign f = has_select_at (codes "select") element.Assign refl f
   needs element.WithParam f = has_select_at (codes "select") element.WithParam refl f
   needs element.If f = has_select_at (codes "test") element.If refl f
   needs element.When f = has_select_at (codes "test") element.When refl f
   needs element.While f = has_select_at (codes "test") element.While refl f
   needs other f = tt
-
-  readable_at : (kind : Kind) (word : List ℕ) → ReadableAt (value_at word (values reads here kind e))
-  readable_at kind word = values_readable reads here.version.dialect (scope_at here e) (rows_of here kind) e.attrs word
 
 -- What an element comes to is fine, where its values and what stands in it are.
 
@@ -247,6 +265,12 @@ no_patterns = All-nil (λ (p : Pattern). IsReadablePattern p.alternatives)
 
 no_tests : All (λ (p : Pattern). All IsAttributeTest p.alternatives) []
 no_tests = All-nil (λ (p : Pattern). All IsAttributeTest p.alternatives)
+
+no_names : All IsSpelled []
+no_names = All-nil IsSpelled
+
+one_name : (n : Name) → IsSpelled n → All IsSpelled (n ∷ [])
+one_name n h = All-cons IsSpelled n [] h (All-nil IsSpelled)
 
 handed_fine : (ps : List WithParam) → All HandedIs ps → All IsReadable (map (λ (p : WithParam). p.select) ps)
 handed_fine ps h = All-map IsReadable (λ (p : WithParam). p.select) ps h
@@ -285,34 +309,34 @@ module _ (group : ℕ) (at : Place) (scope : List Binding) (v : Values) (list : 
   item_fine element.Procedure n = tt
   item_fine element.Include n = tt
   item_fine element.Buffer n = tt
-  item_fine element.Param n = (if_expression (value_at (codes "select") v) (r (codes "select")), tt)
-  item_fine element.Variable n = (one_by Fine TestIs SelectIs HandedIs (instr.Local (name v) (as_expression (value_at (codes "select") v)) at) (Instr-F.Local (name v) (as_expression (value_at (codes "select") v)) at) (rolls-Local (name v) (as_expression (value_at (codes "select") v)) at) (local_fine, no_templates, no_patterns, no_patterns, no_tests) nothing_in, tt)
-  item_fine element.ValueOf n = lone (instr.ValueOf (select v) (as_template (value_at (codes "separator") v)) at) (Instr-F.ValueOf (select v) (as_template (value_at (codes "separator") v)) at) (rolls-ValueOf (select v) (as_template (value_at (codes "separator") v)) at) (one_expression (select v) (or_expression (value_at (codes "select") v) (r (codes "select")) n), maybe_template (value_at (codes "separator") v) (r (codes "separator")), no_patterns, no_patterns, no_tests) nothing_in
-  item_fine element.Chars n = lone (instr.Chars (characters list) at) (Instr-F.Chars (characters list) at) (rolls-Chars (characters list) at) (no_expressions, no_templates, no_patterns, no_patterns, no_tests) nothing_in
-  item_fine element.Copy n = lone (instr.Copy (as_pattern (value_at (codes "attributes") v)) (body list) at) (Instr-F.Copy (as_pattern (value_at (codes "attributes") v)) (body list) at) (rolls-Copy (as_pattern (value_at (codes "attributes") v)) (body list) at) (no_expressions, no_templates, no_patterns, maybe_pattern (value_at (codes "attributes") v) (r (codes "attributes")), maybe_tests (value_at (codes "attributes") v) n) inside
-  item_fine element.Element n = lone (instr.Element (template (codes "name") v) (as_template (value_at (codes "namespace") v)) scope (body list) at) (Instr-F.Element (template (codes "name") v) (as_template (value_at (codes "namespace") v)) scope (body list) at) (rolls-Element (template (codes "name") v) (as_template (value_at (codes "namespace") v)) scope (body list) at) (no_expressions, name_and_namespace, no_patterns, no_patterns, no_tests) inside
-  item_fine element.StartElement n = lone (instr.StartElement (template (codes "name") v) (as_template (value_at (codes "namespace") v)) scope at) (Instr-F.StartElement (template (codes "name") v) (as_template (value_at (codes "namespace") v)) scope at) (rolls-StartElement (template (codes "name") v) (as_template (value_at (codes "namespace") v)) scope at) (no_expressions, name_and_namespace, no_patterns, no_patterns, no_tests) nothing_in
-  item_fine element.EndElement n = lone (instr.EndElement (template (codes "name") v) (as_template (value_at (codes "namespace") v)) scope at) (Instr-F.EndElement (template (codes "name") v) (as_template (value_at (codes "namespace") v)) scope at) (rolls-EndElement (template (codes "name") v) (as_template (value_at (codes "namespace") v)) scope at) (no_expressions, name_and_namespace, no_patterns, no_patterns, no_tests) nothing_in
-  item_fine element.Attribute n = lone (instr.Attribute (template (codes "name") v) (as_template (value_at (codes "namespace") v)) scope (content_in v list) at) (Instr-F.Attribute (template (codes "name") v) (as_template (value_at (codes "namespace") v)) scope (content_in v list) at) (rolls-Attribute (template (codes "name") v) (as_template (value_at (codes "namespace") v)) scope (content_in v list) at) (content_at, name_and_namespace, no_patterns, no_patterns, no_tests) nothing_in
-  item_fine element.Comment n = lone (instr.Comment (content_in v list) at) (Instr-F.Comment (content_in v list) at) (rolls-Comment (content_in v list) at) (content_at, no_templates, no_patterns, no_patterns, no_tests) nothing_in
-  item_fine element.Instruction n = lone (instr.Pi (template (codes "name") v) scope (content_in v list) at) (Instr-F.Pi (template (codes "name") v) scope (content_in v list) at) (rolls-Pi (template (codes "name") v) scope (content_in v list) at) (content_at, more_templates (template (codes "name") v) [] (or_template (value_at (codes "name") v) (r (codes "name"))) no_templates, no_patterns, no_patterns, no_tests) nothing_in
-  item_fine element.Message n = lone (instr.Message (content_in v list) at) (Instr-F.Message (content_in v list) at) (rolls-Message (content_in v list) at) (content_at, no_templates, no_patterns, no_patterns, no_tests) nothing_in
-  item_fine element.If n = ((λ js. (one_expression (making.test v) (or_expression (value_at (codes "test") v) (r (codes "test")) n), no_templates, no_patterns, no_patterns, no_tests), inside), tt)
+  item_fine element.Param n = ((n, if_expression (value_at (codes "select") v) (r (codes "select"))), tt)
+  item_fine element.Variable n = (one_by Fine TestIs SelectIs HandedIs (instr.Local (name v) (as_expression (value_at (codes "select") v)) at) (Instr-F.Local (name v) (as_expression (value_at (codes "select") v)) at) (rolls-Local (name v) (as_expression (value_at (codes "select") v)) at) (local_fine, no_templates, no_patterns, no_patterns, no_tests, one_name (name v) n) nothing_in, tt)
+  item_fine element.ValueOf n = lone (instr.ValueOf (select v) (as_template (value_at (codes "separator") v)) at) (Instr-F.ValueOf (select v) (as_template (value_at (codes "separator") v)) at) (rolls-ValueOf (select v) (as_template (value_at (codes "separator") v)) at) (one_expression (select v) (or_expression (value_at (codes "select") v) (r (codes "select")) n), maybe_template (value_at (codes "separator") v) (r (codes "separator")), no_patterns, no_patterns, no_tests, no_names) nothing_in
+  item_fine element.Chars n = lone (instr.Chars (characters list) at) (Instr-F.Chars (characters list) at) (rolls-Chars (characters list) at) (no_expressions, no_templates, no_patterns, no_patterns, no_tests, no_names) nothing_in
+  item_fine element.Copy n = lone (instr.Copy (as_pattern (value_at (codes "attributes") v)) (body list) at) (Instr-F.Copy (as_pattern (value_at (codes "attributes") v)) (body list) at) (rolls-Copy (as_pattern (value_at (codes "attributes") v)) (body list) at) (no_expressions, no_templates, no_patterns, maybe_pattern (value_at (codes "attributes") v) (r (codes "attributes")), maybe_tests (value_at (codes "attributes") v) n, no_names) inside
+  item_fine element.Element n = lone (instr.Element (template (codes "name") v) (as_template (value_at (codes "namespace") v)) scope (body list) at) (Instr-F.Element (template (codes "name") v) (as_template (value_at (codes "namespace") v)) scope (body list) at) (rolls-Element (template (codes "name") v) (as_template (value_at (codes "namespace") v)) scope (body list) at) (no_expressions, name_and_namespace, no_patterns, no_patterns, no_tests, no_names) inside
+  item_fine element.StartElement n = lone (instr.StartElement (template (codes "name") v) (as_template (value_at (codes "namespace") v)) scope at) (Instr-F.StartElement (template (codes "name") v) (as_template (value_at (codes "namespace") v)) scope at) (rolls-StartElement (template (codes "name") v) (as_template (value_at (codes "namespace") v)) scope at) (no_expressions, name_and_namespace, no_patterns, no_patterns, no_tests, no_names) nothing_in
+  item_fine element.EndElement n = lone (instr.EndElement (template (codes "name") v) (as_template (value_at (codes "namespace") v)) scope at) (Instr-F.EndElement (template (codes "name") v) (as_template (value_at (codes "namespace") v)) scope at) (rolls-EndElement (template (codes "name") v) (as_template (value_at (codes "namespace") v)) scope at) (no_expressions, name_and_namespace, no_patterns, no_patterns, no_tests, no_names) nothing_in
+  item_fine element.Attribute n = lone (instr.Attribute (template (codes "name") v) (as_template (value_at (codes "namespace") v)) scope (content_in v list) at) (Instr-F.Attribute (template (codes "name") v) (as_template (value_at (codes "namespace") v)) scope (content_in v list) at) (rolls-Attribute (template (codes "name") v) (as_template (value_at (codes "namespace") v)) scope (content_in v list) at) (content_at, name_and_namespace, no_patterns, no_patterns, no_tests, no_names) nothing_in
+  item_fine element.Comment n = lone (instr.Comment (content_in v list) at) (Instr-F.Comment (content_in v list) at) (rolls-Comment (content_in v list) at) (content_at, no_templates, no_patterns, no_patterns, no_tests, no_names) nothing_in
+  item_fine element.Instruction n = lone (instr.Pi (template (codes "name") v) scope (content_in v list) at) (Instr-F.Pi (template (codes "name") v) scope (content_in v list) at) (rolls-Pi (template (codes "name") v) scope (content_in v list) at) (content_at, more_templates (template (codes "name") v) [] (or_template (value_at (codes "name") v) (r (codes "name"))) no_templates, no_patterns, no_patterns, no_tests, no_names) nothing_in
+  item_fine element.Message n = lone (instr.Message (content_in v list) at) (Instr-F.Message (content_in v list) at) (rolls-Message (content_in v list) at) (content_at, no_templates, no_patterns, no_patterns, no_tests, no_names) nothing_in
+  item_fine element.If n = ((λ js. (one_expression (making.test v) (or_expression (value_at (codes "test") v) (r (codes "test")) n), no_templates, no_patterns, no_patterns, no_tests, no_names), inside), tt)
   item_fine element.Else n = (inside, tt)
-  item_fine element.Choose n = lone (instr.Choose (branches list) (otherwise list) at) (Instr-F.Choose (branches list) (otherwise list) at) (rolls-Choose (branches list) (otherwise list) at) (tested_fine (branches list) (branches_are Fine TestIs SelectIs HandedIs list h), no_templates, no_patterns, no_patterns, no_tests) (both_are Fine TestIs SelectIs HandedIs (flat_map (λ (w : When). w.body) (branches list)) (otherwise list) (in_branches Fine TestIs SelectIs HandedIs list h) (in_otherwise Fine TestIs SelectIs HandedIs list h))
+  item_fine element.Choose n = lone (instr.Choose (branches list) (otherwise list) at) (Instr-F.Choose (branches list) (otherwise list) at) (rolls-Choose (branches list) (otherwise list) at) (tested_fine (branches list) (branches_are Fine TestIs SelectIs HandedIs list h), no_templates, no_patterns, no_patterns, no_tests, no_names) (both_are Fine TestIs SelectIs HandedIs (flat_map (λ (w : When). w.body) (branches list)) (otherwise list) (in_branches Fine TestIs SelectIs HandedIs list h) (in_otherwise Fine TestIs SelectIs HandedIs list h))
   item_fine element.When n = (((or_expression (value_at (codes "test") v) (r (codes "test")) n), inside), tt)
   item_fine element.Otherwise n = (inside, tt)
-  item_fine element.ForEachItem n = lone (instr.ForEachItem (name v) (select v) (body list) at) (Instr-F.ForEachItem (name v) (select v) (body list) at) (rolls-ForEachItem (name v) (select v) (body list) at) (one_expression (select v) (or_expression (value_at (codes "select") v) (r (codes "select")) n), no_templates, no_patterns, no_patterns, no_tests) inside
-  item_fine element.While n = lone (instr.While (making.test v) (body list) at) (Instr-F.While (making.test v) (body list) at) (rolls-While (making.test v) (body list) at) (one_expression (making.test v) (or_expression (value_at (codes "test") v) (r (codes "test")) n), no_templates, no_patterns, no_patterns, no_tests) inside
-  item_fine element.Assign n = lone (instr.Assign (name v) (select v) at) (Instr-F.Assign (name v) (select v) at) (rolls-Assign (name v) (select v) at) (one_expression (select v) (or_expression (value_at (codes "select") v) (r (codes "select")) n), no_templates, no_patterns, no_patterns, no_tests) nothing_in
-  item_fine element.CallProcedure n = lone (instr.CallProcedure (name v) (with_params list) at) (Instr-F.CallProcedure (name v) (with_params list) at) (rolls-CallProcedure (name v) (with_params list) at) (handed_in, no_templates, no_patterns, no_patterns, no_tests) nothing_in
-  item_fine element.ProcessChildren n = lone (instr.ProcessChildren (group_in v) (with_params list) at) (Instr-F.ProcessChildren (group_in v) (with_params list) at) (rolls-ProcessChildren (group_in v) (with_params list) at) (handed_in, no_templates, no_patterns, no_patterns, no_tests) nothing_in
-  item_fine element.ProcessAttributes n = lone (instr.ProcessAttributes (group_in v) (with_params list) at) (Instr-F.ProcessAttributes (group_in v) (with_params list) at) (rolls-ProcessAttributes (group_in v) (with_params list) at) (handed_in, no_templates, no_patterns, no_patterns, no_tests) nothing_in
-  item_fine element.ProcessSelf n = lone (instr.ProcessSelf (group_in v) (with_params list) at) (Instr-F.ProcessSelf (group_in v) (with_params list) at) (rolls-ProcessSelf (group_in v) (with_params list) at) (handed_in, no_templates, no_patterns, no_patterns, no_tests) nothing_in
-  item_fine element.ProcessSiblings n = lone (instr.ProcessSiblings (as_pattern (value_at (codes "while") v)) (as_pattern (value_at (codes "until") v)) (group_in v) (with_params list) at) (Instr-F.ProcessSiblings (as_pattern (value_at (codes "while") v)) (as_pattern (value_at (codes "until") v)) (group_in v) (with_params list) at) (rolls-ProcessSiblings (as_pattern (value_at (codes "while") v)) (as_pattern (value_at (codes "until") v)) (group_in v) (with_params list) at) (handed_in, no_templates, All-append (λ (p : Pattern). IsReadablePattern p.alternatives) (option_to_list (as_pattern (value_at (codes "while") v))) (option_to_list (as_pattern (value_at (codes "until") v))) (maybe_pattern (value_at (codes "while") v) (r (codes "while"))) (maybe_pattern (value_at (codes "until") v) (r (codes "until"))), no_patterns, no_tests) nothing_in
-  item_fine element.ProcessBuffer n = lone (instr.ProcessBuffer (name v) (group_in v) (with_params list) at) (Instr-F.ProcessBuffer (name v) (group_in v) (with_params list) at) (rolls-ProcessBuffer (name v) (group_in v) (with_params list) at) (handed_in, no_templates, no_patterns, no_patterns, no_tests) nothing_in
-  item_fine element.ProcessDocument n = lone (instr.ProcessDocument (template (codes "href") v) (group_in v) (with_params list) at) (Instr-F.ProcessDocument (template (codes "href") v) (group_in v) (with_params list) at) (rolls-ProcessDocument (template (codes "href") v) (group_in v) (with_params list) at) (handed_in, more_templates (template (codes "href") v) [] (or_template (value_at (codes "href") v) (r (codes "href"))) no_templates, no_patterns, no_patterns, no_tests) nothing_in
-  item_fine element.ResultBuffer n = lone (instr.ResultBuffer (name v) (is_yes (value_at (codes "clear") v)) (body list) at) (Instr-F.ResultBuffer (name v) (is_yes (value_at (codes "clear") v)) (body list) at) (rolls-ResultBuffer (name v) (is_yes (value_at (codes "clear") v)) (body list) at) (no_expressions, no_templates, no_patterns, no_patterns, no_tests) inside
+  item_fine element.ForEachItem n = lone (instr.ForEachItem (name v) (select v) (body list) at) (Instr-F.ForEachItem (name v) (select v) (body list) at) (rolls-ForEachItem (name v) (select v) (body list) at) (one_expression (select v) (or_expression (value_at (codes "select") v) (r (codes "select")) n.0), no_templates, no_patterns, no_patterns, no_tests, one_name (name v) n.1) inside
+  item_fine element.While n = lone (instr.While (making.test v) (body list) at) (Instr-F.While (making.test v) (body list) at) (rolls-While (making.test v) (body list) at) (one_expression (making.test v) (or_expression (value_at (codes "test") v) (r (codes "test")) n), no_templates, no_patterns, no_patterns, no_tests, no_names) inside
+  item_fine element.Assign n = lone (instr.Assign (name v) (select v) at) (Instr-F.Assign (name v) (select v) at) (rolls-Assign (name v) (select v) at) (one_expression (select v) (or_expression (value_at (codes "select") v) (r (codes "select")) n), no_templates, no_patterns, no_patterns, no_tests, no_names) nothing_in
+  item_fine element.CallProcedure n = lone (instr.CallProcedure (name v) (with_params list) at) (Instr-F.CallProcedure (name v) (with_params list) at) (rolls-CallProcedure (name v) (with_params list) at) (handed_in, no_templates, no_patterns, no_patterns, no_tests, no_names) nothing_in
+  item_fine element.ProcessChildren n = lone (instr.ProcessChildren (group_in v) (with_params list) at) (Instr-F.ProcessChildren (group_in v) (with_params list) at) (rolls-ProcessChildren (group_in v) (with_params list) at) (handed_in, no_templates, no_patterns, no_patterns, no_tests, no_names) nothing_in
+  item_fine element.ProcessAttributes n = lone (instr.ProcessAttributes (group_in v) (with_params list) at) (Instr-F.ProcessAttributes (group_in v) (with_params list) at) (rolls-ProcessAttributes (group_in v) (with_params list) at) (handed_in, no_templates, no_patterns, no_patterns, no_tests, no_names) nothing_in
+  item_fine element.ProcessSelf n = lone (instr.ProcessSelf (group_in v) (with_params list) at) (Instr-F.ProcessSelf (group_in v) (with_params list) at) (rolls-ProcessSelf (group_in v) (with_params list) at) (handed_in, no_templates, no_patterns, no_patterns, no_tests, no_names) nothing_in
+  item_fine element.ProcessSiblings n = lone (instr.ProcessSiblings (as_pattern (value_at (codes "while") v)) (as_pattern (value_at (codes "until") v)) (group_in v) (with_params list) at) (Instr-F.ProcessSiblings (as_pattern (value_at (codes "while") v)) (as_pattern (value_at (codes "until") v)) (group_in v) (with_params list) at) (rolls-ProcessSiblings (as_pattern (value_at (codes "while") v)) (as_pattern (value_at (codes "until") v)) (group_in v) (with_params list) at) (handed_in, no_templates, All-append (λ (p : Pattern). IsReadablePattern p.alternatives) (option_to_list (as_pattern (value_at (codes "while") v))) (option_to_list (as_pattern (value_at (codes "until") v))) (maybe_pattern (value_at (codes "while") v) (r (codes "while"))) (maybe_pattern (value_at (codes "until") v) (r (codes "until"))), no_patterns, no_tests, no_names) nothing_in
+  item_fine element.ProcessBuffer n = lone (instr.ProcessBuffer (name v) (group_in v) (with_params list) at) (Instr-F.ProcessBuffer (name v) (group_in v) (with_params list) at) (rolls-ProcessBuffer (name v) (group_in v) (with_params list) at) (handed_in, no_templates, no_patterns, no_patterns, no_tests, no_names) nothing_in
+  item_fine element.ProcessDocument n = lone (instr.ProcessDocument (template (codes "href") v) (group_in v) (with_params list) at) (Instr-F.ProcessDocument (template (codes "href") v) (group_in v) (with_params list) at) (rolls-ProcessDocument (template (codes "href") v) (group_in v) (with_params list) at) (handed_in, more_templates (template (codes "href") v) [] (or_template (value_at (codes "href") v) (r (codes "href"))) no_templates, no_patterns, no_patterns, no_tests, no_names) nothing_in
+  item_fine element.ResultBuffer n = lone (instr.ResultBuffer (name v) (is_yes (value_at (codes "clear") v)) (body list) at) (Instr-F.ResultBuffer (name v) (is_yes (value_at (codes "clear") v)) (body list) at) (rolls-ResultBuffer (name v) (is_yes (value_at (codes "clear") v)) (body list) at) (no_expressions, no_templates, no_patterns, no_patterns, no_tests, no_names) inside
   item_fine element.WithParam n = ((or_expression (value_at (codes "select") v) (r (codes "select")) n), tt)
 
 -- The lists of the sheet.
@@ -337,6 +361,11 @@ match_fine : (kind : Kind) (v : Values) → is_template kind ≡ true → Needs 
 match_fine element.Template v t n r = or_pattern (value_at (codes "match") v) r n
 match_fine other v t n r = absurd cc
 
+spelled_if : (kind : Kind) (v : Values) → (is_param kind || is_variable kind) ≡ true → Needs kind v → IsSpelled (name v)
+spelled_if element.Param v t n = n
+spelled_if element.Variable v t n = n
+spelled_if other v t n = absurd cc
+
 module _ (here : Context) (at : ℕ) (kind : Kind) (scope : List Binding) (v : Values) (r : Listed) (readable : (word : List ℕ) → ReadableAt (value_at word v)) (n : Needs kind v) (h : IsFine r.loading.sheet) (k : ItemsFine r.items) where
   params_fine : All SelectIs (params r.items)
   params_fine = params_are Fine TestIs SelectIs HandedIs r.items k
@@ -348,7 +377,7 @@ module _ (here : Context) (at : ℕ) (kind : Kind) (scope : List Binding) (v : V
   ended_fine = record {
     variables =
         all_if SelectIs (is_param kind || is_variable kind) (variable here.group (is_param kind) (place here at) v) r.loading.sheet.variables
-        (λ t. if_expression (value_at (codes "select") v) (readable (codes "select"))) h.variables;
+        (λ t. (spelled_if kind v t n, if_expression (value_at (codes "select") v) (readable (codes "select")))) h.variables;
     templates =
         all_if (λ (t : sheet.Template). IsReadablePattern t.pattern.alternatives × All SelectIs t.params) (is_template kind) (template_at here at v r.items) r.loading.sheet.templates
         (λ t. (match_fine kind v t n (readable (codes "match")), params_fine)) h.templates;
@@ -364,13 +393,13 @@ module _ (here : Context) (at : ℕ) (kind : Kind) (scope : List Binding) (v : V
     by false = (h, item_fine here.group (place here at) scope v r.items readable k kind n)
 
 text_fine : (reads : Reads) (files : List (Option File)) (here : Context) (offset : ℕ) (said : List ℕ) (list : Inside) → ItemsFine (text_item reads files here offset said list)
-text_fine reads files here offset said (Document b) = (one_by Fine TestIs SelectIs HandedIs (instr.LiteralChars said (place here offset)) (Instr-F.LiteralChars said (place here offset)) (rolls-LiteralChars said (place here offset)) (no_expressions, no_templates, no_patterns, no_patterns, no_tests) (none_is Fine TestIs SelectIs HandedIs), tt)
-text_fine reads files here offset said (Declarations b) = (one_by Fine TestIs SelectIs HandedIs (instr.LiteralChars said (place here offset)) (Instr-F.LiteralChars said (place here offset)) (rolls-LiteralChars said (place here offset)) (no_expressions, no_templates, no_patterns, no_patterns, no_tests) (none_is Fine TestIs SelectIs HandedIs), tt)
-text_fine reads files here offset said Start_of_body = (one_by Fine TestIs SelectIs HandedIs (instr.LiteralChars said (place here offset)) (Instr-F.LiteralChars said (place here offset)) (rolls-LiteralChars said (place here offset)) (no_expressions, no_templates, no_patterns, no_patterns, no_tests) (none_is Fine TestIs SelectIs HandedIs), tt)
-text_fine reads files here offset said Body = (one_by Fine TestIs SelectIs HandedIs (instr.LiteralChars said (place here offset)) (Instr-F.LiteralChars said (place here offset)) (rolls-LiteralChars said (place here offset)) (no_expressions, no_templates, no_patterns, no_patterns, no_tests) (none_is Fine TestIs SelectIs HandedIs), tt)
-text_fine reads files here offset said Branches = (one_by Fine TestIs SelectIs HandedIs (instr.LiteralChars said (place here offset)) (Instr-F.LiteralChars said (place here offset)) (rolls-LiteralChars said (place here offset)) (no_expressions, no_templates, no_patterns, no_patterns, no_tests) (none_is Fine TestIs SelectIs HandedIs), tt)
-text_fine reads files here offset said With_params = (one_by Fine TestIs SelectIs HandedIs (instr.LiteralChars said (place here offset)) (Instr-F.LiteralChars said (place here offset)) (rolls-LiteralChars said (place here offset)) (no_expressions, no_templates, no_patterns, no_patterns, no_tests) (none_is Fine TestIs SelectIs HandedIs), tt)
-text_fine reads files here offset said Nothing = (one_by Fine TestIs SelectIs HandedIs (instr.LiteralChars said (place here offset)) (Instr-F.LiteralChars said (place here offset)) (rolls-LiteralChars said (place here offset)) (no_expressions, no_templates, no_patterns, no_patterns, no_tests) (none_is Fine TestIs SelectIs HandedIs), tt)
+text_fine reads files here offset said (Document b) = (one_by Fine TestIs SelectIs HandedIs (instr.LiteralChars said (place here offset)) (Instr-F.LiteralChars said (place here offset)) (rolls-LiteralChars said (place here offset)) (no_expressions, no_templates, no_patterns, no_patterns, no_tests, no_names) (none_is Fine TestIs SelectIs HandedIs), tt)
+text_fine reads files here offset said (Declarations b) = (one_by Fine TestIs SelectIs HandedIs (instr.LiteralChars said (place here offset)) (Instr-F.LiteralChars said (place here offset)) (rolls-LiteralChars said (place here offset)) (no_expressions, no_templates, no_patterns, no_patterns, no_tests, no_names) (none_is Fine TestIs SelectIs HandedIs), tt)
+text_fine reads files here offset said Start_of_body = (one_by Fine TestIs SelectIs HandedIs (instr.LiteralChars said (place here offset)) (Instr-F.LiteralChars said (place here offset)) (rolls-LiteralChars said (place here offset)) (no_expressions, no_templates, no_patterns, no_patterns, no_tests, no_names) (none_is Fine TestIs SelectIs HandedIs), tt)
+text_fine reads files here offset said Body = (one_by Fine TestIs SelectIs HandedIs (instr.LiteralChars said (place here offset)) (Instr-F.LiteralChars said (place here offset)) (rolls-LiteralChars said (place here offset)) (no_expressions, no_templates, no_patterns, no_patterns, no_tests, no_names) (none_is Fine TestIs SelectIs HandedIs), tt)
+text_fine reads files here offset said Branches = (one_by Fine TestIs SelectIs HandedIs (instr.LiteralChars said (place here offset)) (Instr-F.LiteralChars said (place here offset)) (rolls-LiteralChars said (place here offset)) (no_expressions, no_templates, no_patterns, no_patterns, no_tests, no_names) (none_is Fine TestIs SelectIs HandedIs), tt)
+text_fine reads files here offset said With_params = (one_by Fine TestIs SelectIs HandedIs (instr.LiteralChars said (place here offset)) (Instr-F.LiteralChars said (place here offset)) (rolls-LiteralChars said (place here offset)) (no_expressions, no_templates, no_patterns, no_patterns, no_tests, no_names) (none_is Fine TestIs SelectIs HandedIs), tt)
+text_fine reads files here offset said Nothing = (one_by Fine TestIs SelectIs HandedIs (instr.LiteralChars said (place here offset)) (Instr-F.LiteralChars said (place here offset)) (rolls-LiteralChars said (place here offset)) (no_expressions, no_templates, no_patterns, no_patterns, no_tests, no_names) (none_is Fine TestIs SelectIs HandedIs), tt)
 text_fine reads files here offset said (Characters b) = (tt, tt)
 text_fine reads files here offset said Parts = (tt, tt)
 
@@ -390,7 +419,7 @@ literal_fine : (reads : Reads) (files : List (Option File)) (here : Context) (e 
 literal_fine reads files here e items h =
     let attrs = attrs_of reads files here e in (
       one_by Fine TestIs SelectIs HandedIs (instr.Literal e.name attrs (body items) (place here e.offset)) (Instr-F.Literal e.name attrs (body items) (place here e.offset)) (rolls-Literal e.name attrs (body items) (place here e.offset))
-          (no_expressions, attrs_fine reads files here.version.dialect (scope_at here e) e.attrs, no_patterns, no_patterns, no_tests) (in_body Fine TestIs SelectIs HandedIs items h),
+          (no_expressions, attrs_fine reads files here.version.dialect (scope_at here e) e.attrs, no_patterns, no_patterns, no_tests, no_names) (in_body Fine TestIs SelectIs HandedIs items h),
       tt,
     )
 
@@ -430,7 +459,7 @@ sheet_fine s h =
         variables = h.variables;
         templates = h.templates;
         procedures = h.procedures;
-        instructions = λ n d i. let x = all n d i in record { expressions = x.0; templates = x.1; conditions = x.2; copied = x.3 };
+        instructions = λ n d i. let x = all n d i in record { expressions = x.0; templates = x.1; conditions = x.2; copied = x.3; names = x.5 };
       },
       λ n d i. (all n d i).4,
     )

@@ -280,7 +280,7 @@ module _ (s : Sheet) (g : ℕ) (locals : List Name) where
     item_says element.Otherwise t h = (body_in h.says (h.bare refl), tt)
     item_says element.ForEachItem t h = (
       instr_ok s g locals (instr.ForEachItem (name v) (select v) (body list) at) (Instr-F.ForEachItem (name v) (select v) (body list) at) (rolls-ForEachItem (name v) (select v) (body list) at)
-          (λ known a. own_good s g known locals (inner_said (Instr-F.ForEachItem (name v) (select v) (body list) at)) a (one_es s g locals (select v) (some_select (as_expression (value_at (codes "select") v)) (sel t.vars) t.needs)) (no_ts s g locals) (no_ps s g locals) (All-cons (Good s g) (LocalDeclared (name v) known) [] (tt, a (name v) ∙ t.fresh) (All-nil (Good s g))) (no_names s g GroupNamed) (no_names s g ProcedureNamed) (no_names s g BufferNamed) none_distinct (body_says s g (locals ++ name v ∷ []) list (name v ∷ known) (h.bare refl) h.says (alike_more known locals (name v) a))),
+          (λ known a. own_good s g known locals (inner_said (Instr-F.ForEachItem (name v) (select v) (body list) at)) a (one_es s g locals (select v) (some_select (as_expression (value_at (codes "select") v)) (sel t.vars) t.needs.0)) (no_ts s g locals) (no_ps s g locals) (All-cons (Good s g) (LocalDeclared (name v) known) [] (tt, a (name v) ∙ t.fresh) (All-nil (Good s g))) (no_names s g GroupNamed) (no_names s g ProcedureNamed) (no_names s g BufferNamed) none_distinct (body_says s g (locals ++ name v ∷ []) list (name v ∷ known) (h.bare refl) h.says (alike_more known locals (name v) a))),
       tt,
     )
     item_says element.While t h = (

@@ -113,3 +113,9 @@ abbrev pub buffer_named : {A B : Type 0} → Instr-F A B → Option Name
 buffer_named (Instr-F.ProcessBuffer name group params at) = Some name
 buffer_named (Instr-F.ResultBuffer name clear body at) = Some name
 buffer_named x = None
+
+-- the variables that it declares, or binds items to
+abbrev pub variables_named : {A B : Type 0} → Instr-F A B → List Name
+variables_named (Instr-F.Local name select at) = name ∷ []
+variables_named (Instr-F.ForEachItem name select body at) = name ∷ []
+variables_named x = []

@@ -2,7 +2,7 @@
 use Rattle.std.specs.Prelude.{◌≡◌, ◌<◌, ◌≤◌, ℕ, ◌+◌, ◌^◌, true, List, [], ◌∷◌, Option, Some, None, length, take, slice_get, All, IfSome}
 use Rattle.std.specs.List.{flat_map}
 use Rattle.std.specs.Option.{option_to_list}
-use Rattle.stx_base.specs.Character.{is_cdata_text}
+use Rattle.stx_base.specs.Character.{is_cdata_text, is_ncname}
 use Rattle.stx_base.specs.declared.fault.Place.{Place}
 use Rattle.stx_base.specs.declared.name.Name.{Name}
 use Rattle.stx_base.specs.declared.node.NodeTest.{NodeTest}
@@ -20,7 +20,7 @@ use Rattle.sheet_model.specs.Body.{instructions, sheet_nesting}
 use Rattle.sheet_model.specs.Entries.{entries}
 use Rattle.sheet_model.specs.Groups.{AreApart, AreDistinct, HasVariable, IsFound, IsNew}
 use Rattle.sheet_model.specs.Names.{Mention, free, variables, with_params, pattern_variables}
-use Rattle.sheet_model.specs.Parts.{conditions, copied_attributes, expressions, place, templates}
+use Rattle.sheet_model.specs.Parts.{conditions, copied_attributes, expressions, place, templates, variables_named}
 use Rattle.sheet_model.specs.declared.instr.Instr.{Instr}
 use Rattle.sheet_model.specs.declared.instr.Instr.TheViews.{out-Instr}
 use Rattle.sheet_model.specs.declared.instr.When.{When}
@@ -61,7 +61,11 @@ pub record NumbersNameEntries (s : Sheet) : Type 0 where
   pub variables : VariablesStand s s.variables
   pub instructions : All (λ i. IsInFile s (place (out-Instr i))) (instructions s)
 
--- Each expression, pattern and template is one that some text is read as.
+-- Each expression, pattern and template is one that some text is read as, and each variable has a name that some text spells: its local
+-- part is an NCName (Namespaces in XML 1.0, 4).
+
+abbrev pub IsSpelled : Name → Type 0
+IsSpelled n = is_ncname n.local ≡ true
 
 abbrev pub AreReadableTemplates : List Avt → Type 0
 AreReadableTemplates ts = All (λ t. IsReadableTemplate t.parts) ts
@@ -74,9 +78,13 @@ pub record IsReadableInstruction (i : Instr) : Type 0 where
   pub templates : AreReadableTemplates (templates (out-Instr i))
   pub conditions : AreReadablePatterns (conditions (out-Instr i))
   pub copied : AreReadablePatterns (copied_attributes (out-Instr i))
+  pub names : All IsSpelled (variables_named (out-Instr i))
+
+abbrev pub IsReadableVariable : Variable → Type 0
+IsReadableVariable v = IsSpelled v.name × IfSome v.select IsReadable
 
 abbrev pub AreReadableVariables : List Variable → Type 0
-AreReadableVariables vs = All (λ v. IfSome v.select IsReadable) vs
+AreReadableVariables vs = All IsReadableVariable vs
 
 pub record IsReadableSheet (s : Sheet) : Type 0 where
   pub variables : AreReadableVariables s.variables

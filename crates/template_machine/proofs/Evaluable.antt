@@ -10,7 +10,7 @@ use Rattle.instr_code.specs.Code.{code_of}
 use Rattle.instr_code.specs.declared.code.Code.{Code}
 use Rattle.sheet_model.specs.Body.{instructions}
 use Rattle.sheet_model.specs.Parts.{expressions, templates}
-use Rattle.sheet_model.specs.Sound.{AreReadableVariables, IsReadableInstruction, IsReadableSheet}
+use Rattle.sheet_model.specs.Sound.{AreReadableVariables, IsReadableInstruction, IsReadableSheet, IsReadableVariable}
 use Rattle.sheet_model.specs.declared.instr.Instr.{Instr}
 use Rattle.sheet_model.specs.declared.instr.Instr.TheOpen.{Instr-F}
 use Rattle.sheet_model.specs.declared.instr.Instr.TheViews.{out-Instr, out-roll-Instr}
@@ -93,7 +93,7 @@ select_evaluable (Some y) h = λ x e. let same : y ≡ x = cc in subst CanBeEval
 
 variables_evaluable : (vs : List Variable) → AreReadableVariables vs → AreEvaluable vs
 variables_evaluable vs h =
-    all_as (λ (v : Variable). IfSome v.select IsReadable) (λ (v : Variable). ForSome v.select CanBeEvaluated) vs (λ v. select_evaluable v.select) h
+    all_as IsReadableVariable (λ (v : Variable). ForSome v.select CanBeEvaluated) vs (λ v h. select_evaluable v.select h.1) h
 
 pub procedure_params : (p : Program) (r : Run) → IsSteady p r → (n : ℕ) (q : Procedure) → slice_get p.sheet.procedures n ≡ Some q → AreEvaluable q.params
 procedure_params p r s n q is =

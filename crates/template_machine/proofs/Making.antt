@@ -16,7 +16,7 @@ use Rattle.event_buffers.specs.declared.fault.BufferFault.TheVariants as fault
 use Rattle.event_buffers.specs.declared.kept.Kept.{Kept}
 use Rattle.sheet_model.specs.Groups.{AreApart}
 use Rattle.sheet_model.specs.Names.{is_same}
-use Rattle.sheet_model.specs.Sound.{AreReadableVariables, StandsIn, VariablesStand}
+use Rattle.sheet_model.specs.Sound.{AreReadableVariables, IsReadableVariable, StandsIn, VariablesStand}
 use Rattle.sheet_model.specs.declared.sheet.Sheet.{Sheet}
 use Rattle.sheet_model.specs.declared.sheet.Variable.{Variable}
 use Rattle.stxpath_syntax.proofs.Evaluable.{readable_expression}
@@ -192,7 +192,7 @@ variables_few p r s = omega (arith, ap length (variables_are p r s), s.sound.sma
 pub variable_runs : (p : Program) (r : Run) → IsSteady p r → (k : ℕ) (v : Variable) → slice_get p.sheet.variables k ≡ Some v → ForSome v.select CanBeEvaluated
 variable_runs p r s k v at =
     for_some v.select
-    (all_at (λ (x : Variable). IfSome x.select IsReadable) p.sheet.variables k v (subst AreReadableVariables (sym (variables_are p r s)) s.sound.readable.variables) at)
+    (all_at IsReadableVariable p.sheet.variables k v (subst AreReadableVariables (sym (variables_are p r s)) s.sound.readable.variables) at).1
 
 pub variable_stands : (p : Program) (r : Run) → IsSteady p r → (k : ℕ) (v : Variable) → slice_get p.sheet.variables k ≡ Some v → v.group < length r.store
 variable_stands p r s k v at =
