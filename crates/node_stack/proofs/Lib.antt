@@ -1,6 +1,5 @@
 mod Among
 mod Counting
-mod Giving
 mod Keeping
 mod Listing
 mod Lists

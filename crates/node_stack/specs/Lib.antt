@@ -1,6 +1,5 @@
 pub mod Counts
 pub mod Few
-pub mod Kept
 pub mod Laws
 pub mod Listed
 pub mod Names

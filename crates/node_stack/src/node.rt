@@ -2,7 +2,7 @@ ghost use Rattle.std.specs.Prelude.{◌≡◌, [], IfOk, Some, unwrap_or};
 ghost use Rattle.std.specs.Option.{option_copied};
 
 use std::alloc::Global;
-use stx_base::{Attr, Binding, Copied, First, List, Memory, Name, Spare, Text};
+use stx_base::{Attr, Binding, Copied, First, List, Memory, Name, Text};
 
 /// A node without attributes and children.
 #[derive(Debug, Drop)]
@@ -11,29 +11,6 @@ pub enum Leaf {
     CData(Text),
     Comment(Text),
     Pi { target: Text, text: Text },
-}
-
-impl Leaf {
-    ghost use Rattle.node_stack.specs.Kept.{lists_in, texts_in};
-    ghost use Rattle.node_stack.specs.Open.{leaf_of};
-    ghost use Rattle.stx_base.specs.Spare.{Gains, IsBounded};
-
-    /// Its texts are kept for others.
-    #[inline(always)]
-    pub(crate) fn give_back(self, spare: &mut Spare)
-        ensures gains { Gains (texts_in (Some (leaf_of self))) (lists_in (Some (leaf_of self))) spare.old spare.new }
-        ensures bounded { IsBounded spare.new }
-    {
-        match self {
-            Leaf::Chars(text) => spare.keep(text),
-            Leaf::CData(text) => spare.keep(text),
-            Leaf::Comment(text) => spare.keep(text),
-            Leaf::Pi { target, text } => {
-                spare.keep(target);
-                spare.keep(text);
-            }
-        }
-    }
 }
 
 /// A node that has ended.

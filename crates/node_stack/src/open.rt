@@ -2,7 +2,6 @@
 
 ghost use Rattle.std.specs.Prelude.{◌≡◌, ◌+◌, ◌<◌, ◌≤◌, ◌^◌, [], OnOk, OnErr, Some, None, true, false, MatchOption, count_by, length, option_map, slice_get, take};
 ghost use Rattle.node_stack.specs.Counts.{capped};
-ghost use Rattle.node_stack.specs.Kept.{lists_in, texts_in};
 ghost use Rattle.node_stack.specs.Open.{at_tip, attributes_in, closed_node, earlier_of, element_of, has_leaf, leaf_of, node_of, nodes_of, tally_in, tip_node, tip_told, HasChild, KeepsOwn};
 ghost use Rattle.node_stack.specs.Open as told;
 ghost use Rattle.node_stack.specs.Path as node;
@@ -10,14 +9,13 @@ ghost use Rattle.node_stack.specs.Path.{position_at};
 ghost use Rattle.node_stack.specs.Tally.{kind_of};
 ghost use Rattle.node_stack.specs.Test as spec;
 ghost use Rattle.node_stack.specs.declared.open.Tip.TheVariants as tips;
-ghost use Rattle.stx_base.specs.Spare.{Gains, IsBounded};
 
 use crate::node::{Closed, Leaf, NodeView};
 use crate::own::Own;
 use crate::spare::SpareNames;
 use crate::tally::{Child, MOST, Tally};
 use crate::test::passes;
-use stx_base::{Attr, Binding, First, List, Memory, Name, NodeTest, Spare};
+use stx_base::{Attr, Binding, First, List, Memory, Name, NodeTest};
 
 /// An element whose end is still to come.
 #[derive(Drop)]
@@ -45,26 +43,6 @@ impl OpenElement {
         }
     }
 
-    /// Its texts, and the list of its counters, are kept for others.
-    #[inline(always)]
-    pub fn give_back(self, names: &mut SpareNames, spare: &mut Spare)
-        ensures gains { Gains (texts_in (Some (element_of self))) (lists_in (Some (element_of self))) spare.old spare.new }
-        ensures bounded { IsBounded spare.new }
-    {
-        let OpenElement {
-            name,
-            attrs,
-            decls: _,
-            first,
-            children,
-            own: _,
-        } = self;
-        children.give_back(names);
-        keep_first(first, spare);
-        spare.keep_name(name);
-        spare.keep_attrs(attrs);
-    }
-
     /// The texts and the list of its counters are kept for others.
     pub fn closed(self, spare: &mut SpareNames) -> Closed
         ensures { closed_node result ≡ element_of self }
@@ -84,16 +62,6 @@ impl OpenElement {
             decls,
             first,
         }
-    }
-}
-
-/// Characters are kept for others.
-#[inline(always)]
-fn keep_first(first: First, spare: &mut Spare)
-    ensures { Gains 1 0 spare.old spare.new }
-{
-    if let First::Chars(text) = first {
-        spare.keep(text);
     }
 }
 

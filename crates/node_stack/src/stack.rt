@@ -34,10 +34,8 @@ pub struct NodeStack {
 
 impl NodeStack {
     ghost use Rattle.node_stack.specs.Path.{at_attribute, attributes, can_end, can_have_children, current, depth, document_alone, entered, is_attribute, is_element, is_told, last_of, left, level, node_at, parked, position, resumed, string_value, text_of, Element};
-    ghost use Rattle.node_stack.specs.Kept.{lists_in, texts_in};
     ghost use Rattle.node_stack.specs.Open.{closed_node, ended_in, leaf_of, node_of, open_in};
     ghost use Rattle.node_stack.specs.Stack.{innermost, path, path_node};
-    ghost use Rattle.stx_base.specs.Spare.{Gains, IsBounded};
 
     /// The document node alone. At most `limit` elements may be open at once.
     pub fn new(alloc: Global, limit: u32) -> Result<NodeStack, Memory>
@@ -122,20 +120,6 @@ impl NodeStack {
         match self.end() {
             Ended::Element(element) => element.closed(&mut self.spare),
             Ended::Leaf(leaf, _) => Closed::Leaf(leaf),
-        }
-    }
-
-    /// Ends the current node, and keeps its texts and its list of attributes for others, as far as there is room.
-    #[inline(always)]
-    pub fn close_into(&mut self, spare: &mut Spare)
-        requires { IsTrue (can_end (current (path self.old))) }
-        ensures path { path self.new ≡ left (path self.old) }
-        ensures gains { Gains (texts_in (current (path self.old))) (lists_in (current (path self.old))) spare.old spare.new }
-        ensures bounded { IsBounded spare.new }
-    {
-        match self.end() {
-            Ended::Element(element) => element.give_back(&mut self.spare, spare),
-            Ended::Leaf(leaf, _) => leaf.give_back(spare),
         }
     }
 
