@@ -16,5 +16,6 @@ mod Steadying
 mod Tabling
 mod Texts
 mod Together
+mod InTurn
 mod Trees
 mod Valuing

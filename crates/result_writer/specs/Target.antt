@@ -1,5 +1,5 @@
 -- What parts leave of a target, which parts it accepts, and what it writes of them.
-use Rattle.std.specs.Prelude.{◌≡◌, ◌≤◌, ℕ, ◌+◌, Bool, true, false, ◌&&◌, nat_lt, if◌then◌else◌, List, [], ◌∷◌, ◌++◌, Option, Some, None, is_some, length, codes, encode_utf8_all}
+use Rattle.std.specs.Prelude.{◌≡◌, ◌≤◌, ℕ, ◌+◌, Bool, true, false, ◌&&◌, nat_lt, if◌then◌else◌, List, [], ◌∷◌, ◌++◌, Option, Some, None, Result, IfErr, OnOk, is_some, length, codes, encode_utf8_all}
 use Rattle.std.specs.List.{list_any}
 use Rattle.stx_base.specs.Character.{is_cdata_text}
 use Rattle.stx_base.specs.declared.name.Attr.{Attr}
@@ -243,3 +243,13 @@ pub record TakesAtOnce (l : Left) (attrs : List Attr) : Type 0 where
 abbrev pub IsCause : Option ResultFault → WriteStop → Type 0
 IsCause o (Fault f) = o ≡ Some f
 IsCause o Memory = Unit {0}
+
+-- Parts are put one after another, up to the first that has a fault. Attributes leave the scope of the last start as it was.
+pub record PutsInTurn {A : Type 0} (parts : List Part) (result : Result A WriteStop) (old new : Target) : Type 0 where
+  pub taken : List Part
+  pub rest : List Part
+  pub whole : parts ≡ taken ++ rest
+  pub allowed : first_fault old.limit old.left taken ≡ None
+  pub left : new ≡ record old { left = left_by old.left taken }
+  pub all : OnOk result (rest ≡ [])
+  pub refused : IfErr result (λ stop. (p : Part) × ((ps : List Part) × ((rest ≡ p ∷ ps) × IsCause (fault old.limit (left_by old.left taken) p) stop)))

@@ -8,7 +8,7 @@ ghost use Rattle.stx_base.specs.Course.{Begins};
 ghost use Rattle.result_writer.specs.Nodes.{attribute_part};
 ghost use Rattle.result_writer.specs.Opened.{dressing};
 ghost use Rattle.result_writer.specs.Target as spec;
-ghost use Rattle.result_writer.specs.Target.{behind, chars_fault, holds_cdata_text, dressed_in, end_text, first_fault, fresh, innermost, is_closed, left_by, settles, text, whole_fault, IsCause, TakesAtOnce};
+ghost use Rattle.result_writer.specs.Target.{behind, chars_fault, holds_cdata_text, dressed_in, end_text, first_fault, fresh, innermost, is_closed, left_by, settles, text, whole_fault, IsCause, PutsInTurn, TakesAtOnce};
 
 use crate::chars::append_chars;
 use crate::escape::{Context, append_escaped};
@@ -248,6 +248,31 @@ impl Writer {
             return Err(fault);
         }
         self.opened.add_attributes(attrs);
+        Ok(())
+    }
+
+    /// The same of attributes one after another, up to the first that has a fault; those before it are taken. Most are taken at
+    /// once, which spares to move each of them.
+    pub fn put_attributes_in_turn(&mut self, attrs: List<Attr>) -> Result<(), WriteStop>
+        ensures { PutsInTurn (map attribute_part attrs) result self.old self.new }
+    {
+        let lent = attrs.as_slice();
+        if self.opened.takes_at_once(lent) && attributes_fault(lent).is_none() {
+            self.opened.add_attributes(attrs);
+            return Ok(());
+        }
+        self.put_each_attribute(attrs)
+    }
+
+    /// The same without trying to take them at once.
+    #[inline(never)]
+    fn put_each_attribute(&mut self, attrs: List<Attr>) -> Result<(), WriteStop>
+        ensures { PutsInTurn (map attribute_part attrs) result self.old self.new }
+    {
+        for attr in attrs.into_vec() {
+            let Attr { name, value } = attr;
+            self.put_attribute(name, value)?;
+        }
         Ok(())
     }
 
