@@ -129,3 +129,4 @@ pub mod Moved
 pub mod Sectionless
 pub mod OlderTests
 pub mod OlderRun
+pub mod Written

@@ -3,7 +3,7 @@
 ghost use Rattle.std.specs.Prelude.{◌≡◌, ◌↔◌, List};
 ghost use Rattle.stx_base.specs.Course.{Ends, Over};
 ghost use Rattle.template_machine.specs.Alike.{ExpressionsSeeNodes, TextsSeeNodes, TrailsLookAlike};
-ghost use Rattle.template_machine.specs.Copies.{CopiesAll, CopiesNothing, CopiesTexts};
+ghost use Rattle.template_machine.specs.Copies.{CopiesAll, CopiesNothing, CopiesTexts, WritesDocuments, WritesNothing, WritesTexts};
 ghost use Rattle.template_machine.specs.Ending.{Said, Ending};
 ghost use Rattle.template_machine.specs.GoingOn.{JumpsGoOn, OperationsGoOn};
 ghost use Rattle.template_machine.specs.Job.{Given};
@@ -19,6 +19,7 @@ ghost use Rattle.template_machine.specs.Unchanged.{MeansAsBefore, PassesAsBefore
 ghost use Rattle.xml_events.specs.Tree.{Forest};
 
 use group_scope::law as choice_law;
+use result_writer::law as written;
 
 /// Each sheet has exactly one meaning on each tree, and `outcome` is it.
 pub fn one_meaning()
@@ -40,7 +41,13 @@ pub fn copies()
     ensures all { CopiesAll }
     ensures texts { CopiesTexts }
     ensures nothing { CopiesNothing }
-{}
+    // So it is with whole runs, and what is written of them.
+    ensures documents { WritesDocuments }
+    ensures written_texts { WritesTexts }
+    ensures nothing_put { WritesNothing }
+{
+    written::nodes();
+}
 
 /// A list of instructions leaves the locals that were there: what is declared in it, and in all that it calls, is gone at its end.
 pub fn locals_last()
