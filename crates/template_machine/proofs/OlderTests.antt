@@ -24,7 +24,7 @@ use Rattle.template_machine.specs.Meaning.{ends_by}
 use Rattle.template_machine.specs.Older.{old_choice, old_does_fit, old_ends_by, old_first_by, old_first_of, old_fits, old_fits_there, old_node_passes, old_passes, old_step_fits, old_steps_fit}
 use Rattle.template_machine.specs.Passing.{choice}
 use Rattle.template_machine.specs.Trail.{Stand, Trail, current, first_by, path_node, path_of}
-use Rattle.template_machine.specs.Unchanged.{HasNoSections, PassesAsBefore, is_old_node}
+use Rattle.template_machine.specs.Unchanged.{HasNoSections, PassesAsBefore, TestsPassAsBefore, is_old_node}
 use Rattle.template_machine.specs.Values.{fits_there, pattern_setting}
 
 -- no node of a way is a CDATA section
@@ -65,7 +65,7 @@ same_cdata (Comment text) h = refl
 same_cdata (Pi target text) h = refl
 same_cdata (Attribute a) h = refl
 
-same_test : (t : NodeTest) (n : Node) → is_old_node n ≡ true → passes t (kind_of n) ≡ old_passes t (kind_of n)
+pub same_test : TestsPassAsBefore
 same_test test.Document n h = refl
 same_test (test.Name m) n h = refl
 same_test (test.Prefix b) n h = refl

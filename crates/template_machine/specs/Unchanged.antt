@@ -4,8 +4,10 @@ use Rattle.std.specs.Prelude.{◌≡◌, ◌↔◌, ℕ, Bool, true, false, List
 use Rattle.stx_base.specs.Course.{Ends}
 use Rattle.stx_base.specs.declared.part.Part.{Part}
 use Rattle.stx_base.specs.declared.part.Part.TheVariants as part
-use Rattle.node_stack.specs.Path.{Node}
+use Rattle.stx_base.specs.declared.node.NodeTest.{NodeTest}
+use Rattle.node_stack.specs.Path.{Node, kind_of}
 use Rattle.node_stack.specs.Path as node
+use Rattle.node_stack.specs.Test.{passes}
 use Rattle.sheet_model.specs.declared.pass.Pass.{Pass}
 use Rattle.sheet_model.specs.declared.pass.Pass.TheVariants as pass
 use Rattle.sheet_model.specs.declared.sheet.Buffer.{Buffer}
@@ -14,7 +16,7 @@ use Rattle.xml_events.specs.Tree.{Forest, End, Cut, Single, Nested, CData}
 use Rattle.template_machine.specs.Ending.{Ending, Said, Put}
 use Rattle.template_machine.specs.Job.{Given}
 use Rattle.template_machine.specs.Meaning.{code, meaning}
-use Rattle.template_machine.specs.Older.{old_code, old_leaf_parts, old_meaning, old_parts_before, old_parts_behind}
+use Rattle.template_machine.specs.Older.{old_code, old_leaf_parts, old_meaning, old_parts_before, old_parts_behind, old_passes}
 use Rattle.template_machine.specs.Passing.{leaf_parts, parts_before, parts_behind}
 use Rattle.template_machine.specs.Trail.{Trail}
 
@@ -43,6 +45,10 @@ is_old_part p = true
 abbrev pub is_old_said : Said → Bool
 is_old_said (Put p) = is_old_part p
 is_old_said o = true
+
+-- A node that isn't one of a CDATA section passes the tests that it passed.
+abbrev pub TestsPassAsBefore : Type 0
+TestsPassAsBefore = (t : NodeTest) (n : Node) → is_old_node n ≡ true → passes t (kind_of n) ≡ old_passes t (kind_of n)
 
 -- By the newer rule of kinds, each of the three passes through what it passed through.
 abbrev pub PassesAsBefore : Type 0

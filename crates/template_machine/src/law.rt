@@ -15,7 +15,7 @@ ghost use Rattle.template_machine.specs.Passed.{PassesThrough};
 ghost use Rattle.template_machine.specs.Resuming.{Resumes};
 ghost use Rattle.template_machine.specs.Rows.{Again, Assigned, Attributes, Buffered, EachItem, LastOfTwo, Nested, Sections, Twice};
 ghost use Rattle.template_machine.specs.Stopping.{Broken, BrokenOther, Busy, ByKinds, Categories, Crowded, EnoughSources, Full, Going, Gone, Late, LeftOpen, NoDocument, OpenCopy, OtherDocument, Outermost, Parted, PassedOver, ReadSpent, Renewed, Short, TooManySources, Unmatched, Waits};
-ghost use Rattle.template_machine.specs.Unchanged.{MeansAsBefore, PassesAsBefore, PutsNoSections};
+ghost use Rattle.template_machine.specs.Unchanged.{MeansAsBefore, PassesAsBefore, PutsNoSections, TestsPassAsBefore};
 ghost use Rattle.xml_events.specs.Tree.{Forest};
 
 use group_scope::law as choice_law;
@@ -69,6 +69,8 @@ pub fn before()
     ensures puts { PutsNoSections }
     // It passes through what it passed through before there were kinds.
     ensures passes { PassesAsBefore }
+    // Its nodes pass the tests that they passed.
+    ensures tests { TestsPassAsBefore }
 {}
 
 /// A machine that waits for an event has an open document.
