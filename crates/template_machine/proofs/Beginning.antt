@@ -6,6 +6,7 @@ use Rattle.frame_stack.specs.declared.frame.Frame.{Frame}
 use Rattle.frame_stack.specs.declared.frame.Frame.TheVariants.{Body, Call, Loop}
 use Rattle.frame_stack.specs.declared.locals.Local.{Local}
 use Rattle.sheet_model.specs.declared.sheet.Variable.{Variable}
+use Rattle.stxpath_values.specs.declared.value.Atom.{Atom}
 use Rattle.template_machine.specs.Bodies.{all_spent, seen_as, spent_by}
 use Rattle.template_machine.specs.Made.{BindsParams, LaysScope}
 use Rattle.template_machine.specs.Moments.{IsBuffer}
@@ -113,9 +114,9 @@ begins_bound params m u goes b =
     by : (n m : ℕ) → n ≡ m → n ≤ m + 0
     by n m e = omega (arith, e)
 
-pub begins_handed : (r u : Run) (next place count : ℕ) (frames : FrameStack) → r.doing ≡ doing.Body
-    → frames ≡ with_frames (changed (with_pc next) place r.frames.frames) r.frames → PushesWaiting count place (record r { frames = frames }) u → Begins 0 r u
-begins_handed r u next place count frames goes is w =
+pub begins_handed : (r u : Run) (next place : ℕ) (values : List (List Atom)) (frames : FrameStack) → r.doing ≡ doing.Body
+    → frames ≡ with_frames (changed (with_pc next) place r.frames.frames) r.frames → PushesWaiting values place (record r { frames = frames }) u → Begins 0 r u
+begins_handed r u next place values frames goes is w =
     let h = λ (ls : List Local). ls ++ w.0 in
     subst (Begins 0 r) (sym w.1.1)
     (begins_locals r next place place h frames (with_frames (changed (with_locals h) place frames.frames) frames) goes is refl)

@@ -83,7 +83,7 @@ module _ (p : Program) (stations : List Station) where
       ))
 
   -- what stood at the begin of such an element
-  before_tag : (pc n : ℕ) (c : Context) → HasStations p.code stations p.sheet → slice_get p.code.ops pc ≡ Some (op.Close n) → HasForm p.code n AroundTag
+  pub before_tag : (pc n : ℕ) (c : Context) → HasStations p.code stations p.sheet → slice_get p.code.ops pc ≡ Some (op.Close n) → HasForm p.code n AroundTag
       → Goes stations pc c → (o : Context) × ((c ≡ with_kind Tag o) × Goes stations (pc + 1) o)
   before_tag pc n c stand is has g =
       let l = stand.leads pc (op.Close n) c g.0 is g.1 in

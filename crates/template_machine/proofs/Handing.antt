@@ -13,6 +13,7 @@ use Rattle.instr_code.specs.declared.code.Op.TheVariants as op
 use Rattle.sheet_model.specs.Parts.{handed}
 use Rattle.sheet_model.specs.declared.instr.Instr.{Instr}
 use Rattle.sheet_model.specs.declared.instr.Instr.TheViews.{out-Instr}
+use Rattle.stxpath_values.specs.declared.value.Atom.{Atom}
 use Rattle.template_machine.specs.Bodies.{all_spent, body_in, level_in, on_body, pc_in, spent_by, spent_in}
 use Rattle.template_machine.specs.Contexts.{Goes, HasForm, HasStations, Single, Station, behind}
 use Rattle.template_machine.specs.Programs.{done_by, instr_at, number_at}
@@ -29,6 +30,7 @@ use Rattle.template_machine.specs.declared.source.Ahead.{Ahead}
 use Rattle.template_machine.specs.declared.source.Ahead.TheVariants as ahead
 use Rattle.template_machine.proofs.Branching.{one_form}
 use Rattle.template_machine.proofs.Moving.{alone, moves_locals, place_moves, steps}
+use Rattle.template_machine.proofs.Pushing.{as_many}
 use Rattle.template_machine.proofs.Operating.{at_body, behind_locals, does_otherwise, fits_moves, level_moves, tell_moves, with_other_frames}
 
 -- the instruction before the next operation
@@ -117,16 +119,16 @@ hands_on p r running n i waiting frames at has is long same =
     }
 
 -- so behind a call that lets them wait
-pub handed_on : (p : Program) (r : Run) (running : Running) (n : ℕ) (i : Instr) (count : ℕ) (frames : FrameStack) (t : Run) → (at : IsAtOp p r running (op.Do n))
-    → HasForm p.code n Single → slice_get p.code.instrs n ≡ Some i → count ≡ length (handed (out-Instr i))
+pub handed_on : (p : Program) (r : Run) (running : Running) (n : ℕ) (i : Instr) (values : List (List Atom)) (frames : FrameStack) (t : Run) → (at : IsAtOp p r running (op.Do n))
+    → HasForm p.code n Single → slice_get p.code.instrs n ≡ Some i → length values ≡ length (handed (out-Instr i))
     → frames ≡ with_frames (changed (with_pc (running.pc + 1)) running.body r.frames.frames) r.frames
-    → PushesWaiting count running.body (record r { frames = frames }) t → Awaits p t running.pc running.body
-handed_on p r running n i count frames t at has is many set pushed =
+    → PushesWaiting values running.body (record r { frames = frames }) t → Awaits p t running.pc running.body
+handed_on p r running n i values frames t at has is many set pushed =
     let waiting = pushed.0 in
     let h : List Local → List Local = λ ls. ls ++ waiting in
     let more = with_frames (changed (with_locals h) running.body frames.frames) frames in
     subst (λ (x : Run). Awaits p x running.pc running.body) (sym pushed.1.1)
-    (hands_on p r running n i waiting more at has is (pushed.1.0 ∙ many)
+    (hands_on p r running n i waiting more at has is (as_many values waiting pushed.1.0 ∙ many)
     (behind_locals p r running (op.Do n) at (running.pc + 1) h frames more set refl))
 
 -- A list goes on.

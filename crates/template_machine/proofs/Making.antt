@@ -401,6 +401,9 @@ leaves_scope r g store b stored is =
     let s = standing_of r in
     record {
       rest = refl;
+      store = stored;
+      buffers = is;
+      targets = refl;
       standing =
           ap (λ ns. record s { copies = ns; shelves = map shelf_of b.buffers }) (ap (map length) stored ∙ left_counts r.store g)
           ∙ ap (λ ss. record (scope_over true g s) { shelves = ss }) (ap (λ (x : Buffers). map shelf_of x.buffers) is ∙ left_shelves g r.putting.buffers.buffers);

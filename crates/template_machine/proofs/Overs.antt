@@ -67,7 +67,7 @@ node_left p r n x h inner is same frames gone scopes ahead held origin counts do
 
 -- The children of a body's node are over, and the body waits.
 
-level_fits : (fs : List Frame) (w : Way) (n : ℕ) (front : Front) → IsSome (level_in fs) → ListFits fs w n front → HasList w × AreGone fs × IsFrontFor w n front
+pub level_fits : (fs : List Frame) (w : Way) (n : ℕ) (front : Front) → IsSome (level_in fs) → ListFits fs w n front → HasList w × AreGone fs × IsFrontFor w n front
 level_fits [] w n front some h = absurd h
 level_fits (Attributes next asked ∷ fs) w n front some h = absurd (false≢true some)
 level_fits (Skip depth ∷ fs) w n front some h = absurd (false≢true some)

@@ -1,14 +1,17 @@
 -- Values are pushed one after another.
-use Rattle.std.proofs.Common.{◌≡◌, ℕ, zero, suc, ◌+◌, ◌<◌, List, [], ◌∷◌, ◌++◌, length, Option, Some, None, refl, ap, sym, ◌∙◌, arith, append-nil, append_assoc, length-append}
+use Rattle.std.proofs.Common.{◌≡◌, ℕ, zero, suc, ◌+◌, ◌<◌, List, [], ◌∷◌, ◌++◌, length, Option, Some, None, refl, ap, sym, ◌∙◌, map, arith, append-nil, append_assoc}
 use Rattle.std.specs.List.{slice_get, slice_set}
 use Rattle.std.specs.Option.{option_map_or}
+use Rattle.std.proofs.lemmas.List.{length-map, map-append}
+use Rattle.std.proofs.lemmas.List.Elements.{All-append, All-cons, All-nil}
 use Rattle.std.proofs.lemmas.Option.{slice_get_within}
+use Rattle.stxpath_values.specs.declared.value.Atom.{Atom}
 use Rattle.frame_stack.specs.Change.{changed, with_locals}
 use Rattle.frame_stack.specs.Stack.{with_frames}
 use Rattle.frame_stack.specs.declared.frame.Frame.{Frame}
 use Rattle.frame_stack.specs.declared.frame.Frame.TheVariants.{Body, Call}
 use Rattle.frame_stack.specs.declared.locals.Local.{Local}
-use Rattle.template_machine.specs.Working.{PushesWaiting}
+use Rattle.template_machine.specs.Working.{PushesWaiting, WaitAs}
 use Rattle.template_machine.specs.declared.run.Run.{Run}
 use Rattle.template_machine.proofs.Placing.{changed_at}
 
@@ -78,27 +81,39 @@ both_more a b (Body template alternative pc locals level spent) = ap (λ ls. Bod
 both_more a b (Call procedure pc locals level) = ap (λ ls. Call procedure pc ls level) (append_assoc locals a b)
 both_more a b f = refl
 
-pub pushed_none : (r : Run) (body : ℕ) → PushesWaiting 0 body r r
-pushed_none r body =
-    ([], (refl, sym (ap (λ l. record r { frames = with_frames l r.frames }) (changed_same (with_locals (λ ls. ls ++ [])) body r.frames.frames none_more))))
+pub pushed_none : (r : Run) (body : ℕ) → PushesWaiting [] body r r
+pushed_none r body = (
+  [],
+  (
+    record { values_are = refl; nameless = All-nil (λ (x : Local). x.name.local ≡ []) },
+    sym (ap (λ l. record r { frames = with_frames l r.frames }) (changed_same (with_locals (λ ls. ls ++ [])) body r.frames.frames none_more)),
+  ),
+)
 
-pub pushed_more : (r s t : Run) (body n : ℕ) (x : Local) → PushesWaiting n body r s
-    → t ≡ record s { frames = with_frames (changed (with_locals (λ ls. ls ++ x ∷ [])) body s.frames.frames) s.frames } → PushesWaiting (n + 1) body r t
-pushed_more r s t body n x h is =
+pub pushed_more : (r s t : Run) (body : ℕ) (values : List (List Atom)) (x : Local) → x.name.local ≡ [] → PushesWaiting values body r s
+    → t ≡ record s { frames = with_frames (changed (with_locals (λ ls. ls ++ x ∷ [])) body s.frames.frames) s.frames } → PushesWaiting (values ++ x.value ∷ []) body r t
+pushed_more r s t body values x none h is =
     let waiting = h.0 in
     let g : Frame → Frame = with_locals (λ ls. ls ++ waiting) in
     let f : Frame → Frame = with_locals (λ ls. ls ++ x ∷ []) in
+    let Nameless : Local → Type 0 = λ y. y.name.local ≡ [] in
     let both : changed f body (changed g body r.frames.frames) ≡ changed (with_locals (λ ls. ls ++ (waiting ++ x ∷ []))) body r.frames.frames =
     changed_twice g f body r.frames.frames
     ∙ changed_by (λ y. f (g y)) (with_locals (λ ls. ls ++ (waiting ++ x ∷ []))) body r.frames.frames (both_more waiting (x ∷ [])) in (
       waiting ++ x ∷ [],
       (
-        omega (arith, h.1.0, length-append waiting (x ∷ [])),
+        record {
+          values_are = map-append (λ (y : Local). y.value) waiting (x ∷ []) ∙ ap (λ l. l ++ x.value ∷ []) h.1.0.values_are;
+          nameless = All-append Nameless waiting (x ∷ []) h.1.0.nameless (All-cons Nameless x [] none (All-nil Nameless));
+        },
         is ∙ ap (λ (y : Run). record y { frames = with_frames (changed f body y.frames.frames) y.frames }) h.1.1
             ∙ ap (λ l. record r { frames = with_frames l r.frames }) both,
       ),
     )
 
-pub pushed_within : (r s : Run) (body n : ℕ) → PushesWaiting n body r s → body < length r.frames.frames → body < length s.frames.frames
-pushed_within r s body n h less =
+pub pushed_within : (r s : Run) (body : ℕ) (values : List (List Atom)) → PushesWaiting values body r s → body < length r.frames.frames → body < length s.frames.frames
+pushed_within r s body values h less =
     omega (arith, less, ap (λ (y : Run). length y.frames.frames) h.1.1, changed_long (with_locals (λ ls. ls ++ h.0)) body r.frames.frames)
+
+pub as_many : (values : List (List Atom)) (waiting : List Local) → WaitAs values waiting → length waiting ≡ length values
+as_many values waiting w = sym (length-map waiting (λ (x : Local). x.value)) ∙ ap length w.values_are

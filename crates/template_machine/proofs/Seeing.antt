@@ -69,7 +69,7 @@ module _ (p : Program) (stations : List Station) where
   group_there loops waits (f ∷ fs) s x some w is = absurd (false≢true some)
 
   -- the current node passes the test by which positions count
-  test_there : (loops : ℕ) (waits : Bool) (fs : List Frame) (s : Standing) → IsSome (level_in fs) → AreWell p stations loops waits fs s
+  pub test_there : (loops : ℕ) (waits : Bool) (fs : List Frame) (s : Standing) → IsSome (level_in fs) → AreWell p stations loops waits fs s
       → (t : NodeTest) × ((test_in p.sheet fs ≡ Some t) × ((n : Node) → here s.source.way ≡ Some n → passes t (kind_of n) ≡ true))
   test_there loops waits [] s some w = absurd (false≢true some)
   test_there loops waits (Loop turn ∷ fs) s some w = test_there (suc loops) waits fs s some w

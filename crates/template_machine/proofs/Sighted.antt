@@ -128,9 +128,12 @@ reached_passes t (Some y) e x is = let same : y ≡ x = cc in passes_if_reached 
 at_plain : (xs : List PathNode) (place : ℕ) → slice_get (path_of (map (λ (x : PathNode). stand x.node x.earlier) (reverse xs))).nodes place ≡ option_map plain (slice_get xs place)
 at_plain xs place = ap (λ l. slice_get l place) (by_trail xs) ∙ slice_get-map plain xs place
 
+pub nodes_by : (g : Setting) (place : ℕ) → node_at g.path place ≡ node_at (path_of (map (λ (x : PathNode). stand x.node x.earlier) (reverse g.path.nodes))) place
+nodes_by g place = same_node (slice_get g.path.nodes place) ∙ ap (option_map (λ (x : PathNode). x.node)) (sym (at_plain g.path.nodes place))
+
 pub trails_look_alike : TrailsLookAlike
 trails_look_alike g fits = record {
-  nodes = λ place. same_node (slice_get g.path.nodes place) ∙ ap (option_map (λ (x : PathNode). x.node)) (sym (at_plain g.path.nodes place));
+  nodes = nodes_by g;
   positions = λ place t reached.
       same_position t (slice_get g.path.nodes place) (reached_passes t (slice_get g.path.nodes place) reached)
       ∙ ap (position_at t) (sym (at_plain g.path.nodes place));

@@ -39,7 +39,7 @@ use Rattle.template_machine.proofs.Operating.{some_context}
 
 -- What each variant is.
 
-out_is : (i : Instr) (j : Instr) (x : Instr-F Instr When) → roll-Instr x ≡ j → i ≡ j → out-Instr i ≡ x
+pub out_is : (i : Instr) (j : Instr) (x : Instr-F Instr When) → roll-Instr x ≡ j → i ≡ j → out-Instr i ≡ x
 out_is i j x rolls is = ap out-Instr (is ∙ sym rolls) ∙ out-roll-Instr x
 
 rolled : (i : Instr) (x : Instr-F Instr When) (j : Instr) → roll-Instr x ≡ j → out-Instr i ≡ x → i ≡ j

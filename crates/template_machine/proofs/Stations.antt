@@ -1,5 +1,5 @@
 -- Each instruction and each list has its stations, wherever it is put.
-use Rattle.std.proofs.Common.{◌≡◌, ℕ, zero, suc, ◌+◌, ◌≤◌, List, [], ◌∷◌, ◌++◌, length, map, Some, refl, ap, sym, subst, ◌∙◌, arith, append-nil, append_assoc, length-append}
+use Rattle.std.proofs.Common.{◌≡◌, ℕ, zero, suc, ◌+◌, ◌≤◌, List, [], ◌∷◌, ◌++◌, length, map, Some, inl, inr, refl, ap, sym, subst, ◌∙◌, arith, append-nil, append_assoc, length-append}
 use Rattle.std.proofs.lemmas.List.{length-map}
 use Rattle.std.specs.Option.{option_map}
 use Rattle.std.proofs.lemmas.Option.{slice_get-map}
@@ -40,27 +40,6 @@ abbrev pub kinds_of : List Instr → List Kind
 kinds_of [] = []
 kinds_of (i ∷ is) = own_kinds (form_of i) ++ kinds_of is
 
--- they are variables
-kinds_named : (list : List Instr) → AreNamed (kinds_of list)
-kinds_named [] = tt
-kinds_named (i ∷ is) = of_form (form_of i) (kinds_named is) where
-  of_form : (f : Form) → AreNamed (kinds_of is) → AreNamed (own_kinds f ++ kinds_of is)
-  of_form (Declares name) h = h
-  of_form Single h = h
-  of_form Around h = h
-  of_form AroundTag h = h
-  of_form AroundBuffer h = h
-  of_form Choice h = h
-  of_form (Choices count) h = h
-  of_form Repeats h = h
-  of_form (Walks name) h = h
-
-both_named : (ks js : List Kind) → AreNamed ks → AreNamed js → AreNamed (ks ++ js)
-both_named [] js h g = g
-both_named (Named name ∷ ks) js h g = both_named ks js h g
-both_named (Items ∷ ks) js h g = absurd h
-both_named (Tag ∷ ks) js h g = absurd h
-
 -- the context behind a list
 abbrev pub after : List Instr → Context → Context
 after [] c = c
@@ -98,13 +77,13 @@ dropped_long : (n m p : ℕ) → length ((dropped n).ops m p) ≡ (dropped n).si
 dropped_long zero m p = refl
 dropped_long (suc n) m p = refl
 
-list_long : (own : ℕ) (list : List Instr) (m p : ℕ) → length ((list_piece own list).ops m p) ≡ (list_piece own list).size
+pub list_long : (own : ℕ) (list : List Instr) (m p : ℕ) → length ((list_piece own list).ops m p) ≡ (list_piece own list).size
 list_long own list m p =
     let x = in_order (pieces list) in
     let d = dropped (x.locals + own) in
     omega (arith, length-append (x.ops m p) (d.ops (m + x.numbers) (p + x.size)), (sized list).long m p, dropped_long (x.locals + own) (m + x.numbers) (p + x.size))
 
-branches_long : (i a o p : ℕ) (lists : List (List Instr)) (m q : ℕ)
+pub branches_long : (i a o p : ℕ) (lists : List (List Instr)) (m q : ℕ)
     → length ((branches i a o p (map (list_piece 0) lists)).ops m q) ≡ (branches i a o p (map (list_piece 0) lists)).size
 branches_long i a o p [] m q = refl
 branches_long i a o p (l ∷ ls) m q =
@@ -119,7 +98,7 @@ branches_long i a o p (l ∷ ls) m q =
       length-append (b.ops (m + 0) (q + 1)) (op.Jump o ∷ rest.ops number far),
     )
 
-one_long : (i : Instr) (m p : ℕ) → length ((piece_of i).ops m p) ≡ (piece_of i).size
+pub one_long : (i : Instr) (m p : ℕ) → length ((piece_of i).ops m p) ≡ (piece_of i).size
 one_long i m p = omega (arith, (sized (i ∷ [])).long m p, length-append ((piece_of i).ops m p) [])
 
 -- Forms of the instructions without what stands inside.
@@ -143,13 +122,37 @@ module _ (sheet : Sheet) where
       ap (option_map form_of) (slice_get-map bare (instructions sheet) m ∙ ap (option_map bare) (numbered_here (instructions sheet) i m s))
       ∙ ap (λ f. Some f) (form_bare i)
 
+  -- they are variables
+  kinds_named : (list : List Instr) (m : ℕ) → Numbered (instructions sheet) list m → AreNamed code (kinds_of list)
+  kinds_named [] m numbered = tt
+  kinds_named (i ∷ is) m numbered =
+      of_form (form_of i) (has_form i m (numbered_first (instructions sheet) (i ∷ []) is m numbered))
+      (kinds_named is (m + count_of (i ∷ [])) (numbered_second (instructions sheet) (i ∷ []) is m numbered))
+    where
+      of_form : (f : Form) → HasForm code m f → AreNamed code (kinds_of is) → AreNamed code (own_kinds f ++ kinds_of is)
+      of_form (Declares name) has h = ((m, inl has), h)
+      of_form Single has h = h
+      of_form Around has h = h
+      of_form AroundTag has h = h
+      of_form AroundBuffer has h = h
+      of_form Choice has h = h
+      of_form (Choices count) has h = h
+      of_form Repeats has h = h
+      of_form (Walks name) has h = h
+
+  both_named : (ks js : List Kind) → AreNamed code ks → AreNamed code js → AreNamed code (ks ++ js)
+  both_named [] js h g = g
+  both_named (Named name ∷ ks) js h g = (h.0, both_named ks js h.1 g)
+  both_named (Items ∷ ks) js h g = absurd h
+  both_named (Tag ∷ ks) js h g = absurd h
+
   -- lists that nest so deep at most
   abbrev pub LaidTo : ℕ → Type 0
   LaidTo n =
       (list : List Instr) (m p : ℕ) (c : Context) (low : ℕ) → body_nesting list ≤ n → Numbered (instructions sheet) list m
       → Laid code Any ((in_order (pieces list)).ops m p) p c (after list c) low
 
-  laid_dropped : (count m p : ℕ) (c d : Context) (gone : List Kind) (low : ℕ) → c ≡ with_kinds gone d → length gone ≡ count → AreNamed gone
+  laid_dropped : (count m p : ℕ) (c d : Context) (gone : List Kind) (low : ℕ) → c ≡ with_kinds gone d → length gone ≡ count → AreNamed code gone
       → Laid code Any ((dropped count).ops m p) p c d low
   laid_dropped zero m p c d [] low is long named = laid_nothing code Any p c d low (is ∙ sym (with_none d))
   laid_dropped zero m p c d (k ∷ ks) low is long named = absurd (omega (arith, long))
@@ -157,7 +160,7 @@ module _ (sheet : Sheet) where
       laid_op code Any (op.Drop (suc n)) p c d low (suc low) (λ all a here at. (d, (gone, (is, long, (low, (at, omega arith)), named))))
 
   laid_list : (n own : ℕ) (list : List Instr) (m p : ℕ) (c d : Context) (ks : List Kind) (low : ℕ) → LaidTo n → body_nesting list ≤ n
-      → Numbered (instructions sheet) list m → c ≡ with_kinds ks d → length ks ≡ own → AreNamed ks
+      → Numbered (instructions sheet) list m → c ≡ with_kinds ks d → length ks ≡ own → AreNamed code ks
       → Laid code Any ((list_piece own list).ops m p) p c d low
   laid_list n own list m p c d ks low to deep numbered is long named =
       let x = in_order (pieces list) in
@@ -166,7 +169,7 @@ module _ (sheet : Sheet) where
       let gone : after list c ≡ with_kinds (ks ++ kinds_of list) d = after_is list c ∙ ap (with_kinds (kinds_of list)) is ∙ with_more ks (kinds_of list) d in
       let many : length (ks ++ kinds_of list) ≡ count = omega (arith, length-append ks (kinds_of list), kinds_long list, long) in
       let drop : Laid code Any ((dropped count).ops (m + x.numbers) q) q (after list c) d low =
-      laid_dropped count (m + x.numbers) q (after list c) d (ks ++ kinds_of list) low gone many (both_named ks (kinds_of list) named (kinds_named list)) in
+      laid_dropped count (m + x.numbers) q (after list c) d (ks ++ kinds_of list) low gone many (both_named ks (kinds_of list) named (kinds_named list m numbered)) in
       laid_behind code Any (x.ops m p) ((dropped count).ops (m + x.numbers) q) p q c (after list c) d low drop (to list m p c drop.high deep numbered)
       (omega (arith, (sized list).long m p))
 
@@ -314,7 +317,7 @@ module _ (sheet : Sheet) where
       let e = with_kind (Named name) d in
       let run : Laid code Any (b.ops number (p + 1 + 1)) (p + 1 + 1) e d (suc (suc low)) =
       laid_list n 1 body number (p + 1 + 1) e d (Named name ∷ []) (suc (suc low)) to deep
-      (to_number (instructions sheet) body (m + 1) number (omega arith) numbered) refl refl tt in
+      (to_number (instructions sheet) body (m + 1) number (omega arith) numbered) refl refl ((m, inr has), tt) in
       laid_loop code (op.Begin m) (op.Turn m (p + b.size + 3)) p (p + b.size + 3) c d e low (b.ops number (p + 1 + 1)) run
       (omega (arith, list_long 1 body number (p + 1 + 1)))
       (λ all at. (Walks name, (has, (suc low, at))))

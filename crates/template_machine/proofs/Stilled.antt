@@ -13,13 +13,13 @@ use Rattle.frame_stack.specs.declared.locals.Local.{Local}
 use Rattle.instr_code.specs.Code.{code_of}
 use Rattle.instr_code.specs.declared.code.Op.{Op}
 use Rattle.instr_code.specs.declared.code.Op.TheVariants as op
-use Rattle.node_stack.specs.Path.{Node, PathNode}
+use Rattle.node_stack.specs.Path.{Node, PathNode, is_attribute}
 use Rattle.result_writer.specs.Target.{Left}
 use Rattle.xml_events.specs.Document.{inner, outer}
 use Rattle.xml_events.specs.Tree.{Future}
 use Rattle.template_machine.specs.Bodies.{on_body, pc_in, pc_of, spent_in}
 use Rattle.template_machine.specs.Ending.{Said}
-use Rattle.template_machine.specs.Job.{Given, Here, State}
+use Rattle.template_machine.specs.Job.{Given, Here, State, single}
 use Rattle.template_machine.specs.Lists.{rest_of}
 use Rattle.instr_code.specs.Running.{At, as_flat, go_on, operated, start_of}
 use Rattle.template_machine.specs.Still as still
@@ -62,19 +62,20 @@ module _ (given : Given) (p : Program) where
   spent_jumps to (Call procedure q locals level ∷ fs) = refl
   spent_jumps to (x ∷ fs) = refl
 
-  goes_alike : (spent : Bool) (n : Node) (above : List PathNode) (f : Future) (k h : Future → Here → Flat_does) (st : State)
+  pub goes_alike : (spent : Bool) (n : Node) (above : List PathNode) (f : Future) (k h : Future → Here → Flat_does) (st : State)
       → ((g : Future) (a : Here) → Same (flat_code given) (k g a) (h g a))
       → Same (flat_code given) (still.goes_on_at given p spent n above f k st) (still.goes_on_at given p spent n above f h st)
-  goes_alike spent n above f k h st e = by (spent || not (still.has_kids n))
+  goes_alike spent n above f k h st e = by (is_attribute (Some n)) (spent || not (still.has_kids n))
     where
-      by : (b : Bool)
+      by : (alone b : Bool)
           → Same (flat_code given)
-          (if b then k (outer f) (record { kids = None; left = record { earlier = still.counts_of above; coming = inner f }; locals = []; state = st })
+          (if alone then k f (single st) else if b then k (outer f) (record { kids = None; left = record { earlier = still.counts_of above; coming = inner f }; locals = []; state = st })
           else k (outer (outer f)) (record { kids = Some (inner f); left = record { earlier = still.counts_of above; coming = inner (outer f) }; locals = []; state = st }))
-          (if b then h (outer f) (record { kids = None; left = record { earlier = still.counts_of above; coming = inner f }; locals = []; state = st })
+          (if alone then h f (single st) else if b then h (outer f) (record { kids = None; left = record { earlier = still.counts_of above; coming = inner f }; locals = []; state = st })
           else h (outer (outer f)) (record { kids = Some (inner f); left = record { earlier = still.counts_of above; coming = inner (outer f) }; locals = []; state = st }))
-      by true = e (outer f) _
-      by false = e (outer (outer f)) _
+      by true b = e f _
+      by false true = e (outer f) _
+      by false false = e (outer (outer f)) _
 
   jump_done : (d : Doing) (h : Ahead) (r : Run) (frames : FrameStack) (pc to : ℕ) (fs : List Frame) → d ≡ doing.Body → pc_in fs ≡ Some pc
       → slice_get (code_of given.sheet).ops pc ≡ Some (op.Jump to) → (left : Left) (f : Future)
@@ -116,7 +117,7 @@ module _ (given : Given) (p : Program) where
       (ap (λ x. and_then (option_map_or (λ y. still.operates given p y pc w) x (Ret w)) k) is ∙ ap (λ y. and_then y k) does
       ∙ and_then_says more (go_on (steps_of given) to v) k)
 
-  loops_rest : (turns over : List ℕ) (gs : List Frame) (c : Scene) (f : Future) (a : Here)
+  pub loops_rest : (turns over : List ℕ) (gs : List Frame) (c : Scene) (f : Future) (a : Here)
       → still.rest given p Runs over (below_loops turns gs) c f a ≡ still.rest given p Runs (over ++ turns) gs c f a
   loops_rest [] over gs c f a = ap (λ l. still.rest given p Runs l gs c f a) (sym (append-nil over))
   loops_rest (n ∷ ns) over gs c f a = loops_rest ns (over ++ n ∷ []) gs c f a ∙ ap (λ l. still.rest given p Runs l gs c f a) (append_assoc over (n ∷ []) ns)
@@ -156,16 +157,17 @@ module _ (given : Given) (p : Program) where
   goes_on_alike : (spent : Bool) (n : Node) (above : List PathNode) (f : Future) (k h : Future → Here → Flat_does) (st now : State) (more : List Said)
       → ((g : Future) (a : Here) → a.state ≡ st → Same (flat_code given) (k g a) (says more (h g (record a { state = now }))))
       → Same (flat_code given) (still.goes_on_at given p spent n above f k st) (says more (still.goes_on_at given p spent n above f h now))
-  goes_on_alike spent n above f k h st now more e = by (spent || not (still.has_kids n))
+  goes_on_alike spent n above f k h st now more e = by (is_attribute (Some n)) (spent || not (still.has_kids n))
     where
-      by : (b : Bool)
+      by : (alone b : Bool)
           → Same (flat_code given)
-          (if b then k (outer f) (record { kids = None; left = record { earlier = still.counts_of above; coming = inner f }; locals = []; state = st })
+          (if alone then k f (single st) else if b then k (outer f) (record { kids = None; left = record { earlier = still.counts_of above; coming = inner f }; locals = []; state = st })
           else k (outer (outer f)) (record { kids = Some (inner f); left = record { earlier = still.counts_of above; coming = inner (outer f) }; locals = []; state = st }))
-          (says more (if b then h (outer f) (record { kids = None; left = record { earlier = still.counts_of above; coming = inner f }; locals = []; state = now })
+          (says more (if alone then h f (single now) else if b then h (outer f) (record { kids = None; left = record { earlier = still.counts_of above; coming = inner f }; locals = []; state = now })
           else h (outer (outer f)) (record { kids = Some (inner f); left = record { earlier = still.counts_of above; coming = inner (outer f) }; locals = []; state = now })))
-      by true = e (outer f) (record { kids = None; left = record { earlier = still.counts_of above; coming = inner f }; locals = []; state = st }) refl
-      by false = e (outer (outer f)) (record { kids = Some (inner f); left = record { earlier = still.counts_of above; coming = inner (outer f) }; locals = []; state = st }) refl
+      by true b = e f (single st) refl
+      by false true = e (outer f) (record { kids = None; left = record { earlier = still.counts_of above; coming = inner f }; locals = []; state = st }) refl
+      by false false = e (outer (outer f)) (record { kids = Some (inner f); left = record { earlier = still.counts_of above; coming = inner (outer f) }; locals = []; state = st }) refl
 
   module _ (r : Run) (frames : FrameStack) (store : Stored) (putting : Putting) (units : ℕ) (b : Frame) (fs : List Frame) (pc to : ℕ) (o : Op) (locals : List Local) (turns turns_now : List ℕ) (left left_now : Left) (more : List Said) where
     abbrev later : Run

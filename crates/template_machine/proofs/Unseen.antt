@@ -33,7 +33,7 @@ none_of_two true q e = e
 none_of_two false q e = refl
 
 -- one that has no name is called nothing
-uncalled : (name : Name) (l : Local) → is_empty l.name.local ≡ true → is_empty name.local ≡ false → is_called name (bound l.name l.value) ≡ false
+pub uncalled : (name : Name) (l : Local) → is_empty l.name.local ≡ true → is_empty name.local ≡ false → is_called name (bound l.name l.value) ≡ false
 uncalled name l e f = none_of_two (bytes_eq l.name.uri name.uri) (bytes_eq l.name.local name.local) (not_same l.name.local name.local e f)
 
 -- and one that has a name isn't called nothing

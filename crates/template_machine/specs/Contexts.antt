@@ -1,6 +1,6 @@
 -- What stands at each operation of a body: its locals, the loops and the buffers that are open around it, and how soon it costs a unit
 -- of fuel.
-use Rattle.std.specs.Prelude.{◌≡◌, ℕ, suc, ◌+◌, ◌<◌, List, [], ◌∷◌, ◌++◌, Some, length, map, slice_get}
+use Rattle.std.specs.Prelude.{◌≡◌, ℕ, suc, ◌+◌, ◌<◌, List, [], ◌∷◌, ◌++◌, ◌⊎◌, Some, length, map, slice_get}
 use Rattle.std.specs.Option.{option_map}
 use Rattle.stx_base.specs.declared.name.Name.{Name}
 use Rattle.instr_code.specs.declared.code.Code.{Code}
@@ -38,12 +38,6 @@ with_kind k c = with_kinds (k ∷ []) c
 
 abbrev pub in_loop : Context → Context
 in_loop c = record c { loops = suc c.loops }
-
--- each is a variable
-abbrev pub AreNamed : List Kind → Type 0
-AreNamed [] = Unit {0}
-AreNamed (Named name ∷ ks) = AreNamed ks
-AreNamed (k ∷ ks) = ⊥
 
 -- where a body begins that has these parameters
 abbrev pub begun : List Variable → Context
@@ -126,6 +120,16 @@ module _ (code : Code) where
   abbrev pub HasForm : (number : ℕ) → Form → Type 0
   HasForm n f = option_map form_of (slice_get code.instrs n) ≡ Some f
 
+  -- some instruction declares a variable of this name, or binds items to it
+  abbrev pub IsDeclared : Name → Type 0
+  IsDeclared name = (n : ℕ) × (HasForm n (Declares name) ⊎ HasForm n (Walks name))
+
+  -- each is a variable
+  abbrev pub AreNamed : List Kind → Type 0
+  AreNamed [] = Unit {0}
+  AreNamed (Named name ∷ ks) = IsDeclared name × AreNamed ks
+  AreNamed (k ∷ ks) = ⊥
+
 module _ (code : Code) (stations : List Station) where
   -- what begins at a place, by the form of the instruction
   abbrev pub Begins : Form → (place : ℕ) → Context → Type 0
@@ -160,7 +164,7 @@ module _ (code : Code) (stations : List Station) where
   Leads place c r (op.Jump to) = Falls stations r to c
   Leads place c r (op.Drop count) =
       (o : Context)
-      × ((gone : List Kind) × ((c ≡ with_kinds gone o) × (length gone ≡ count) × Falls stations r (place + 1) o × AreNamed gone))
+      × ((gone : List Kind) × ((c ≡ with_kinds gone o) × (length gone ≡ count) × Falls stations r (place + 1) o × AreNamed code gone))
   Leads place c r op.Return = (c.loops ≡ 0) × (c.writing ≡ [])
 
   -- each operation has a station, and each body begins with its parameters

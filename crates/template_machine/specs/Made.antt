@@ -1,6 +1,7 @@
 -- What making variables, and taking parameters, leaves of a run.
 use Rattle.std.specs.Prelude.{◌≡◌, ◌≢◌, ℕ, ◌+◌, ◌-◌, ◌<◌, ◌≤◌, ◌^◌, true, List, [], ◌∷◌, ◌++◌, Some, None, All, IsSome, length, map, slice_get, slice_set, unwrap_or}
 use Rattle.std.specs.Option.{ForSome}
+use Rattle.event_buffers.specs.Buffers as copies
 use Rattle.frame_stack.specs.Change.{changed, locals_of, with_locals}
 use Rattle.frame_stack.specs.Stack.{with_frames}
 use Rattle.frame_stack.specs.declared.frame.Frame.{Frame}
@@ -17,7 +18,7 @@ use Rattle.template_machine.specs.Bodies.{level_of}
 use Rattle.template_machine.specs.Programs.{instr_at}
 use Rattle.template_machine.specs.Sections.{HoldStill}
 use Rattle.template_machine.specs.Standing.{Free, Standing, in_group, scope_over, standing_of}
-use Rattle.template_machine.specs.Variables.{newest}
+use Rattle.template_machine.specs.Variables.{newest, unshadowed}
 use Rattle.template_machine.specs.declared.program.Program.{Program}
 use Rattle.template_machine.specs.declared.run.Asker.{Asker}
 use Rattle.template_machine.specs.declared.run.Asker.TheVariants as asker
@@ -73,6 +74,9 @@ pub record LaysScope (group : ℕ) (old new : Run) : Type 0 where
 -- The older ones stand again.
 pub record LeavesScope (group : ℕ) (old new : Run) : Type 0 where
   pub rest : new ≡ record old { store = new.store; putting = new.putting }
+  pub store : new.store ≡ unshadowed old.store group
+  pub buffers : new.putting.buffers ≡ copies.on_group copies.taken_off group old.putting.buffers
+  pub targets : new.putting.targets ≡ old.putting.targets
   pub standing : standing_of new ≡ scope_over true group (standing_of old)
   pub holds : HoldStill old.putting.buffers new.putting.buffers
 

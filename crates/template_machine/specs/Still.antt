@@ -1,5 +1,5 @@
 -- What a run still does on what is still to come: a function of its frames, of what they stand on, and of a future.
-use Rattle.std.specs.Prelude.{ℕ, zero, suc, ◌+◌, ◌-◌, ◌==◌, Bool, true, if◌then◌else◌, ◌||◌, not, List, [], ◌∷◌, ◌++◌, Option, Some, None, filter, length, map, take, drop, reverse, slice_get, unwrap_or}
+use Rattle.std.specs.Prelude.{ℕ, zero, suc, ◌+◌, ◌-◌, ◌==◌, Bool, true, false, if◌then◌else◌, ◌||◌, not, List, [], ◌∷◌, ◌++◌, Option, Some, None, filter, length, map, take, drop, reverse, slice_get, unwrap_or}
 use Rattle.std.specs.Option.{option_map, option_map_or}
 use Rattle.stx_base.specs.Course.{Ret, Halt, Ask, Same, says}
 use Rattle.stx_base.specs.declared.node.NodeTest.{NodeTest}
@@ -11,7 +11,7 @@ use Rattle.frame_stack.specs.Change.{locals_of}
 use Rattle.instr_code.specs.Code.{code_of}
 use Rattle.instr_code.specs.Running.{At, as_flat, go_on, operated, start_of}
 use Rattle.instr_code.specs.Running as running
-use Rattle.node_stack.specs.Path.{Node, Document, Element, Chars, CData, Comment, Pi, PathNode, attributes, can_have_children, kind_of}
+use Rattle.node_stack.specs.Path.{Node, Document, Element, Chars, CData, Comment, Pi, PathNode, attributes, can_have_children, is_attribute, kind_of}
 use Rattle.node_stack.specs.Test.{passes}
 use Rattle.node_stack.specs.Stack.{path, path_node}
 use Rattle.result_writer.specs.Allowed.{is_empty}
@@ -30,7 +30,7 @@ use Rattle.xml_events.specs.Document.{inner, outer}
 use Rattle.xml_events.specs.Tree as tree
 use Rattle.xml_events.specs.Tree.{Forest, Future, End, Begun, Entered}
 use Rattle.template_machine.specs.Acting.{condition, ends_reading}
-use Rattle.template_machine.specs.Bodies.{active_in, level_of, spent_in}
+use Rattle.template_machine.specs.Bodies.{active_in, level_of, spent_in, takes_events}
 use Rattle.template_machine.specs.Declaring.{ends_scope}
 use Rattle.template_machine.specs.Ending.{Said}
 use Rattle.template_machine.specs.Fuel as fuel
@@ -219,10 +219,13 @@ module _ (given : Given) (p : Program) where
   locals_in (Call procedure pc locals level ∷ fs) = locals
   locals_in (f ∷ fs) = []
 
-  -- Where the node of a body goes on: its children, if they aren't gone, and the siblings that remain, of lists that are to come.
+  -- Where the node of a body goes on: its children, if they aren't gone, and the siblings that remain, of lists that are to come. An
+  -- attribute has neither.
   abbrev pub goes_on_at : (spent : Bool) → Node → (above : List PathNode) → Future → (Future → Here → Flat_does) → State → Flat_does
   goes_on_at spent n above f k st =
-      if spent || not (has_kids n)
+      if is_attribute (Some n)
+      then k f (single st)
+      else if spent || not (has_kids n)
       then k (outer f) (record { kids = None; left = record { earlier = counts_of above; coming = inner f }; locals = []; state = st })
       else k (outer (outer f)) (record { kids = Some (inner f); left = record { earlier = counts_of above; coming = inner (outer f) }; locals = []; state = st })
 
@@ -368,14 +371,19 @@ module _ (given : Given) (p : Program) where
   abbrev pub lists_ahead : Ahead → Run → Future → Future
   lists_ahead h r = known_before h (nodes_of r.source) (held_of r)
 
-  -- a body goes on, or a list, by what is known of the front
+  -- A list goes on: of nodes, by what is known of its front, or of attributes, of which none is to come.
+  abbrev pub list_goes : (events : Bool) → Ahead → List Frame → Run → Left → Future → Flat_does
+  list_goes false h fs r left f = rest Lists [] fs (scene_by h r) (lists_ahead h r f) (single (state_of r left))
+  list_goes true h fs r left f =
+      rest Lists [] fs (scene_by h r) (outer (lists_ahead h r f))
+      (remains (record { earlier = before_front h (nodes_of r.source) (held_of r); coming = inner (lists_ahead h r f) }) (state_of r left))
+
+  -- a body goes on, or a list
   abbrev pub doing_now : Doing → Ahead → List Frame → Run → Left → Future → Flat_does
   doing_now doing.Body h fs r left f =
       goes_on_at (unwrap_or (spent_in fs) true) (first_node (scene_by h r).nodes) (rest_of (scene_by h r).nodes) (lists_ahead h r f) (λ f. rest Runs [] fs (scene_by h r) f)
       (state_of r left)
-  doing_now doing.List h fs r left f =
-      rest Lists [] fs (scene_by h r) (outer (lists_ahead h r f))
-      (remains (record { earlier = before_front h (nodes_of r.source) (held_of r); coming = inner (lists_ahead h r f) }) (state_of r left))
+  doing_now doing.List h fs r left f = list_goes (takes_events fs) h fs r left f
 
   abbrev pub still : Run → Left → Future → Flat_does
   still r = doing_now r.doing r.source.ahead (reverse r.frames.frames) r

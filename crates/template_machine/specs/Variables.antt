@@ -1,11 +1,11 @@
 -- The variables that a body sees: those of its group, and of the groups around it.
-use Rattle.std.specs.Prelude.{ℕ, List, [], ◌∷◌, ◌++◌, Option, None}
+use Rattle.std.specs.Prelude.{ℕ, if◌then◌else◌, is_some, List, [], ◌∷◌, ◌++◌, Option, Some, None}
 use Rattle.std.specs.Option.{option_map_or, option_or}
 use Rattle.stx_base.specs.declared.name.Name.{Name}
 use Rattle.stxpath_values.specs.declared.value.Atom.{Atom}
 use Rattle.var_store.specs.Copies.{Stored, below, copies_of, on_group, on_newest, taken_off}
 use Rattle.var_store.specs.Copies as copies
-use Rattle.var_store.specs.Variables.{bound, value_of, with_value}
+use Rattle.var_store.specs.Variables.{bound, slot_of, value_of, with_value}
 use Rattle.var_store.specs.declared.bound.Bound.{Bound}
 
 -- the first that there is of what f gives
@@ -40,3 +40,7 @@ abbrev pub assigned_in : List ℕ → Stored → Name → List Atom → Stored
 assigned_in [] store name value = store
 assigned_in (g ∷ around) store name value =
     option_map_or (λ old. on_group (on_newest (with_value name value)) g store) (value_of name (newest store g)) (assigned_in around store name value)
+
+-- the first of these groups whose newest copy has the name
+abbrev pub holder_in : List ℕ → Stored → Name → Option ℕ
+holder_in around store name = first_some (λ g. if is_some (slot_of name (newest store g)) then Some g else None) around

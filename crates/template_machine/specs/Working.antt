@@ -1,5 +1,5 @@
 -- A run at work.
-use Rattle.std.specs.Prelude.{◌≡◌, ℕ, suc, ◌<◌, Bool, true, false, List, [], ◌∷◌, ◌++◌, ◌⊎◌, Option, Some, None, All, length, reverse, slice_get}
+use Rattle.std.specs.Prelude.{◌≡◌, ℕ, suc, ◌<◌, Bool, true, false, List, [], ◌∷◌, ◌++◌, ◌⊎◌, Option, Some, None, All, length, map, reverse, slice_get}
 use Rattle.frame_stack.specs.Change.{changed, with_locals}
 use Rattle.frame_stack.specs.Stack.{with_frames}
 use Rattle.frame_stack.specs.declared.frame.Frame.{Frame}
@@ -14,6 +14,7 @@ use Rattle.sheet_model.specs.declared.instr.When.{When}
 use Rattle.sheet_model.specs.declared.sheet.Template.{Template}
 use Rattle.stx_base.specs.declared.name.Name.{Name}
 use Rattle.stxpath_syntax.specs.Shape.{CanBeEvaluated}
+use Rattle.stxpath_values.specs.declared.value.Atom.{Atom}
 use Rattle.node_stack.specs.Path.{can_end, can_have_children, document_alone}
 use Rattle.node_stack.specs.Stack.{path}
 use Rattle.template_machine.specs.Bodies.{body_in, pc_in, spent_in}
@@ -101,10 +102,15 @@ HasBuffer p n = (l : Link) × ((slice_get p.links n ≡ Some l) × (l.named < le
 abbrev pub HasBase : Program → (number : ℕ) → Type 0
 HasBase p n = (l : Link) × ((slice_get p.links n ≡ Some l) × (l.base < length p.sheet.groups))
 
--- so many values wait as the last locals of a body
-abbrev pub PushesWaiting : (count body : ℕ) → (old new : Run) → Type 0
-PushesWaiting count body old new =
-    (waiting : List Local) × ((length waiting ≡ count)
+-- locals without a name, with these values
+pub record WaitAs (values : List (List Atom)) (waiting : List Local) : Type 0 where
+  pub values_are : map (λ (x : Local). x.value) waiting ≡ values
+  pub nameless : All (λ (x : Local). x.name.local ≡ []) waiting
+
+-- these values wait as the last locals of a body
+abbrev pub PushesWaiting : (values : List (List Atom)) → (body : ℕ) → (old new : Run) → Type 0
+PushesWaiting values body old new =
+    (waiting : List Local) × (WaitAs values waiting
     × (new ≡ record old { frames = with_frames (changed (with_locals (λ ls. ls ++ waiting)) body old.frames.frames) old.frames }))
 
 -- the current node, which can wait for its siblings, has children, and they aren't gone

@@ -1,11 +1,18 @@
 //! Tests, loops, variables of a body, and calls of procedures.
 
-ghost use Rattle.std.specs.Prelude.{◌≡◌, [], All, IfOk, OnOk, length, ◌^◌};
+ghost use Rattle.std.specs.Prelude.{◌≡◌, ◌+◌, [], All, IfOk, OnOk, Some, length, reverse, ◌^◌};
 ghost use Rattle.std.specs.Option.{ForSome};
+ghost use Rattle.frame_stack.specs.Change.{with_pc};
 ghost use Rattle.stxpath_syntax.specs.Shape.{CanBeEvaluated};
+ghost use Rattle.template_machine.specs.Bodies.{body_in};
+ghost use Rattle.template_machine.specs.Called.{DeclaresNames, HasName};
 ghost use Rattle.template_machine.specs.Contexts.{Declares, HasForm, Single};
 ghost use Rattle.template_machine.specs.Steps.{Sees};
 ghost use Rattle.template_machine.specs.Moments.{Follows, IsAtOp};
+ghost use Rattle.template_machine.specs.Saying.{Carries, Gave, sight};
+ghost use Rattle.stxpath_values.specs.Outcome.{each};
+ghost use Rattle.template_machine.specs.Shifting.{Sets, handed_value, local_at};
+ghost use Rattle.template_machine.specs.Values.{atoms_of, truth_of};
 ghost use Rattle.template_machine.specs.Well.{IsWell};
 ghost use Rattle.template_machine.specs.Work.{Begins, Falls};
 ghost use Rattle.template_machine.specs.Working.{HasProcedure};
@@ -28,6 +35,7 @@ impl Run {
     fn value(&self, program: &Program, select: &Expr, spot: Spot) -> Result<List<Atom>, Stop>
         requires sees { Sees program.now self.now spot.body }
         requires select { CanBeEvaluated select.now }
+        ensures { body_in (reverse self.now.frames.frames) ≡ Some spot.body → Gave spot.at result (atoms_of select.now (sight program.now self.now)) }
     {
         evaluated(self.setting(program, spot.body).value(select), spot.at)
     }
@@ -35,6 +43,7 @@ impl Run {
     fn holds(&self, program: &Program, test: &Expr, spot: Spot) -> Result<bool, Stop>
         requires sees { Sees program.now self.now spot.body }
         requires test { CanBeEvaluated test.now }
+        ensures { body_in (reverse self.now.frames.frames) ≡ Some spot.body → Gave spot.at result (truth_of test.now (sight program.now self.now)) }
     {
         evaluated(self.setting(program, spot.body).truth(test), spot.at)
     }
@@ -48,7 +57,8 @@ impl Run {
     ) -> Result<List<List<Atom>>, Stop>
         requires sees { Sees program.now self.now spot.body }
         requires params { All (λ p. CanBeEvaluated p.select) params.now }
-        ensures { IfOk result (λ values. length values ≡ length params.now) }
+        ensures many { IfOk result (λ values. length values ≡ length params.now) }
+        ensures gave { body_in (reverse self.now.frames.frames) ≡ Some spot.body → Gave spot.at result (each (handed_value (sight program.now self.now)) params.now) }
     {
         let mut values = List::new(self.alloc);
         for param in params {
@@ -81,6 +91,7 @@ impl Run {
         requires { IsAtOp program.now self.old running (Op.Begin number) }
         ensures stands { IfOk result (λ step. Follows program.now step self.new) }
         ensures works { IfOk result (λ step. Falls program.now self.old step self.new) }
+        ensures goes { Carries program.now result self.old self.new }
     {
         let instr = program.instr(number);
         let at = place_of(instr);
@@ -119,6 +130,7 @@ impl Run {
         requires { IsAtOp program.now self.old running (Op.Test number arm to) }
         ensures stands { IfOk result (λ step. Follows program.now step self.new) }
         ensures works { IfOk result (λ step. Falls program.now self.old step self.new) }
+        ensures goes { Carries program.now result self.old self.new }
     {
         let instr = program.instr(number);
         let spot = Spot {
@@ -163,6 +175,7 @@ impl Run {
         requires { IsAtOp program.now self.old running (Op.Turn number to) }
         ensures stands { IfOk result (λ step. Follows program.now step self.new) }
         ensures works { IfOk result (λ step. Falls program.now self.old step self.new) }
+        ensures goes { DeclaresNames program.now → Carries program.now result self.old self.new }
     {
         let Instr::ForEachItem { name, at, .. } = program.instr(number) else {
             unreachable!();
@@ -199,6 +212,7 @@ impl Run {
         requires select { ForSome select.now CanBeEvaluated }
         ensures stands { OnOk result (IsWell program.now self.new) }
         ensures works { OnOk result (Begins 0 self.old self.new) }
+        ensures sets { HasName name.now → Sets program.now (local_at name.now select.now spot.at) (with_pc (running.pc + 1)) result self.old self.new }
     {
         let setting = self.setting(program, spot.body);
         let value = evaluated(setting.value_or_empty(select), spot.at)?;

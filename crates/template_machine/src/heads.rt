@@ -1,10 +1,18 @@
 //! What is done with a node: its template's body, or, without one, what its base group passes through.
 
-ghost use Rattle.std.specs.Prelude.{◌≡◌, ◌<◌, ◌&&◌, IfOk, IfSome, OnOk, false, length, not, reverse, slice_get, true, ◌^◌};
-ghost use Rattle.node_stack.specs.Path.{can_have_children, current};
+ghost use Rattle.std.specs.Prelude.{◌≡◌, ◌<◌, ◌&&◌, IfOk, IfSome, OnOk, false, length, not, reverse, slice_get, true, Some, ◌^◌};
+ghost use Rattle.node_stack.specs.Path.{Node, can_have_children, current};
+ghost use Rattle.sheet_model.specs.Passing.{kinds};
+ghost use Rattle.sheet_model.specs.declared.sheet.Group.{Group as Grouped};
+ghost use Rattle.template_machine.specs.Passing.{parts_behind};
+ghost use Rattle.template_machine.specs.Saying.{Puts};
 ghost use Rattle.node_stack.specs.Stack.{path};
 ghost use Rattle.template_machine.specs.Asking.{AsksOn, IsAsker};
+ghost use Rattle.template_machine.specs.Behind.{DocumentIsLast, MovesFrom, StepsFrom, body_done, list_done};
+ghost use Rattle.template_machine.specs.Bodies.{spent_in};
 ghost use Rattle.template_machine.specs.Moments.{BodyIsOver, Follows, HasHead, IsAtOp, IsPass, ListIsOver, StandsAsBefore, CanPut};
+ghost use Rattle.template_machine.specs.Ordinary.{IsAlone};
+ghost use Rattle.template_machine.specs.Still.{still};
 ghost use Rattle.template_machine.specs.Well.{IsSourceWell, IsSteady, IsWell, is_again};
 ghost use Rattle.template_machine.specs.Work.{AsksNone, Begins, Falls};
 ghost use Rattle.template_machine.specs.Working.{Awaits, CanEnter, IsChosen, IsTemplateBody};
@@ -213,6 +221,7 @@ impl Run {
         ensures stands { IfOk result (λ step. Follows program.now step self.new) }
         ensures asks { IfOk result AsksNone }
         ensures works { OnOk result (Begins 0 self.old self.new) }
+        ensures steps { IsAlone program.now self.old → StepsFrom S.output S.told program.now (λ given left f. list_done given program.now self.old left f) result self.new out.old out.new }
     {
         take_off(&mut self.frames);
         self.pass_end(program, base, out)?;
@@ -229,6 +238,7 @@ impl Run {
         requires puts { CanPut self.old.putting }
         ensures run { self.new ≡ record self.old { putting = self.new.putting } }
         ensures puts { StandsAsBefore self.old.putting self.new.putting }
+        ensures parts { (g : Grouped) → slice_get program.now.sheet.groups base ≡ Some g → (n : Node) → current (path self.old.source.stack) ≡ Some n → Puts S.output S.told g.at (parts_behind (kinds g.pass) n) result self.old.putting self.new.putting out.old out.new }
     {
         let group = program.group(base);
         if !group.pass.kinds().elements {
@@ -264,6 +274,7 @@ impl Run {
         requires body { IsTemplateBody template level spent (slice_get self.old.frames.frames running.body) }
         ensures stands { IfOk result (λ step. Follows program.now step self.new) }
         ensures works { IfOk result (λ step. Falls program.now self.old step self.new) }
+        ensures moves { IsAlone program.now self.old → MovesFrom program.now (λ given left f. still given program.now self.old left f) result self.new }
     {
         let declared = &program.sheet.templates.as_slice()[template as usize];
         take_off(&mut self.frames);
@@ -286,6 +297,7 @@ impl Run {
         ensures stands { IfOk result (λ step. Follows program.now step self.new) }
         ensures asks { IfOk result AsksNone }
         ensures works { OnOk result (Begins 4 self.old self.new) }
+        ensures moves { IsAlone program.now self.old → (is_again level (reverse self.old.frames.frames) ≡ true → spent_in (reverse self.old.frames.frames) ≡ Some spent) → MovesFrom program.now (λ given left f. body_done given program.now (is_again level (reverse self.old.frames.frames)) spent self.old left f) result self.new }
     {
         if self.is_asked_again(level) {
             self.end_process(program);
@@ -321,6 +333,7 @@ impl Run {
         ensures stands { IfOk result (λ step. Follows program.now step self.new) }
         ensures asks { IfOk result AsksNone }
         ensures works { OnOk result (Begins 4 self.old self.new) }
+        ensures moves { IsAlone program.now self.old → MovesFrom program.now (λ given left f. body_done given program.now false spent self.old left f) result self.new }
     {
         self.push(Frame::Skip { depth: 0 }, at)?;
         self.doing = Doing::List;

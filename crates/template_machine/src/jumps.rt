@@ -1,8 +1,15 @@
 //! Operations of a body that cost no fuel and lead to one place.
 
-ghost use Rattle.std.specs.Prelude.{OnOk};
+ghost use Rattle.std.specs.Prelude.{◌≡◌, ◌∷◌, ◌+◌, if◌then◌else◌, IfErr, OnOk, reverse};
+ghost use Rattle.frame_stack.specs.Change.{with_pc};
+ghost use Rattle.frame_stack.specs.Locals.{local};
+ghost use Rattle.frame_stack.specs.declared.frame.Frame.TheVariants.{Loop};
+ghost use Rattle.template_machine.specs.Bodies.{on_body};
+ghost use Rattle.template_machine.specs.Called.{DeclaresNames};
 ghost use Rattle.template_machine.specs.Contexts.{Declares, HasForm, Repeats, Single, Walks};
 ghost use Rattle.template_machine.specs.Moments.{IsAtOp, IsBranch};
+ghost use Rattle.template_machine.specs.Saying.{CarriesOn, LosesLoop};
+ghost use Rattle.template_machine.specs.Shifting.{BindsItem, HasItems, LosesWalk, OpensWalk, with_more};
 ghost use Rattle.template_machine.specs.Well.{IsWell};
 ghost use Rattle.template_machine.specs.Work.{Begins, Lessens};
 ghost use Rattle.template_machine.specs.Working.{IsChoice, IsWalk, Runs};
@@ -21,6 +28,7 @@ impl Run {
         requires { IsAtOp program.now self.old running (Op.Jump to) }
         ensures stands { IsWell program.now self.new }
         ensures works { Lessens program.now self.old self.new }
+        ensures goes { CarriesOn program.now self.old self.new }
     {
         self.frames.set_pc(running.body, to);
     }
@@ -30,6 +38,7 @@ impl Run {
         requires { IsAtOp program.now self.old running (Op.Drop count) }
         ensures stands { IsWell program.now self.new }
         ensures works { Lessens program.now self.old self.new }
+        ensures goes { DeclaresNames program.now → CarriesOn program.now self.old self.new }
     {
         self.frames.set_pc(running.body, running.pc + 1);
         let len = locals_at(&self.frames, running.body).len() - count as usize;
@@ -51,6 +60,8 @@ impl Run {
         ensures stands { IsWell program.now self.new }
         ensures works { Begins 0 self.old self.new }
         ensures chooses { IsChoice program.now.code number → Lessens program.now self.old self.new }
+        ensures behind { reverse self.new.frames.frames ≡ on_body (with_pc (if holds then running.pc + 1 else to)) (reverse self.old.frames.frames) }
+        ensures rest { self.new ≡ record self.old { frames = self.new.frames } }
     {
         if holds {
             self.frames.set_pc(running.body, running.pc + 1);
@@ -72,6 +83,8 @@ impl Run {
         requires form { HasForm program.now.code number Repeats }
         ensures stands { IsWell program.now self.new }
         ensures works { Begins 0 self.old self.new }
+        ensures behind { reverse self.new.frames.frames ≡ on_body (with_pc (running.pc + 1)) (reverse self.old.frames.frames) }
+        ensures rest { self.new ≡ record self.old { frames = self.new.frames } }
     {
         self.frames.set_pc(running.body, running.pc + 1);
     }
@@ -82,6 +95,8 @@ impl Run {
         requires form { HasForm program.now.code number Repeats }
         ensures stands { IsWell program.now self.new }
         ensures works { Lessens program.now self.old self.new }
+        ensures behind { LosesLoop to self.old self.new }
+        ensures rest { self.new ≡ record self.old { frames = self.new.frames } }
     {
         take_off(&mut self.frames);
         self.frames.set_pc(running.body, to);
@@ -98,6 +113,9 @@ impl Run {
         requires form { HasForm program.now.code number Repeats }
         ensures stands { OnOk result (IsWell program.now self.new) }
         ensures works { OnOk result (Begins 1 self.old self.new) }
+        ensures memory { IfErr result (λ fault. fault ≡ FrameFault.Memory) }
+        ensures behind { OnOk result (reverse self.new.frames.frames ≡ Loop 0 ∷ on_body (with_pc (running.pc + 1)) (reverse self.old.frames.frames)) }
+        ensures rest { self.new ≡ record self.old { frames = self.new.frames } }
     {
         self.frames.set_pc(running.body, running.pc + 1);
         self.frames.push(Frame::Loop { turn: 0 })
@@ -110,6 +128,8 @@ impl Run {
         requires form { HasForm program.now.code number Single }
         ensures stands { Runs program.now self.new running.body }
         ensures works { Begins 0 self.old self.new }
+        ensures behind { reverse self.new.frames.frames ≡ on_body (with_pc (running.pc + 1)) (reverse self.old.frames.frames) }
+        ensures rest { self.new ≡ record self.old { frames = self.new.frames } }
     {
         self.frames.set_pc(running.body, running.pc + 1);
     }
@@ -127,6 +147,8 @@ impl Run {
         requires form { HasForm program.now.code number (Declares name) }
         ensures stands { OnOk result (IsWell program.now self.new) }
         ensures works { OnOk result (Begins 0 self.old self.new) }
+        ensures behind { OnOk result (reverse self.new.frames.frames ≡ on_body (with_more (local name value) (running.pc + 1)) (reverse self.old.frames.frames)) }
+        ensures rest { self.new ≡ record self.old { frames = self.new.frames } }
     {
         self.frames.set_pc(running.body, running.pc + 1);
         self.frames.push_local(running.body, name, value)
@@ -138,6 +160,8 @@ impl Run {
         requires form { IsChoice program.now.code number }
         ensures stands { IsWell program.now self.new }
         ensures works { Begins 0 self.old self.new }
+        ensures behind { reverse self.new.frames.frames ≡ on_body (with_pc (running.pc + 1)) (reverse self.old.frames.frames) }
+        ensures rest { self.new ≡ record self.old { frames = self.new.frames } }
     {
         self.frames.set_pc(running.body, running.pc + 1);
     }
@@ -154,6 +178,9 @@ impl Run {
         requires form { IsWalk program.now.code number }
         ensures stands { OnOk result (IsWell program.now self.new) }
         ensures works { OnOk result (Begins 1 self.old self.new) }
+        ensures memory { IfErr result (λ fault. fault ≡ FrameFault.Memory) }
+        ensures behind { OnOk result (OpensWalk items (running.pc + 1) self.old self.new) }
+        ensures rest { self.new ≡ record self.old { frames = self.new.frames } }
     {
         let name = self.no_name();
         self.frames.set_pc(running.body, running.pc + 1);
@@ -176,6 +203,8 @@ impl Run {
         requires form { HasForm program.now.code number (Walks name) }
         ensures stands { OnOk result (IsWell program.now self.new) }
         ensures works { OnOk result (Begins 0 self.old self.new) }
+        ensures behind { OnOk result (BindsItem turn name value (running.pc + 1) self.old self.new) }
+        ensures rest { self.new ≡ record self.old { frames = self.new.frames } }
     {
         count_turn(&mut self.frames, turn);
         self.frames.set_pc(running.body, running.pc + 1);
@@ -188,6 +217,8 @@ impl Run {
         requires form { IsWalk program.now.code number }
         ensures stands { IsWell program.now self.new }
         ensures works { Lessens program.now self.old self.new }
+        ensures behind { LosesWalk to self.old self.new }
+        ensures rest { self.new ≡ record self.old { frames = self.new.frames } }
     {
         let last = locals_at(&self.frames, running.body).len() - 1;
         self.frames.cut_locals(running.body, last);
@@ -205,6 +236,7 @@ impl Run {
     ) -> (usize, &List<Atom>)
         requires op { IsAtOp program.now self.now running (Op.Turn number to) }
         requires form { IsWalk program.now.code number }
+        ensures { HasItems self.now result.0 result.1.now }
     {
         let locals = locals_at(&self.frames, running.body);
         (

@@ -5,13 +5,17 @@ ghost use Rattle.stx_base.specs.Course.{Ends, Over};
 ghost use Rattle.template_machine.specs.Alike.{ExpressionsSeeNodes, TextsSeeNodes, TrailsLookAlike};
 ghost use Rattle.template_machine.specs.Copies.{CopiesAll, CopiesNothing, CopiesTexts, WritesDocuments, WritesNothing, WritesTexts};
 ghost use Rattle.template_machine.specs.Ending.{Said, Ending};
+ghost use Rattle.template_machine.specs.Placed.{BodiesStayWithin};
+ghost use Rattle.template_machine.specs.Giving.{EndsAtCut, OpensOne};
 ghost use Rattle.template_machine.specs.GoingOn.{JumpsGoOn, OperationsGoOn};
 ghost use Rattle.template_machine.specs.Job.{Given};
 ghost use Rattle.template_machine.specs.Laws.{AskingIsOpen, BodiesRunByCode, GoesOnByCode, KeepsLocals, PositionsCountEarlier, SkipsSilently};
 ghost use Rattle.template_machine.specs.Meaning.{code, meaning};
 ghost use Rattle.template_machine.specs.Order.{OrderMattersAmongEquals};
 ghost use Rattle.template_machine.specs.Outcome.{AreNew, outcome};
+ghost use Rattle.template_machine.specs.Listed.{CountsAreUnseen, ListsGoOnAlike};
 ghost use Rattle.template_machine.specs.Passed.{PassesThrough};
+ghost use Rattle.template_machine.specs.Patterned.{ChoicesSeeNodes, PatternsSeeNodes, TrailsPassAlike};
 ghost use Rattle.template_machine.specs.Resuming.{Resumes};
 ghost use Rattle.template_machine.specs.Rows.{Again, Assigned, Attributes, Buffered, EachItem, LastOfTwo, Nested, Sections, Twice};
 ghost use Rattle.template_machine.specs.Stopping.{Broken, BrokenOther, Busy, ByKinds, Categories, Crowded, EnoughSources, Full, Going, Gone, Late, LeftOpen, NoDocument, OpenCopy, OtherDocument, Outermost, Parted, PassedOver, ReadSpent, Renewed, Short, TooManySources, Unmatched, Waits};
@@ -78,6 +82,16 @@ pub fn asking()
     ensures { AskingIsOpen }
 {}
 
+/// A machine that waits for an event ends where no node is ready.
+pub fn waiting()
+    ensures { EndsAtCut }
+{}
+
+/// A machine that takes the nodes of the main document alone reads no other.
+pub fn in_order()
+    ensures { OpensOne }
+{}
+
 /// Positions count the earlier nodes of a list.
 pub fn positions()
     ensures { PositionsCountEarlier }
@@ -100,11 +114,24 @@ pub fn operating()
     ensures jumps { JumpsGoOn }
 {}
 
+/// Open lists go on by what is to come of them, however they are found.
+pub fn listing()
+    ensures alike { ListsGoOnAlike }
+    ensures unseen { CountsAreUnseen }
+{}
+
 /// What expressions see of a path.
 pub fn evaluating()
     ensures expressions { ExpressionsSeeNodes }
     ensures texts { TextsSeeNodes }
     ensures trails { TrailsLookAlike }
+{}
+
+/// What patterns see of a path, and so how a template is chosen.
+pub fn choosing()
+    ensures patterns { PatternsSeeNodes }
+    ensures choices { ChoicesSeeNodes }
+    ensures trails { TrailsPassAlike }
 {}
 
 /// What small sheets make of small documents.
@@ -146,4 +173,9 @@ pub fn stopping_rows()
     ensures waits { Waits }
     ensures broken { Broken }
     ensures broken_other { BrokenOther }
+{}
+
+/// Each operation of a body's code leads on within it.
+pub fn staying()
+    ensures { BodiesStayWithin }
 {}

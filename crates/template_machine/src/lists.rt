@@ -1,14 +1,24 @@
 //! Open lists: heads, ends, and nodes that are skipped.
 
-ghost use Rattle.std.specs.Prelude.{◌≡◌, ◌+◌, ◌-◌, ◌<◌, ◌≤◌, IfOk, IsSome, None, Some, true, length, reverse, slice_set, ℕ, OnOk};
+ghost use Rattle.std.specs.Prelude.{◌≡◌, ◌+◌, ◌-◌, ◌<◌, ◌≤◌, IfOk, IsSome, None, Some, Ok, true, length, reverse, slice_set, List as Items, ◌∷◌, ℕ, OnOk};
+ghost use Rattle.stx_base.specs.declared.node.First.{First as Child};
+ghost use Rattle.frame_stack.specs.declared.frame.Frame.{Frame as Waiting};
+ghost use Rattle.frame_stack.specs.declared.frame.Frame.TheVariants.{Skip};
 ghost use Rattle.node_stack.specs.Open.{leaf_of};
 ghost use Rattle.node_stack.specs.Path.{Element, can_end, current, is_attribute};
 ghost use Rattle.node_stack.specs.Stack.{path};
+ghost use Rattle.xml_events.specs.Telling.{followed};
+ghost use Rattle.xml_events.specs.Tree.{Element as Told_element, Leaf as Told_leaf};
+ghost use Rattle.template_machine.specs.Behind.{DocumentIsLast, MovesFrom, StepsFrom, list_done, node_done};
 ghost use Rattle.template_machine.specs.Bodies as bodies;
 ghost use Rattle.template_machine.specs.Closing.{is_slot};
 ghost use Rattle.template_machine.specs.Documents.{documents};
+ghost use Rattle.template_machine.specs.Heard.{Hears, HearsAll, Listens, MayEnd, Skips, end_first, leaf_first, start_first};
+ghost use Rattle.template_machine.specs.Ordinary.{IsAlone};
 ghost use Rattle.template_machine.specs.Standing.{standing_of};
 ghost use Rattle.template_machine.specs.Steps.{fuel_ended};
+ghost use Rattle.template_machine.specs.Still.{still};
+ghost use Rattle.template_machine.specs.Trail.{leaf_node};
 ghost use Rattle.template_machine.specs.Ways.{first_in};
 ghost use Rattle.template_machine.specs.Moments.{Follows, GoesOrWaits, HasTold, HeadIsLooked, IsBuffer, ListIsOver, NodeIsOver, PutsAside, RegionIsOver, SkipEnds, SkipsOn, TakesHead};
 ghost use Rattle.template_machine.specs.Well.{IsWell, StandOnRegion};
@@ -36,6 +46,7 @@ impl Run {
         ensures works { (id : ℕ) → IsBuffer id self.old.source.origin → OnOk result (work program.now self.new < work program.now self.old) }
         ensures fuel { OnOk result (self.new.fuel ≤ fuel_ended program.now.limits.fuel self.old.fuel self.old.source.origin) }
         ensures documents { OnOk result (documents self.new ≡ documents self.old) }
+        ensures hears { IsAlone program.now self.old → Hears program.now (followed event) result self.old self.new }
     {
         match skipped(&self.frames) {
             Some(depth) => self.skip(program, depth, event),
@@ -51,6 +62,7 @@ impl Run {
         ensures works { (id : ℕ) → IsBuffer id self.old.source.origin → OnOk result (work program.now self.new < work program.now self.old) }
         ensures fuel { OnOk result (self.new.fuel ≤ fuel_ended program.now.limits.fuel self.old.fuel self.old.source.origin) }
         ensures documents { OnOk result (documents self.new ≡ documents self.old) }
+        ensures hears { Listens program.now self.old → Hears program.now (followed event) result self.old self.new }
     {
         match event {
             Event::Start {
@@ -103,6 +115,7 @@ impl Run {
         ensures works { (id : ℕ) → IsBuffer id self.old.source.origin → OnOk result (work program.now self.new < work program.now self.old) }
         ensures fuel { OnOk result (self.new.fuel ≤ fuel_ended program.now.limits.fuel self.old.fuel self.old.source.origin) }
         ensures documents { OnOk result (documents self.new ≡ documents self.old) }
+        ensures hears { Listens program.now self.old → (offset : ℕ) → Hears program.now (start_first (record { offset = offset; name = name; attrs = attrs; decls = decls }) first) result self.old self.new }
     {
         self.begin(program)?;
         let change = self.source.open(name, attrs, decls, first)?;
@@ -118,6 +131,7 @@ impl Run {
         ensures works { (id : ℕ) → IsBuffer id self.old.source.origin → OnOk result (work program.now self.new < work program.now self.old) }
         ensures fuel { OnOk result (self.new.fuel ≤ fuel_ended program.now.limits.fuel self.old.fuel self.old.source.origin) }
         ensures documents { OnOk result (documents self.new ≡ documents self.old) }
+        ensures hears { Listens program.now self.old → (l : Told_leaf) → leaf_node l ≡ leaf_of leaf → Hears program.now (leaf_first l) result self.old self.new }
     {
         self.begin(program)?;
         self.source.leaf(leaf)
@@ -133,6 +147,7 @@ impl Run {
         ensures works { (id : ℕ) → IsBuffer id self.old.source.origin → work program.now self.new < work program.now self.old }
         ensures fuel { self.new.fuel ≤ fuel_ended program.now.limits.fuel self.old.fuel self.old.source.origin }
         ensures documents { documents self.new ≡ documents self.old }
+        ensures hears { MayEnd program.now self.old → (offset : ℕ) → HearsAll program.now (end_first offset) self.old self.new }
     {
         self.end_list(program);
         self.source.ahead = Ahead::Ended;
@@ -146,6 +161,7 @@ impl Run {
         ensures works { (id : ℕ) → IsBuffer id self.old.source.origin → OnOk result (work program.now self.new < work program.now self.old) }
         ensures fuel { OnOk result (self.new.fuel ≤ fuel_ended program.now.limits.fuel self.old.fuel self.old.source.origin) }
         ensures documents { OnOk result (documents self.new ≡ documents self.old) }
+        ensures hears { IsAlone program.now self.old → Hears program.now (followed event) result self.old self.new }
     {
         let skipped = self.pass_over(program, depth, &event);
         event.give_back(&mut self.putting.spare);
@@ -159,6 +175,7 @@ impl Run {
         ensures works { (id : ℕ) → IsBuffer id self.old.source.origin → OnOk result (work program.now self.new < work program.now self.old) }
         ensures fuel { OnOk result (self.new.fuel ≤ fuel_ended program.now.limits.fuel self.old.fuel self.old.source.origin) }
         ensures documents { OnOk result (documents self.new ≡ documents self.old) }
+        ensures hears { IsAlone program.now self.old → Hears program.now (followed event.now) result self.old self.new }
     {
         match event {
             Event::Start { .. } => self.skip_start(program, depth),
@@ -177,6 +194,7 @@ impl Run {
         ensures works { (id : ℕ) → IsBuffer id self.old.source.origin → OnOk result (work program.now self.new < work program.now self.old) }
         ensures fuel { OnOk result (self.new.fuel ≤ fuel_ended program.now.limits.fuel self.old.fuel self.old.source.origin) }
         ensures documents { OnOk result (documents self.new ≡ documents self.old) }
+        ensures hears { Skips program.now depth self.old → (e : Told_element) (first : Child) → Hears program.now (start_first e first) result self.old self.new }
     {
         self.begin(program)?;
         self.skip_to(program, depth + 1);
@@ -189,6 +207,7 @@ impl Run {
         ensures works { (id : ℕ) → IsBuffer id self.old.source.origin → OnOk result (work program.now self.new < work program.now self.old) }
         ensures fuel { OnOk result (self.new.fuel ≤ fuel_ended program.now.limits.fuel self.old.fuel self.old.source.origin) }
         ensures documents { OnOk result (documents self.new ≡ documents self.old) }
+        ensures hears { Skips program.now depth self.old → (l : Told_leaf) → Hears program.now (leaf_first l) result self.old self.new }
     {
         self.begin(program)?;
         self.skip_to(program, depth);
@@ -201,6 +220,7 @@ impl Run {
         ensures works { (id : ℕ) → IsBuffer id self.old.source.origin → work program.now self.new < work program.now self.old }
         ensures fuel { self.new.fuel ≤ fuel_ended program.now.limits.fuel self.old.fuel self.old.source.origin }
         ensures documents { documents self.new ≡ documents self.old }
+        ensures hears { Skips program.now depth self.old → (offset : ℕ) → HearsAll program.now (end_first offset) self.old self.new }
     {
         match depth.checked_sub(1) {
             Some(less) => {
@@ -218,6 +238,8 @@ impl Run {
         ensures works { (d : ℕ) → bodies.skipped_in (reverse self.old.frames.frames) ≡ Some d → (self.new.fuel ≡ self.old.fuel) × (burden self.new + d ≡ burden self.old + depth) }
         ensures fuel { self.new.fuel ≡ self.old.fuel }
         ensures documents { documents self.new ≡ documents self.old }
+        ensures rest { self.new ≡ record self.old { frames = self.new.frames } }
+        ensures depth { (d : ℕ) (others : Items Waiting) → reverse self.old.frames.frames ≡ Skip d ∷ others → reverse self.new.frames.frames ≡ Skip depth ∷ others }
     {
         let top = self.frames.count() - 1;
         self.frames.set_depth(top, depth);
@@ -302,6 +324,7 @@ impl Run {
         requires ahead { self.old.source.ahead ≡ Ahead.Nothing }
         ensures stands { IfOk result (λ step. Follows program.now step self.new) }
         ensures works { IfOk result (λ step. Falls program.now self.old step self.new) }
+        ensures moves { IsAlone program.now self.old → MovesFrom program.now (λ given left f. still given program.now self.old left f) result self.new }
     {
         match self.source.origin {
             Origin::Main => Ok(Step::Wait),
@@ -437,6 +460,7 @@ impl Run {
         ensures stands { IfOk result (λ step. Follows program.now step self.new) }
         ensures asks { IfOk result AsksNone }
         ensures works { OnOk result (Begins 0 self.old self.new) }
+        ensures moves { IsAlone program.now self.old → MovesFrom program.now (λ given left f. list_done given program.now self.old left f) result self.new }
     {
         self.end_process(program);
         Ok(Step::More)
@@ -449,6 +473,7 @@ impl Run {
         ensures stands { IfOk result (λ step. Follows program.now step self.new) }
         ensures asks { IfOk result AsksNone }
         ensures works { OnOk result (Begins 0 self.old self.new) }
+        ensures moves { IsAlone program.now self.old → bodies.skipped_in (reverse self.old.frames.frames) ≡ Some 0 → MovesFrom program.now (λ given left f. list_done given program.now self.old left f) result self.new }
     {
         take_off(&mut self.frames);
         if self.has_slot() {
@@ -487,6 +512,7 @@ impl Run {
         ensures stands { IfOk result (λ step. Follows program.now step self.new) }
         ensures asks { IfOk result AsksNone }
         ensures works { OnOk result (Begins 2 self.old self.new) }
+        ensures moves { IsAlone program.now self.old → DocumentIsLast self.old → MovesFrom program.now (λ given left f. node_done given program.now self.old left f) result self.new }
     {
         match self.source.stack.current() {
             NodeView::Attribute(_) => Ok(self.leave_attribute(program)),
@@ -506,6 +532,7 @@ impl Run {
         ensures stands { Follows program.now result self.new }
         ensures asks { AsksNone result }
         ensures works { Begins 2 self.old self.new }
+        ensures moves { IsAlone program.now self.old → MovesFrom program.now (λ given left f. node_done given program.now self.old left f) (Ok result) self.new }
     {
         self.source.stack.leave_attribute();
         self.list_goes_on()
@@ -518,6 +545,7 @@ impl Run {
         ensures stands { Follows program.now result self.new }
         ensures asks { AsksNone result }
         ensures works { Begins 2 self.old self.new }
+        ensures moves { IsAlone program.now self.old → MovesFrom program.now (λ given left f. node_done given program.now self.old left f) (Ok result) self.new }
     {
         let change = self.source.close(&mut self.putting.spare);
         self.putting.see(change);

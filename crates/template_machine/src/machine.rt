@@ -1,8 +1,14 @@
 //! A run of a sheet, event by event.
 
-ghost use Rattle.std.specs.Prelude.{◌≡◌, ◌+◌, ◌<◌, ◌^◌, [], ◌∷◌, true, false, ℕ, IfOk, OnOk, List as Items};
+ghost use Rattle.std.specs.Prelude.{◌≡◌, ◌+◌, ◌<◌, ◌^◌, [], ◌∷◌, true, false, ℕ, IfOk, OnOk, List as Items, map};
+ghost use Rattle.result_writer.specs.Target.{Left};
 ghost use Rattle.sheet_model.specs.Sound.{IsSound};
+ghost use Rattle.sheet_model.specs.declared.sheet.Sheet.{Sheet as Sheets};
+ghost use Rattle.stx_base.specs.declared.limits.Limits.{Limits as Limit};
+ghost use Rattle.xml_events.specs.Tree.{Future};
 ghost use Rattle.template_machine.specs.Between.{Burns, Continues, GoesOn, IsAbsent, IsAsking, IsAskingForDocument, IsNew, IsOf, behind, depth_of, documents_of, fuel_at, fuel_limit_of, fuel_of, mains_behind, mains_of, spare_of};
+ghost use Rattle.template_machine.specs.Giving.{HasOrdinarySheet, RunsInOrder, given_by, params_of, rest};
+ghost use Rattle.template_machine.specs.Job.{Given};
 ghost use Rattle.template_machine.specs.Moments.{Follows};
 ghost use Rattle.template_machine.specs.Work.{AsksNone, means_of};
 
@@ -39,6 +45,7 @@ impl Machine {
         ensures depth { IfOk result (λ m. depth_of m ≡ limits.depth) }
         ensures fuel { IfOk result (λ m. fuel_of m ≡ limits.fuel) }
         ensures fuel_limit { IfOk result (λ m. fuel_limit_of m ≡ limits.fuel) }
+        ensures params { IfOk result (λ m. params_of m ≡ map given_by params) }
     {
         let program = Program::new(alloc, sheet, limits)?;
         let run = Run::new(alloc, &program, params)?;
@@ -56,6 +63,7 @@ impl Machine {
         ensures mains { GoesOn result → mains_of self.new ≡ true ∷ [] }
         ensures fuel { Burns result (fuel_of self.old) (fuel_of self.new) }
         ensures fuel_limit { fuel_limit_of self.new ≡ fuel_limit_of self.old }
+        ensures of { (sheet : Sheets) (limits : Limit) → IsOf sheet limits self.old → IsOf sheet limits self.new }
     {
         match self.begin(out) {
             Ok(step) => self.run.go_on_behind(&self.program, step, out),
@@ -88,6 +96,7 @@ impl Machine {
         ensures mains { GoesOn result → mains_of self.new ≡ mains_behind event (mains_of self.old) }
         ensures fuel { Burns result (fuel_at (mains_of self.old) (fuel_limit_of self.old) (fuel_of self.old)) (fuel_of self.new) }
         ensures fuel_limit { fuel_limit_of self.new ≡ fuel_limit_of self.old }
+        ensures of { (sheet : Sheets) (limits : Limit) → IsOf sheet limits self.old → IsOf sheet limits self.new }
     {
         self.run.source.count(&event);
         match self.run.arrive(&self.program, event) {
@@ -134,6 +143,9 @@ impl Machine {
         ensures mains { mains_of self.new ≡ mains_of self.old }
         ensures fuel { fuel_of self.new ≡ fuel_of self.old }
         ensures fuel_limit { fuel_limit_of self.new ≡ fuel_limit_of self.old }
+        ensures of { (sheet : Sheets) (limits : Limit) → IsOf sheet limits self.old → IsOf sheet limits self.new }
+        ensures order { (HasOrdinarySheet self.old → HasOrdinarySheet self.new) × (RunsInOrder self.old → RunsInOrder self.new) }
+        ensures rest { (given : Given) (left : Left) (f : Future) → rest given self.old left f ≡ rest given self.new left f }
     {
         mem::swap(&mut self.run.putting.spare, spare);
     }

@@ -32,6 +32,19 @@ impl Output {
 }
 
 impl Sink for Output {
+    ghost use Rattle.template_machine.specs.Written.{Wrote};
+    ghost use Rattle.template_machine.specs.WrittenOn.{wrote_further, wrote_leaves, wrote_nothing};
+
+    ghost output = { λ out. out.writer };
+
+    ghost told = { Wrote };
+
+    ghost nothing = { wrote_nothing };
+
+    ghost further = { wrote_further };
+
+    ghost leaves = { wrote_leaves };
+
     fn start(
         &mut self,
         name: Name,

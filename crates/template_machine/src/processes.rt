@@ -1,12 +1,14 @@
 //! Instructions that process nodes.
 
-ghost use Rattle.std.specs.Prelude.{◌≡◌, ◌<◌, ◌∷◌, false, IfOk, OnOk, length, ◌^◌};
+ghost use Rattle.std.specs.Prelude.{◌≡◌, ◌<◌, ◌∷◌, Some, false, IfOk, OnOk, length, slice_get, ◌^◌};
 ghost use Rattle.node_stack.specs.Path.{can_end, current};
 ghost use Rattle.node_stack.specs.Stack.{path};
+ghost use Rattle.sheet_model.specs.declared.instr.Instr.{Instr as Instruction};
 ghost use Rattle.template_machine.specs.Contexts.{HasForm, Single};
 ghost use Rattle.template_machine.specs.Documents.{documents};
 ghost use Rattle.template_machine.specs.Evaluating.{TemplateCanBeEvaluated};
 ghost use Rattle.template_machine.specs.Moments.{Follows, IsAtOp};
+ghost use Rattle.template_machine.specs.Shifting.{Hands};
 ghost use Rattle.template_machine.specs.Well.{IsWaiting, IsWell};
 ghost use Rattle.template_machine.specs.Work.{Begins};
 ghost use Rattle.template_machine.specs.Working.{Awaits, CanBeSkipped, HasBuffer, PushesWaiting};
@@ -37,6 +39,7 @@ impl Run {
         requires form { HasForm program.now.code number Single }
         ensures stands { OnOk result (Awaits program.now self.new running.pc running.body) }
         ensures works { OnOk result (Begins 0 self.old self.new) }
+        ensures hands { (instr : Instruction) → slice_get program.now.code.instrs number ≡ Some instr → Hands program.now instr at running.pc result self.old self.new }
     {
         let spot = Spot {
             body: running.body,
@@ -50,7 +53,8 @@ impl Run {
 
     fn push_waiting(&mut self, body: usize, values: List<List<Atom>>) -> Result<(), Memory>
         requires { body < length self.old.frames.frames }
-        ensures { OnOk result (PushesWaiting (length values) body self.old self.new) }
+        ensures pushes { OnOk result (PushesWaiting values body self.old self.new) }
+        ensures rest { self.new ≡ record self.old { frames = self.new.frames } }
     {
         for value in values.into_vec() {
             let name = self.no_name();

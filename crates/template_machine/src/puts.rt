@@ -1,14 +1,26 @@
 //! Instructions that put parts, and those around lists.
 
-ghost use Rattle.std.specs.Prelude.{◌≡◌, [], true, All, IfOk, OnOk};
+ghost use Rattle.std.specs.Prelude.{◌≡◌, ◌∷◌, ◌+◌, [], true, All, IfOk, IsTrue, OnOk, None, Some, List as Items, reverse, slice_get};
 ghost use Rattle.std.specs.Option.{ForSome};
+ghost use Rattle.frame_stack.specs.Change.{with_pc};
+ghost use Rattle.sheet_model.specs.Parts.{place};
+ghost use Rattle.sheet_model.specs.declared.instr.Instr.{Instr as Instruction};
 ghost use Rattle.sheet_model.specs.declared.instr.Instr.TheViews.{out-Instr};
 ghost use Rattle.stxpath_syntax.specs.Shape.{CanBeEvaluated};
+ghost use Rattle.stxpath_syntax.specs.declared.expr.Expr.TheVariants as expr;
+ghost use Rattle.stx_base.specs.declared.name.Binding.{Binding};
+ghost use Rattle.stx_base.specs.declared.part.Part.TheVariants as parts;
+ghost use Rattle.template_machine.specs.Acting.{without_space};
+ghost use Rattle.template_machine.specs.Bodies.{body_in, on_body};
 ghost use Rattle.template_machine.specs.Contexts.{Around, AroundBuffer, AroundTag, HasForm};
 ghost use Rattle.template_machine.specs.Evaluating.{ContentCanBeEvaluated, TemplateCanBeEvaluated};
+ghost use Rattle.template_machine.specs.Opening.{EndsCopy, IsElementAt, PutsAside};
 ghost use Rattle.template_machine.specs.Puts.{OnlyPuts};
+ghost use Rattle.template_machine.specs.Saying.{Acts, Gave, IsShown, NamesAs, Puts, Steps, attribute_at, comment_at, end_at, message_at, pi_at, sight, start_at, value_at};
 ghost use Rattle.template_machine.specs.Steps.{Sees};
+ghost use Rattle.template_machine.specs.Stepwise.{tag_of};
 ghost use Rattle.template_machine.specs.Moments.{IsAtOp, CanPut};
+ghost use Rattle.template_machine.specs.Values.{content_text, namespace_text, template_text};
 ghost use Rattle.template_machine.specs.Well.{AreTexts, IsSourceWell, IsWell};
 ghost use Rattle.template_machine.specs.Work.{Begins, Lessens};
 ghost use Rattle.template_machine.specs.Working as working;
@@ -42,6 +54,8 @@ impl Run {
         requires puts { working.puts (out-Instr instr.now) ≡ true }
         ensures stands { OnOk result (IsWell program.now self.new) }
         ensures works { OnOk result (Begins 0 self.old self.new) }
+        ensures rest { self.new ≡ record self.old { putting = self.new.putting } }
+        ensures acts { body_in (reverse self.old.frames.frames) ≡ Some spot.body → spot.at ≡ place (out-Instr instr.now) → Acts S.output S.told program.now (out-Instr instr.now) result self.old self.new out.old out.new }
     {
         self.put_parts(program, instr, spot, out)
     }
@@ -57,7 +71,8 @@ impl Run {
         requires sees { Sees program.now self.old spot.body }
         requires can { CanBeRun instr.now }
         requires puts { working.puts (out-Instr instr.now) ≡ true }
-        ensures { OnlyPuts self.old self.new }
+        ensures only { OnlyPuts self.old self.new }
+        ensures acts { body_in (reverse self.old.frames.frames) ≡ Some spot.body → spot.at ≡ place (out-Instr instr.now) → Acts S.output S.told program.now (out-Instr instr.now) result self.old self.new out.old out.new }
     {
         match instr {
             Instr::ValueOf {
@@ -107,7 +122,8 @@ impl Run {
         requires sees { Sees program.now self.old spot.body }
         requires select { CanBeEvaluated select.now }
         requires separator { ForSome separator.now TemplateCanBeEvaluated }
-        ensures { OnlyPuts self.old self.new }
+        ensures only { OnlyPuts self.old self.new }
+        ensures acts { body_in (reverse self.old.frames.frames) ≡ Some spot.body → Acts S.output S.told program.now (value_at select.now separator.now spot.at) result self.old self.new out.old out.new }
     {
         match separator {
             None => {
@@ -143,7 +159,8 @@ impl Run {
         requires sees { Sees program.now self.old spot.body }
         requires name { TemplateCanBeEvaluated name.now }
         requires namespace { ForSome namespace.now TemplateCanBeEvaluated }
-        ensures { OnlyPuts self.old self.new }
+        ensures only { OnlyPuts self.old self.new }
+        ensures acts { body_in (reverse self.old.frames.frames) ≡ Some spot.body → Acts S.output S.told program.now (start_at name.now namespace.now scope.now spot.at) result self.old self.new out.old out.new }
     {
         let name = self.element_name(program, name, namespace, scope, spot)?;
         self.putting.start_named(name, spot.at, out)
@@ -162,7 +179,8 @@ impl Run {
         requires sees { Sees program.now self.old spot.body }
         requires name { TemplateCanBeEvaluated name.now }
         requires namespace { ForSome namespace.now TemplateCanBeEvaluated }
-        ensures { OnlyPuts self.old self.new }
+        ensures only { OnlyPuts self.old self.new }
+        ensures acts { body_in (reverse self.old.frames.frames) ≡ Some spot.body → Acts S.output S.told program.now (end_at name.now namespace.now scope.now spot.at) result self.old self.new out.old out.new }
     {
         let name = self.element_name(program, name, namespace, scope, spot)?;
         self.putting.end(&name, spot.at, out)
@@ -183,7 +201,8 @@ impl Run {
         requires name { TemplateCanBeEvaluated name.now }
         requires namespace { ForSome namespace.now TemplateCanBeEvaluated }
         requires content { ContentCanBeEvaluated content.now }
-        ensures { OnlyPuts self.old self.new }
+        ensures only { OnlyPuts self.old self.new }
+        ensures acts { body_in (reverse self.old.frames.frames) ≡ Some spot.body → Acts S.output S.told program.now (attribute_at name.now namespace.now scope.now content.now spot.at) result self.old self.new out.old out.new }
     {
         let name = self.template(program, name, spot)?;
         let namespace = self.namespace(program, namespace, spot)?;
@@ -204,7 +223,8 @@ impl Run {
         requires target { CanPut self.old.putting }
         requires sees { Sees program.now self.old spot.body }
         requires content { ContentCanBeEvaluated content.now }
-        ensures { OnlyPuts self.old self.new }
+        ensures only { OnlyPuts self.old self.new }
+        ensures acts { body_in (reverse self.old.frames.frames) ≡ Some spot.body → Acts S.output S.told program.now (comment_at content.now spot.at) result self.old self.new out.old out.new }
     {
         let text = self.content(program, content, spot)?;
         self.putting.comment(&text, spot.at, out)
@@ -222,11 +242,12 @@ impl Run {
         requires sees { Sees program.now self.old spot.body }
         requires name { TemplateCanBeEvaluated name.now }
         requires content { ContentCanBeEvaluated content.now }
-        ensures { OnlyPuts self.old self.new }
+        ensures only { OnlyPuts self.old self.new }
+        ensures acts { (scope : Items Binding) → body_in (reverse self.old.frames.frames) ≡ Some spot.body → Acts S.output S.told program.now (pi_at name.now scope content.now spot.at) result self.old self.new out.old out.new }
     {
         let target = self.template(program, name, spot)?;
         let text = self.content(program, content, spot)?;
-        let text = self.without_space(text)?;
+        let text = self.without_space(&text)?;
         self.putting.instruction(&target, &text, spot.at, out)
     }
 
@@ -240,6 +261,7 @@ impl Run {
     ) -> Result<(), Stop>
         requires sees { Sees program.now self.now spot.body }
         requires content { ContentCanBeEvaluated content.now }
+        ensures { body_in (reverse self.now.frames.frames) ≡ Some spot.body → Acts S.output S.told program.now (message_at content.now spot.at) result self.now self.now out.old out.new }
     {
         let text = self.content(program, content, spot)?;
         out.note(&text)?;
@@ -257,6 +279,7 @@ impl Run {
         requires sees { Sees program.now self.now spot.body }
         requires name { TemplateCanBeEvaluated name.now }
         requires namespace { ForSome namespace.now TemplateCanBeEvaluated }
+        ensures { body_in (reverse self.now.frames.frames) ≡ Some spot.body → NamesAs spot.at name.now namespace.now scope.now program.now self.now result }
     {
         let name = self.template(program, name, spot)?;
         let namespace = self.namespace(program, namespace, spot)?;
@@ -269,6 +292,7 @@ impl Run {
     pub fn template(&self, program: &Program, template: &Avt, spot: Spot) -> Result<Text, Stop>
         requires sees { Sees program.now self.now spot.body }
         requires template { TemplateCanBeEvaluated template.now }
+        ensures { body_in (reverse self.now.frames.frames) ≡ Some spot.body → Gave spot.at result (template_text template.now (sight program.now self.now)) }
     {
         evaluated(self.setting(program, spot.body).template(template), spot.at)
     }
@@ -281,6 +305,7 @@ impl Run {
     ) -> Result<Option<Text>, Stop>
         requires sees { Sees program.now self.now spot.body }
         requires namespace { ForSome namespace.now TemplateCanBeEvaluated }
+        ensures { body_in (reverse self.now.frames.frames) ≡ Some spot.body → Gave spot.at result (namespace_text namespace.now (sight program.now self.now)) }
     {
         evaluated(
             self.setting(program, spot.body)
@@ -292,17 +317,23 @@ impl Run {
     fn content(&self, program: &Program, content: &Content, spot: Spot) -> Result<Text, Stop>
         requires sees { Sees program.now self.now spot.body }
         requires content { ContentCanBeEvaluated content.now }
+        ensures { body_in (reverse self.now.frames.frames) ≡ Some spot.body → Gave spot.at result (content_text content.now (sight program.now self.now)) }
     {
         evaluated(self.setting(program, spot.body).content(content), spot.at)
     }
 
     /// A text without the white space that it begins with (XML 1.0, 2.6).
-    fn without_space(&self, text: Text) -> Result<Text, Stop> {
-        let trimmed = text.as_str().trim_start_matches(|c| is_space(c));
-        if trimmed.len() == text.as_str().len() {
-            return Ok(text);
+    fn without_space(&self, text: &Text) -> Result<Text, Memory>
+        ensures { IfOk result (λ made. made ≡ without_space text.now) }
+    {
+        let mut made = Text::new(self.alloc);
+        for c in text.as_str().chars() {
+            if made.is_empty() && is_space(c) {
+                continue;
+            }
+            made.push(c)?;
         }
-        Ok(Text::of(self.alloc, trimmed)?)
+        Ok(made)
     }
 
     // Instructions around lists.
@@ -319,6 +350,7 @@ impl Run {
         requires { IsAtOp program.now self.old running (Op.Open number to) }
         ensures stands { OnOk result (IsWell program.now self.new) }
         ensures works { OnOk result (Lessens program.now self.old self.new) }
+        ensures goes { IsShown program.now (Op.Open number to) → Steps S.output S.told program.now result self.old self.new out.old out.new }
     {
         let instr = program.instr(number);
         let spot = Spot {
@@ -366,6 +398,7 @@ impl Run {
         requires { IsAtOp program.now self.old running (Op.Close number) }
         ensures stands { OnOk result (IsWell program.now self.new) }
         ensures works { OnOk result (Lessens program.now self.old self.new) }
+        ensures goes { IsShown program.now (Op.Close number) → Steps S.output S.told program.now result self.old self.new out.old out.new }
     {
         match program.instr(number) {
             Instr::Literal { name, at, .. } => {
@@ -414,7 +447,8 @@ impl Run {
     /// The start of an element whose name was computed.
     fn open_element<S: Sink>(&mut self, name: &Name, spot: Spot, out: &mut S) -> Result<(), Stop>
         requires { CanPut self.old.putting }
-        ensures { OnlyPuts self.old self.new }
+        ensures only { OnlyPuts self.old self.new }
+        ensures puts { Puts S.output S.told spot.at (parts.Start name.now [] ∷ []) result self.old.putting self.new.putting out.old out.new }
     {
         self.putting.start(name, spot.at, out)
     }
@@ -437,7 +471,8 @@ impl Run {
 
     fn close_copy<S: Sink>(&mut self, at: Place, out: &mut S) -> Result<(), Stop>
         requires { CanPut self.old.putting }
-        ensures { OnlyPuts self.old self.new }
+        ensures only { OnlyPuts self.old self.new }
+        ensures ends { EndsCopy S.output S.told at result self.old self.new out.old out.new }
     {
         match self.source.stack.current() {
             NodeView::Element { name, .. } => self.putting.end(name, at, out),
@@ -474,6 +509,8 @@ impl Run {
         requires form { HasForm program.now.code number Around }
         ensures stands { IsWell program.now self.new }
         ensures works { Begins 0 self.old self.new }
+        ensures behind { reverse self.new.frames.frames ≡ on_body (with_pc (running.pc + 1)) (reverse self.old.frames.frames) }
+        ensures rest { self.new ≡ record self.old { frames = self.new.frames } }
     {
         self.frames.set_pc(running.body, running.pc + 1);
     }
@@ -483,6 +520,8 @@ impl Run {
         requires { IsAtOp program.now self.old running (Op.Open number to) }
         ensures stands { IsWell program.now self.new }
         ensures works { Begins 0 self.old self.new }
+        ensures behind { reverse self.new.frames.frames ≡ on_body (with_pc to) (reverse self.old.frames.frames) }
+        ensures rest { self.new ≡ record self.old { frames = self.new.frames } }
     {
         self.frames.set_pc(running.body, to);
     }
@@ -493,6 +532,8 @@ impl Run {
         requires form { HasForm program.now.code number Around }
         ensures stands { IsWell program.now self.new }
         ensures works { Lessens program.now self.old self.new }
+        ensures behind { reverse self.new.frames.frames ≡ on_body (with_pc (running.pc + 1)) (reverse self.old.frames.frames) }
+        ensures rest { self.new ≡ record self.old { frames = self.new.frames } }
     {
         self.frames.set_pc(running.body, running.pc + 1);
     }
@@ -510,6 +551,8 @@ impl Run {
         requires form { HasForm program.now.code number AroundTag }
         ensures stands { OnOk result (IsWell program.now self.new) }
         ensures works { OnOk result (Begins 0 self.old self.new) }
+        ensures behind { OnOk result (PutsAside (tag_of name) (running.pc + 1) self.old self.new) }
+        ensures rest { self.new ≡ record self.old { frames = self.new.frames } }
     {
         let value = self.name_value(name)?;
         let nameless = nameless(self.alloc);
@@ -519,7 +562,8 @@ impl Run {
 
     /// A name as a value.
     fn name_value(&self, name: Name) -> Result<List<Atom>, Memory>
-        ensures { IfOk result AreTexts }
+        ensures texts { IfOk result AreTexts }
+        ensures tag { IfOk result (λ value. value ≡ tag_of name) }
     {
         let Name { uri, local, prefix } = name;
         let mut value = List::new(self.alloc);
@@ -542,6 +586,7 @@ impl Run {
         requires form { HasForm program.now.code number AroundTag }
         ensures stands { OnOk result (IsWell program.now self.new) }
         ensures works { OnOk result (Lessens program.now self.old self.new) }
+        ensures goes { (i : Instruction) → slice_get program.now.code.instrs number ≡ Some i → IsElementAt (out-Instr i) at → Steps S.output S.told program.now result self.old self.new out.old out.new }
     {
         let locals = locals_at(&self.frames, running.body);
         let last = locals.len() - 1;
@@ -593,7 +638,9 @@ impl Run {
 }
 
 /// Whether it is the current node.
-fn is_current(select: &Expr) -> bool {
+fn is_current(select: &Expr) -> bool
+    ensures { IsTrue result → select.now ≡ expr.Up 0 None }
+{
     matches!(select, Expr::Up(0, None))
 }
 

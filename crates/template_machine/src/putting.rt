@@ -1,15 +1,22 @@
 //! Where parts go: into the innermost buffer that is written, or else into the output.
 
-ghost use Rattle.std.specs.Prelude.{◌≡◌, ◌<◌, ℕ, [], true, IfOk, IsSome, OnOk, Some, length, map};
+ghost use Rattle.std.specs.Prelude.{◌≡◌, ◌<◌, ℕ, [], ◌∷◌, true, false, IfErr, IfOk, IsSome, OnOk, Some, length, map};
 ghost use Rattle.stx_base.specs.Character.{is_cdata_text};
 ghost use Rattle.node_stack.specs.Open.{node_of};
 ghost use Rattle.sheet_model.specs.Sound.{BuffersAreWhole, IsSmall};
-ghost use Rattle.result_writer.specs.Target.{holds_cdata_text};
+ghost use Rattle.stx_base.specs.declared.part.Part.TheVariants as parts;
+ghost use Rattle.result_writer.specs.Target.{Left, holds_cdata_text, is_closed};
+ghost use Rattle.stx_base.specs.declared.fault.RunCode.TheVariants.{UnclosedResult};
 ghost use Rattle.event_buffers.specs.Buffers.{copies_of};
 ghost use Rattle.event_buffers.specs.Declaring.{declared_by};
+ghost use Rattle.template_machine.specs.Job.{Does, State};
+ghost use Rattle.template_machine.specs.Putting.{put_in, text_parts};
 ghost use Rattle.template_machine.specs.Puts as spec;
 ghost use Rattle.template_machine.specs.Puts.{BeginsWriting, EndsWriting};
+ghost use Rattle.template_machine.specs.Saying.{GoesAs, Puts, placed};
 ghost use Rattle.template_machine.specs.Sections.{HoldsSection};
+ghost use Rattle.template_machine.specs.Stepwise.{tagged};
+ghost use Rattle.template_machine.specs.Stops.{fault};
 ghost use Rattle.template_machine.specs.Moments.{StandsAsBefore, CanPut};
 ghost use Rattle.template_machine.specs.Well.{AreTexts};
 
@@ -37,7 +44,6 @@ pub struct Putting {
     pub spare: Spare,
     /// Whether the output's last start was in the scope of the current node. So it needn't be compared.
     is_told: bool,
-    no_bindings: List<Binding>,
 }
 
 impl Putting {
@@ -53,14 +59,14 @@ impl Putting {
             targets: List::new(alloc),
             spare: Spare::new(alloc),
             is_told: false,
-            no_bindings: List::new(alloc),
         })
     }
 
     /// The bindings in force at the current node are others, or may be.
     #[inline(always)]
     pub fn see(&mut self, change: Change)
-        ensures { StandsAsBefore self.old self.new }
+        ensures stands { StandsAsBefore self.old self.new }
+        ensures rest { self.new ≡ record self.old { is_told = self.new.is_told } }
     {
         self.is_told = self.is_told && change == Change::Same;
     }
@@ -99,7 +105,8 @@ impl Putting {
         requires can { CanPut self.old }
         requires target { spec.target_of self.old ≡ Some buffer }
         requires text { holds_cdata_text part ≡ true }
-        ensures { StandsAsBefore self.old self.new }
+        ensures stands { StandsAsBefore self.old self.new }
+        ensures keeps { (left : Left) (st : State) (go : State → Does) → GoesAs result (put_in buffer at part (placed self.old left st) go) [] (go (placed self.new left st)) }
     {
         buffered(self.buffers.put(buffer, part), at)
     }
@@ -108,6 +115,7 @@ impl Putting {
     #[inline(always)]
     pub fn copied(&mut self, text: &Text) -> Result<Text, Memory>
         ensures same { StandsAsBefore self.old self.new }
+        ensures rest { self.new ≡ record self.old { spare = self.new.spare } }
         ensures copy { IfOk result (λ made. made ≡ text.now) }
     {
         if text.is_empty() {
@@ -119,6 +127,7 @@ impl Putting {
     #[inline(always)]
     pub fn copied_name(&mut self, name: &Name) -> Result<Name, Memory>
         ensures same { StandsAsBefore self.old self.new }
+        ensures rest { self.new ≡ record self.old { spare = self.new.spare } }
         ensures copy { IfOk result (λ made. made ≡ name.now) }
     {
         let uri = self.copied(&name.uri)?;
@@ -130,7 +139,8 @@ impl Putting {
     /// An element's start in an empty scope.
     pub fn start<S: Sink>(&mut self, name: &Name, at: Place, out: &mut S) -> Result<(), Stop>
         requires { CanPut self.old }
-        ensures { StandsAsBefore self.old self.new }
+        ensures stands { StandsAsBefore self.old self.new }
+        ensures puts { Puts S.output S.told at (parts.Start name.now [] ∷ []) result self.old self.new out.old out.new }
     {
         let name = self.copied_name(name)?;
         self.start_named(name, at, out)
@@ -139,14 +149,16 @@ impl Putting {
     /// The same of a name that is handed over.
     pub fn start_named<S: Sink>(&mut self, name: Name, at: Place, out: &mut S) -> Result<(), Stop>
         requires { CanPut self.old }
-        ensures { StandsAsBefore self.old self.new }
+        ensures stands { StandsAsBefore self.old self.new }
+        ensures puts { Puts S.output S.told at (parts.Start name [] ∷ []) result self.old self.new out.old out.new }
     {
         if let Some(buffer) = self.target() {
             let scope = List::new(self.alloc);
             return self.keep(buffer, Part::Start { name, scope }, at);
         }
         self.is_told = false;
-        written(out.start(name, &self.no_bindings, &mut self.spare), at)
+        let none = List::new(self.alloc);
+        written(out.start(name, &none, &mut self.spare), at)
     }
 
     /// The start of an element of the document that is current.
@@ -182,7 +194,8 @@ impl Putting {
         out: &mut S,
     ) -> Result<(), Stop>
         requires { CanPut self.old }
-        ensures { StandsAsBefore self.old self.new }
+        ensures stands { StandsAsBefore self.old self.new }
+        ensures puts { Puts S.output S.told at (parts.Attribute name value ∷ []) result self.old self.new out.old out.new }
     {
         match self.target() {
             Some(buffer) => self.keep(buffer, Part::Attribute { name, value }, at),
@@ -279,6 +292,7 @@ impl Putting {
     #[inline(always)]
     pub fn copied_attr(&mut self, attr: &Attr) -> Result<Attr, Memory>
         ensures same { StandsAsBefore self.old self.new }
+        ensures rest { self.new ≡ record self.old { spare = self.new.spare } }
         ensures copy { IfOk result (λ made. made ≡ attr.now) }
     {
         let name = self.copied_name(&attr.name)?;
@@ -289,7 +303,8 @@ impl Putting {
     #[inline(always)]
     pub fn end<S: Sink>(&mut self, name: &Name, at: Place, out: &mut S) -> Result<(), Stop>
         requires { CanPut self.old }
-        ensures { StandsAsBefore self.old self.new }
+        ensures stands { StandsAsBefore self.old self.new }
+        ensures puts { Puts S.output S.told at (parts.End name.now ∷ []) result self.old self.new out.old out.new }
     {
         if let Some(buffer) = self.target() {
             let name = name.copy(self.alloc)?;
@@ -301,7 +316,8 @@ impl Putting {
     #[inline(always)]
     pub fn chars<S: Sink>(&mut self, text: &Text, at: Place, out: &mut S) -> Result<(), Stop>
         requires { CanPut self.old }
-        ensures { StandsAsBefore self.old self.new }
+        ensures stands { StandsAsBefore self.old self.new }
+        ensures puts { Puts S.output S.told at (parts.Chars text.now ∷ []) result self.old self.new out.old out.new }
     {
         if let Some(buffer) = self.target() {
             let text = text.copy(self.alloc)?;
@@ -313,7 +329,8 @@ impl Putting {
     /// A text that an instruction gives, which is no part where it is empty.
     pub fn text<S: Sink>(&mut self, text: &Text, at: Place, out: &mut S) -> Result<(), Stop>
         requires { CanPut self.old }
-        ensures { StandsAsBefore self.old self.new }
+        ensures stands { StandsAsBefore self.old self.new }
+        ensures puts { Puts S.output S.told at (text_parts text.now) result self.old self.new out.old out.new }
     {
         if text.is_empty() {
             return Ok(());
@@ -324,7 +341,8 @@ impl Putting {
     pub fn cdata<S: Sink>(&mut self, text: &Text, at: Place, out: &mut S) -> Result<(), Stop>
         requires can { CanPut self.old }
         requires text { is_cdata_text text.now ≡ true }
-        ensures { StandsAsBefore self.old self.new }
+        ensures stands { StandsAsBefore self.old self.new }
+        ensures puts { Puts S.output S.told at (parts.CData text.now ∷ []) result self.old self.new out.old out.new }
     {
         if let Some(buffer) = self.target() {
             let text = text.copy(self.alloc)?;
@@ -335,7 +353,8 @@ impl Putting {
 
     pub fn comment<S: Sink>(&mut self, text: &Text, at: Place, out: &mut S) -> Result<(), Stop>
         requires { CanPut self.old }
-        ensures { StandsAsBefore self.old self.new }
+        ensures stands { StandsAsBefore self.old self.new }
+        ensures puts { Puts S.output S.told at (parts.Comment text.now ∷ []) result self.old self.new out.old out.new }
     {
         if let Some(buffer) = self.target() {
             let text = text.copy(self.alloc)?;
@@ -352,7 +371,8 @@ impl Putting {
         out: &mut S,
     ) -> Result<(), Stop>
         requires { CanPut self.old }
-        ensures { StandsAsBefore self.old self.new }
+        ensures stands { StandsAsBefore self.old self.new }
+        ensures puts { Puts S.output S.told at (parts.Pi target.now text.now ∷ []) result self.old self.new out.old out.new }
     {
         if let Some(buffer) = self.target() {
             let target = target.copy(self.alloc)?;
@@ -434,7 +454,9 @@ impl Putting {
     /// A copy of the name that waits for the end of its element.
     pub fn waiting_name(&mut self, value: &List<Atom>) -> Result<Name, Memory>
         requires { AreTexts value.now }
-        ensures { StandsAsBefore self.old self.new }
+        ensures same { StandsAsBefore self.old self.new }
+        ensures rest { self.new ≡ record self.old { spare = self.new.spare } }
+        ensures name { IfOk result (λ made. made ≡ tagged value.now) }
     {
         match value.as_slice() {
             [Atom::Chars(uri), Atom::Chars(local), Atom::Chars(prefix)] => {
@@ -448,7 +470,11 @@ impl Putting {
     }
 
     /// The output ends, at the root of the sheet.
-    pub fn finish<S: Sink>(&self, at: Place, out: &mut S) -> Result<(), Stop> {
+    pub fn finish<S: Sink>(&self, at: Place, out: &mut S) -> Result<(), Stop>
+        ensures closed { OnOk result (is_closed (S.output out.old).left.elements (S.output out.old).left.held ≡ true) }
+        ensures unclosed { IfErr result (λ stop. (stop ≡ fault UnclosedResult at) × (is_closed (S.output out.old).left.elements (S.output out.old).left.held ≡ false)) }
+        ensures unsaid { S.told out.old out.new [] }
+    {
         match out.finish() {
             Ok(()) => Ok(()),
             Err(_) => Err(Stop::fault(RunCode::UnclosedResult, at)),

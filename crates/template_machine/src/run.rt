@@ -1,20 +1,30 @@
 //! All of a run that changes, and what its steps have in common.
 
-ghost use Rattle.std.specs.Prelude.{◌≡◌, ◌≢◌, ◌+◌, ◌-◌, ◌<◌, ◌≤◌, ◌^◌, ℕ, List as Items, [], ◌∷◌, ◌++◌, IfOk, IfErr, OnOk, OnErr, IsSome, None, Some, true, length, reverse, slice_get};
+ghost use Rattle.std.specs.Prelude.{◌≡◌, ◌≢◌, ◌⊎◌, ◌+◌, ◌-◌, ◌<◌, ◌≤◌, ◌^◌, ℕ, List as Items, [], ◌∷◌, ◌++◌, IfOk, IfErr, OnOk, OnErr, IsSome, None, Some, Ok, true, length, reverse, slice_get};
 ghost use Rattle.std.specs.Option.{option_and_then};
 ghost use Rattle.frame_stack.specs.Change.{locals_of};
-ghost use Rattle.frame_stack.specs.Stack.{with_frames};
+ghost use Rattle.frame_stack.specs.Frame.{instance_of};
+ghost use Rattle.frame_stack.specs.Level.{instances};
+ghost use Rattle.frame_stack.specs.Stack.{IsFull, with_frames};
+ghost use Rattle.stx_base.specs.declared.fault.RunCode.TheVariants.{Instances};
 ghost use Rattle.stx_base.specs.declared.node.NodeTest.TheVariants.{Document};
 ghost use Rattle.node_stack.specs.Path.{document_alone};
 ghost use Rattle.node_stack.specs.Stack.{path};
 ghost use Rattle.template_machine.specs.Asking.{HasAsker, HasBase, IsAsker, IsBodyAsking, WaitsFor};
 ghost use Rattle.template_machine.specs.Between.{Burns, GoesOn};
+ghost use Rattle.template_machine.specs.Behind.{MovesFrom, instr_done};
 ghost use Rattle.template_machine.specs.Bodies as bodies;
 ghost use Rattle.template_machine.specs.Closing.{ClosesStream, IsOpenStream};
 ghost use Rattle.template_machine.specs.Documents.{documents};
+ghost use Rattle.template_machine.specs.Evaluating.{seen};
+ghost use Rattle.template_machine.specs.Saying.{ShownNext, Steps, sight};
+ghost use Rattle.template_machine.specs.Onward.{EndsWith};
+ghost use Rattle.template_machine.specs.Ordinary.{IsAlone};
 ghost use Rattle.template_machine.specs.Seen.{ParentsStandBefore};
+ghost use Rattle.template_machine.specs.Shifting.{TakesBack};
 ghost use Rattle.template_machine.specs.Sources.{Stands};
 ghost use Rattle.template_machine.specs.Standing.{standing_of};
+ghost use Rattle.template_machine.specs.Stops.{fault};
 ghost use Rattle.template_machine.specs.Starting.{IsFresh, IsReady};
 ghost use Rattle.template_machine.specs.Steps as spec;
 ghost use Rattle.template_machine.specs.Steps.{Sees};
@@ -38,6 +48,7 @@ use node_stack::Parked;
 use std::alloc::Global;
 use std::mem;
 use stx_base::{List, Memory, NodeTest, Place, Text};
+use stxpath_eval::Vars;
 use var_store::Store;
 
 /// What goes on.
@@ -112,7 +123,8 @@ impl Run {
     /// At the document node of the main document.
     pub fn new(alloc: Global, program: &Program, params: List<Param>) -> Result<Run, Memory>
         requires { IsReady program.now }
-        ensures { IfOk result (IsFresh program.now) }
+        ensures fresh { IfOk result (IsFresh program.now) }
+        ensures params { IfOk result (λ r. r.params ≡ params) }
     {
         let limits = &program.limits;
         let sheet = &program.sheet;
@@ -181,6 +193,7 @@ impl Run {
         requires { IsWell program.now self.old }
         ensures stands { IfOk result (λ step. Follows program.now step self.new) }
         ensures works { IfOk result (λ step. Falls program.now self.old step self.new) }
+        ensures goes { ShownNext program.now self.old → Steps S.output S.told program.now result self.old self.new out.old out.new }
     {
         match self.doing {
             Doing::Body => self.operate(program, out),
@@ -201,6 +214,8 @@ impl Run {
         ensures want { (name : Items ℕ) → result ≢ Turn.WantDocument name }
         ensures fuel { self.new.fuel ≡ self.old.fuel }
         ensures documents { documents self.new ≡ documents self.old }
+        ensures unsaid { S.told out.old out.new [] }
+        ensures ends { EndsWith program.now (S.output out.old).left result }
     {
         match self.putting.finish(program.group(0).at, out) {
             Ok(()) => Turn::Ended,
@@ -293,6 +308,8 @@ impl Run {
     pub fn push(&mut self, frame: Frame, at: Place) -> Result<(), Stop>
         ensures ok { OnOk result (self.new ≡ record self.old { frames = with_frames (self.old.frames.frames ++ frame ∷ []) self.old.frames }) }
         ensures err { OnErr result (self.new ≡ self.old) }
+        ensures room { OnOk result ((level : ℕ) → instance_of frame ≡ Some level → instances level self.old.frames.frames < self.old.frames.limit) }
+        ensures full { IfErr result (λ stop. (stop ≡ Stop.Memory) ⊎ ((stop ≡ fault Instances at) × IsFull self.old.frames.limit frame self.old.frames.frames)) }
     {
         pushed(self.frames.push(frame), at)
     }
@@ -346,6 +363,8 @@ impl Run {
         requires { IsWaiting program.now self.old }
         ensures stands { IsWell program.now self.new }
         ensures works { Begins 0 self.old self.new }
+        ensures back { TakesBack program.now self.old self.new }
+        ensures moves { IsAlone program.now self.old → MovesFrom program.now (λ given left f. instr_done given program.now self.old left f) (Ok Step.More) self.new }
     {
         let Running { body, pc } = self.running();
         let count = handed(program.instr_asked(pc - 1)).len();
@@ -360,6 +379,8 @@ impl Run {
     pub fn seen<'a>(&'a self, program: &'a Program) -> InGroups<'a>
         requires parents { ParentsStandBefore program.now.sheet.groups }
         requires sized { length self.now.store ≡ length program.now.sheet.groups }
+        ensures store { result.store.now ≡ self.now.store }
+        ensures groups { result.groups.now ≡ program.now.sheet.groups }
     {
         InGroups {
             store: &self.store,
@@ -405,6 +426,7 @@ impl Run {
     /// What the expressions of a body see.
     pub fn setting<'a>(&'a self, program: &'a Program, body: usize) -> Setting<'a, InBody<'a>>
         requires { Sees program.now self.now body }
+        ensures { bodies.body_in (reverse self.now.frames.frames) ≡ Some body → seen ⟦<InBody<'a> as Vars>⟧.value_of result ≡ sight program.now self.now }
     {
         Setting {
             alloc: self.alloc,

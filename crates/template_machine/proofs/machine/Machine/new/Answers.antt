@@ -1,3 +1,5 @@
+use Rattle.std.proofs.Common.{map}
+use Rattle.template_machine.specs.Giving.{given_by}
 use Rattle.template_machine.proofs.Starting.{makes_ready}
 use Rattle.std.proofs.Common.{ap, ◌∙◌}
 use Rattle.stx_base.specs.declared.limits.Limits.{Limits}
@@ -10,7 +12,7 @@ new-requires-2 c =
 pub returns-clause-new : goal.returns-clause-new
 returns-clause-new c = record {
   ready = makes_ready c.args.sheet c.args.limits c.in_ok-program.program c.requires.sound c.in_ok-program.ensures c.requires.depth c.requires.elements;
-  fresh = c.in_ok-run.ensures;
+  fresh = c.in_ok-run.ensures.fresh;
 }
 
 pub returns-clause-runs : goal.returns-clause-runs
@@ -20,7 +22,10 @@ pub returns-clause-depth : goal.returns-clause-depth
 returns-clause-depth c = ap (λ (l : Limits). l.depth) c.in_ok-program.ensures.limits_are
 
 pub returns-clause-fuel : goal.returns-clause-fuel
-returns-clause-fuel c = c.in_ok-run.ensures.fuel ∙ ap (λ (l : Limits). l.fuel) c.in_ok-program.ensures.limits_are
+returns-clause-fuel c = c.in_ok-run.ensures.fresh.fuel ∙ ap (λ (l : Limits). l.fuel) c.in_ok-program.ensures.limits_are
 
 pub returns-clause-fuel_limit : goal.returns-clause-fuel_limit
 returns-clause-fuel_limit c = ap (λ (l : Limits). l.fuel) c.in_ok-program.ensures.limits_are
+
+pub returns-clause-params : goal.returns-clause-params
+returns-clause-params c = ap (map given_by) c.in_ok-run.ensures.params

@@ -1,3 +1,4 @@
+use Rattle.template_machine.specs.Programs.{IsProgramOf}
 use Rattle.std.proofs.Common.{◌<◌, length, sym, subst, ◌∙◌, ap, map}
 use Rattle.template_machine.specs.declared.program.Program.{Program}
 use Rattle.template_machine.proofs.Starting.{ready_root}
@@ -76,3 +77,9 @@ returns-in-Err-clause-fuel g c =
 
 pub returns-in-Err-clause-mains : goal.returns-in-Err-clause-mains
 returns-in-Err-clause-mains g c = λ goes. absurd (stop_goes c.in-Err.stop (subst GoesOn c.turn.ensures goes))
+
+pub returns-in-Ok-clause-of : goal.returns-in-Ok-clause-of
+returns-in-Ok-clause-of g c = λ sheet limits of. subst (λ p. IsProgramOf sheet limits p) (sym c.begin.ensures.program) of
+
+pub returns-in-Err-clause-of : goal.returns-in-Err-clause-of
+returns-in-Err-clause-of g c = λ sheet limits of. subst (λ p. IsProgramOf sheet limits p) (sym c.begin.ensures.program) of

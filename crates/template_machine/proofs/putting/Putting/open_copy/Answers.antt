@@ -8,7 +8,7 @@ pub returns-in_ok-passing_attributes-in-Element : goal.returns-in_ok-passing_att
 returns-in_ok-passing_attributes-in-Element g c = stands_on _ _ _ c.start_there.ensures c.passing_attributes.ensures
 
 pub returns-in_err-attribute-in-Attribute : goal.returns-in_err-attribute-in-Attribute
-returns-in_err-attribute-in-Attribute g c = stands_on _ _ _ c.copied_attr.ensures.same c.attribute.ensures
+returns-in_err-attribute-in-Attribute g c = stands_on _ _ _ c.copied_attr.ensures.same c.attribute.ensures.stands
 
 pub returns-in_ok-attribute-in-Attribute : goal.returns-in_ok-attribute-in-Attribute
-returns-in_ok-attribute-in-Attribute g c = stands_on _ _ _ c.copied_attr.ensures.same c.attribute.ensures
+returns-in_ok-attribute-in-Attribute g c = stands_on _ _ _ c.copied_attr.ensures.same c.attribute.ensures.stands

@@ -3,7 +3,7 @@ use Rattle.template_machine.proofs.Shelved.{same_buffers, stands_on}
 use Rattle.template_machine.proofs.putting.Putting.start_there.Goals as goal
 
 pub returns-in-Some : goal.returns-in-Some
-returns-in-Some g c = stands_on _ _ _ c.copied_name.ensures.same c.keep.ensures
+returns-in-Some g c = stands_on _ _ _ c.copied_name.ensures.same c.keep.ensures.stands
 
 pub returns-then-self : goal.returns-then-self
 returns-then-self g c = stands_on _ _ _ c.copied_name.ensures.same (same_buffers _ _ refl refl)

@@ -25,3 +25,7 @@ returns-clause-stands c =
 
 pub returns-clause-works : goal.returns-clause-works
 returns-clause-works c = begins_pc c.args.self.now (c.args.running.pc + 1) c.args.running.body c.set_pc.new.self c.requires.op.doing c.set_pc.ensures
+
+pub returns-clause-behind : goal.returns-clause-behind
+returns-clause-behind c =
+    (behind_pc c.args.program.now c.args.self.now c.args.running (op.Begin c.args.number) c.requires.op (c.args.running.pc + 1) c.set_pc.new.self c.set_pc.ensures).0

@@ -9,6 +9,7 @@ use Rattle.template_machine.proofs.Branching.{loop_begins}
 use Rattle.template_machine.proofs.Moving.{moves_pc}
 use Rattle.template_machine.proofs.Operating.{at_body, at_place, behind_pc, on_ok, under_loop}
 use Rattle.template_machine.proofs.Falling.{begins_under, frame_pushed, pc_set}
+use Rattle.template_machine.proofs.Rounding.{loop_refused}
 use Rattle.template_machine.proofs.run.Run.begin_loop.Goals as goal
 
 pub set_pc-requires : goal.set_pc-requires
@@ -35,3 +36,14 @@ returns-clause-works c =
     on_ok c.push.result _ _ c.push.ensures.ok
     (λ e. begins_under 1 r c.push.new.self c.requires.op.doing
     (omega (arith, frame_pushed (Loop 0) c.set_pc.new.self c.push.new.self e, pc_set (c.args.running.pc + 1) c.args.running.body r.frames c.set_pc.new.self c.set_pc.ensures)))
+
+pub returns-clause-behind : goal.returns-clause-behind
+returns-clause-behind c =
+    let r = c.args.self.now in
+    let next = c.args.running.pc + 1 in
+    on_ok c.push.result _ _ c.push.ensures.ok
+    (λ e. ap (λ (x : FrameStack). reverse x.frames) e ∙ reverse-append c.set_pc.new.self.frames (Loop 0 ∷ [])
+    ∙ ap (λ l. Loop 0 ∷ l) (behind_pc c.args.program.now r c.args.running (op.Begin c.args.number) c.requires.op next c.set_pc.new.self c.set_pc.ensures).0)
+
+pub returns-clause-memory : goal.returns-clause-memory
+returns-clause-memory c = loop_refused c.push.result c.set_pc.new.self.limit c.set_pc.new.self.frames c.push.ensures.full

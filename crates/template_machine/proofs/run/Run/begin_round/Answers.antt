@@ -1,10 +1,26 @@
-use Rattle.std.proofs.Common.{arith}
+use Rattle.std.proofs.Common.{◌≡◌, ◌∷◌, ◌+◌, ◌∙◌, Ok, Err, ap, arith, reverse, subst, sym}
+use Rattle.frame_stack.specs.Change.{with_pc}
+use Rattle.frame_stack.specs.declared.frame.Frame.TheVariants.{Loop}
 use Rattle.instr_code.specs.declared.code.Op.TheVariants as op
+use Rattle.sheet_model.specs.Parts.{place}
+use Rattle.sheet_model.specs.declared.instr.Instr.TheOpen.{Instr-F}
+use Rattle.sheet_model.specs.declared.instr.Instr.TheViews.{rolls-Choose, rolls-ForEachItem, rolls-While}
+use Rattle.template_machine.specs.Bodies.{body_in, on_body}
+use Rattle.template_machine.specs.Saying.{Carries, Gave, sight}
+use Rattle.template_machine.specs.Shifting.{OpensWalk, with_more}
+use Rattle.template_machine.specs.Values.{atoms_of}
+use Rattle.template_machine.specs.declared.run.Run.{Run}
+use Rattle.template_machine.specs.declared.stop.Stop.TheVariants as stop
 use Rattle.template_machine.proofs.Arms.{chooses, seen_spent, walk_runs, walks, while_is}
 use Rattle.template_machine.proofs.Formed.{begin_is, begins, has_number}
 use Rattle.template_machine.proofs.Fueled.{at_spent}
 use Rattle.template_machine.proofs.Falling.{spent_falls}
 use Rattle.template_machine.proofs.Shelved.{ok_given}
+use Rattle.template_machine.proofs.Rounding.{begin_stops, choice_begins, loop_begins, loop_memory, memory_stops}
+use Rattle.template_machine.proofs.Deciding.{fuel_alone}
+use Rattle.template_machine.proofs.Itemized.{walk_opens, walk_stops}
+use Rattle.template_machine.proofs.Saying.{stops_with}
+use Rattle.template_machine.proofs.Spelled.{out_is}
 use Rattle.template_machine.proofs.run.Run.begin_round.Goals as goal
 
 pub instr-instr-requires : goal.instr-instr-requires
@@ -60,3 +76,92 @@ pub returns-in_ok-pushed-in-ForEachItem-clause-works : goal.returns-in_ok-pushed
 returns-in_ok-pushed-in-ForEachItem-clause-works c =
     spent_falls c.args.program.now c.args.self.now c.spend.new.self c.begin_walk.new.self 1 c.requires.well.steady.places c.spend.ensures.same c.in_ok-spend.ensures.ok (omega arith)
     (ok_given c.begin_walk.result _ _ _ c.in_ok-pushed-in-ForEachItem.ensures _ c.begin_walk.ensures.works)
+
+-- What is done.
+
+pub returns-in_err-spend-clause-goes : goal.returns-in_err-spend-clause-goes
+returns-in_err-spend-clause-goes c =
+    let it = c.instr-instr.result.now in
+    let p = c.args.program.now in
+    let r = c.args.self.now in
+    let e = c.in_err-spend.field-0.0 in
+    subst (λ x. Carries p x r c.spend.new.self) (sym (stops_with c.from_residual.result e c.from_residual.ensures.1 ∙ ap Err (c.in_err-spend.ensures.spent ∙ ap (λ x. stop.Spent x) c.place_of-at.ensures)))
+    (begin_stops p r c.spend.new.self c.args.running c.args.number it c.requires c.instr-instr.ensures c.in_err-spend.ensures.err c.spend.ensures.same)
+
+pub returns-in-Choose-clause-goes : goal.returns-in-Choose-clause-goes
+returns-in-Choose-clause-goes c =
+    let it = c.instr-instr.result.now in
+    let p = c.args.program.now in
+    let r = c.args.self.now in
+    let s = c.spend.new.self in
+    let new = c.begin_choice.new.self in
+    let out = out_is it _ (Instr-F.Choose c.in-Choose.whens _ _) (rolls-Choose _ _ _) c.in-Choose.is in
+    choice_begins p r new c.args.running c.args.number s.fuel it c.in-Choose.whens _ _ _ c.requires c.instr-instr.ensures out c.in_ok-spend.ensures.ok
+    (c.begin_choice.ensures.behind ∙ ap (λ (x : Run). on_body (with_pc (c.args.running.pc + 1)) (reverse x.frames.frames)) c.spend.ensures.same)
+    (c.begin_choice.ensures.rest ∙ ap (λ (x : Run). record x { frames = new.frames }) c.spend.ensures.same)
+
+pub returns-in_ok-pushed-in-While-clause-goes : goal.returns-in_ok-pushed-in-While-clause-goes
+returns-in_ok-pushed-in-While-clause-goes c =
+    let it = c.instr-instr.result.now in
+    let p = c.args.program.now in
+    let r = c.args.self.now in
+    let s = c.spend.new.self in
+    let new = c.begin_loop.new.self in
+    let out = out_is it _ (Instr-F.While c.in-While.test _ _) (rolls-While _ _ _) c.in-While.is in
+    loop_begins p r new c.args.running c.args.number s.fuel it c.in-While.test _ _ _ c.requires c.instr-instr.ensures out c.in_ok-spend.ensures.ok
+    (ok_given c.begin_loop.result _ _ _ c.in_ok-pushed-in-While.ensures _ c.begin_loop.ensures.behind ∙ ap (λ (x : Run). Loop 0 ∷ on_body (with_pc (c.args.running.pc + 1)) (reverse x.frames.frames)) c.spend.ensures.same)
+    (c.begin_loop.ensures.rest ∙ ap (λ (x : Run). record x { frames = new.frames }) c.spend.ensures.same)
+
+pub returns-in_err-pushed-in-While-clause-goes : goal.returns-in_err-pushed-in-While-clause-goes
+returns-in_err-pushed-in-While-clause-goes c =
+    let p = c.args.program.now in
+    let e = c.in_err-pushed-in-While.field-0.0 in
+    subst (λ x. Carries p x c.args.self.now c.begin_loop.new.self)
+    (sym (stops_with c.from_residual-in_err-pushed-in-While.result e c.from_residual-in_err-pushed-in-While.ensures.1 ∙ ap Err (loop_memory _ c.begin_loop.result e c.in_err-pushed-in-While.ensures c.begin_loop.ensures.memory)))
+    (memory_stops p c.args.self.now c.begin_loop.new.self)
+
+pub returns-in_err-items-in-ForEachItem-clause-goes : goal.returns-in_err-items-in-ForEachItem-clause-goes
+returns-in_err-items-in-ForEachItem-clause-goes c =
+    let it = c.instr-instr.result.now in
+    let p = c.args.program.now in
+    let r = c.args.self.now in
+    let s = c.spend.new.self in
+    let e = c.in_err-items-in-ForEachItem.field-0.0 in
+    let select = c.in-ForEachItem.select in
+    let out = out_is it _ (Instr-F.ForEachItem c.in-ForEachItem.name select _ _) (rolls-ForEachItem _ _ _ _) c.in-ForEachItem.is in
+    let body = ap (λ (x : Run). body_in (reverse x.frames.frames)) c.spend.ensures.same ∙ c.requires.body in
+    subst (λ x. Carries p x r s) (sym (stops_with c.from_residual-in_err-items-in-ForEachItem.result e c.from_residual-in_err-items-in-ForEachItem.ensures.1))
+    (walk_stops p r s c.args.running c.args.number s.fuel it c.in-ForEachItem.name select _ _ e c.requires c.instr-instr.ensures out c.in_ok-spend.ensures.ok
+    (subst (λ k. Gave k (Err e) (atoms_of select (sight p r))) (c.place_of-at.ensures ∙ ap place out)
+    (subst (λ x. Gave c.place_of-at.result (Err e) (atoms_of select x)) (ap (sight p) c.spend.ensures.same) (c.in_err-items-in-ForEachItem.ensures body)))
+    (fuel_alone r s c.spend.ensures.same))
+
+pub returns-in_err-pushed-in-ForEachItem-clause-goes : goal.returns-in_err-pushed-in-ForEachItem-clause-goes
+returns-in_err-pushed-in-ForEachItem-clause-goes c =
+    let p = c.args.program.now in
+    let e = c.in_err-pushed-in-ForEachItem.field-0.0 in
+    subst (λ x. Carries p x c.args.self.now c.begin_walk.new.self)
+    (sym (stops_with c.from_residual-in_err-pushed-in-ForEachItem.result e c.from_residual-in_err-pushed-in-ForEachItem.ensures.1 ∙ ap Err (loop_memory _ c.begin_walk.result e c.in_err-pushed-in-ForEachItem.ensures c.begin_walk.ensures.memory)))
+    (memory_stops p c.args.self.now c.begin_walk.new.self)
+
+pub returns-in_ok-pushed-in-ForEachItem-clause-goes : goal.returns-in_ok-pushed-in-ForEachItem-clause-goes
+returns-in_ok-pushed-in-ForEachItem-clause-goes c =
+    let it = c.instr-instr.result.now in
+    let p = c.args.program.now in
+    let r = c.args.self.now in
+    let s = c.spend.new.self in
+    let new = c.begin_walk.new.self in
+    let items = c.in_ok-items-in-ForEachItem.items in
+    let select = c.in-ForEachItem.select in
+    let out = out_is it _ (Instr-F.ForEachItem c.in-ForEachItem.name select _ _) (rolls-ForEachItem _ _ _ _) c.in-ForEachItem.is in
+    let body = ap (λ (x : Run). body_in (reverse x.frames.frames)) c.spend.ensures.same ∙ c.requires.body in
+    let opens : OpensWalk items (c.args.running.pc + 1) s new = ok_given c.begin_walk.result _ _ _ c.in_ok-pushed-in-ForEachItem.ensures _ c.begin_walk.ensures.behind in
+    walk_opens p r new c.args.running c.args.number s.fuel it c.in-ForEachItem.name select _ _ items _ c.requires c.instr-instr.ensures out c.in_ok-spend.ensures.ok
+    (subst (λ x. atoms_of select x ≡ Ok items) (ap (sight p) c.spend.ensures.same) (c.in_ok-items-in-ForEachItem.ensures body))
+    (record {
+      waiting = opens.waiting;
+      nameless = opens.nameless;
+      value = opens.value;
+      behind = opens.behind ∙ ap (λ (x : Run). Loop 0 ∷ on_body (with_more opens.waiting (c.args.running.pc + 1)) (reverse x.frames.frames)) c.spend.ensures.same;
+    })
+    (c.begin_walk.ensures.rest ∙ ap (λ (x : Run). record x { frames = new.frames }) c.spend.ensures.same)

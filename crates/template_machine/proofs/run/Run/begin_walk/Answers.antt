@@ -1,4 +1,4 @@
-use Rattle.std.proofs.Common.{◌+◌, ◌++◌, ◌∷◌, [], ◌∙◌, reverse, ap, arith}
+use Rattle.std.proofs.Common.{◌+◌, ◌++◌, ◌∷◌, [], ◌∙◌, reverse, refl, ap, arith}
 use Rattle.std.proofs.lemmas.List.{reverse-append}
 use Rattle.frame_stack.specs.Change.{with_locals, with_pc}
 use Rattle.frame_stack.specs.Locals.{local}
@@ -9,6 +9,7 @@ use Rattle.template_machine.specs.Standing.{standing_of}
 use Rattle.template_machine.proofs.Moving.{moves_locals}
 use Rattle.template_machine.proofs.Operating.{at_body, at_place, behind_locals, frame_behind, on_ok, under_loop}
 use Rattle.template_machine.proofs.Walking.{walk_begins}
+use Rattle.template_machine.proofs.Rounding.{loop_refused}
 use Rattle.template_machine.proofs.Falling.{begins_under, frame_pushed, locals_set, pc_set}
 use Rattle.template_machine.proofs.run.Run.begin_walk.Goals as goal
 
@@ -48,3 +49,22 @@ returns-clause-works c =
       locals_set (λ ls. ls ++ x ∷ []) c.args.running.body c.set_pc.new.self c.push_local.new.self c.in_ok-push_local.ensures.ok,
       pc_set (c.args.running.pc + 1) c.args.running.body r.frames c.set_pc.new.self c.set_pc.ensures,
     )))
+
+pub returns-clause-memory : goal.returns-clause-memory
+returns-clause-memory c = loop_refused c.push.result c.push_local.new.self.limit c.push_local.new.self.frames c.push.ensures.full
+
+pub returns-clause-behind : goal.returns-clause-behind
+returns-clause-behind c =
+    let p = c.args.program.now in
+    let r = c.args.self.now in
+    let next = c.args.running.pc + 1 in
+    let x = local c.no_name-name.result c.args.items in
+    on_ok c.push.result _ _ c.push.ensures.ok
+    (λ e. record {
+      waiting = x;
+      nameless = c.no_name-name.ensures;
+      value = refl;
+      behind =
+          ap (λ (y : FrameStack). reverse y.frames) e ∙ reverse-append c.push_local.new.self.frames (Loop 0 ∷ [])
+          ∙ ap (λ l. Loop 0 ∷ l) (behind_locals p r c.args.running (op.Begin c.args.number) c.requires.op next (λ ls. ls ++ x ∷ []) c.set_pc.new.self c.push_local.new.self c.set_pc.ensures c.in_ok-push_local.ensures.ok);
+    })

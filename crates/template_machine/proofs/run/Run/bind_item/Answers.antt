@@ -8,6 +8,8 @@ use Rattle.template_machine.proofs.Moving.{moves_locals}
 use Rattle.template_machine.proofs.Operating.{at_body, at_place, behind_locals, frame_behind, goes_elsewhere, on_ok}
 use Rattle.template_machine.proofs.Walking.{item_binds}
 use Rattle.template_machine.proofs.Falling.{locals_set, pc_set, same_under}
+use Rattle.template_machine.specs.Bodies.{on_body}
+use Rattle.template_machine.specs.Shifting.{with_more}
 use Rattle.template_machine.specs.Work.{frames_work}
 use Rattle.template_machine.proofs.run.Run.bind_item.Goals as goal
 
@@ -62,3 +64,24 @@ returns-clause-works c =
     (locals_set (λ ls. ls ++ x ∷ []) c.args.running.body c.set_pc.new.self c.push_local.new.self e
     ∙ pc_set next c.args.running.body c.count_turn.new.frames c.set_pc.new.self c.set_pc.ensures
     ∙ ap frames_work (c.count_turn.ensures l.0 l.1.0 l.1.1) ∙ sym (ap frames_work l.1.1)))
+
+pub returns-clause-behind : goal.returns-clause-behind
+returns-clause-behind c =
+    let p = c.args.program.now in
+    let r = c.args.self.now in
+    let o = op.Turn c.args.number c.args.to in
+    let l = open_walk p r c.args.running c.args.number c.args.to c.requires.op (c.args.name, c.requires.form) in
+    let t = record r { frames = c.count_turn.new.frames } in
+    let counted = c.count_turn.ensures l.0 l.1.0 l.1.1 in
+    let at = at_counted p r c.args.running o c.count_turn.new.frames l.0 c.args.turn l.1.0 c.requires.op l.1.1 counted in
+    let next = c.args.running.pc + 1 in
+    let x = local c.args.name c.args.value in
+    on_ok c.push_local.result _ _ c.push_local.ensures.ok
+    (λ e. record {
+      before = l.0;
+      others = l.1.0;
+      top = l.1.1;
+      behind =
+          behind_locals p t c.args.running o at next (λ ls. ls ++ x ∷ []) c.set_pc.new.self c.push_local.new.self c.set_pc.ensures e
+          ∙ ap (on_body (with_more x next)) counted;
+    })

@@ -1,6 +1,7 @@
-use Rattle.std.proofs.Common.{◌+◌, reverse}
+use Rattle.std.proofs.Common.{◌+◌, if◌then◌else◌, reverse, ap, sym, ◌∙◌}
 use Rattle.frame_stack.specs.Change.{with_pc}
 use Rattle.instr_code.specs.declared.code.Op.TheVariants as op
+use Rattle.template_machine.specs.Bodies.{on_body}
 use Rattle.template_machine.specs.Standing.{standing_of}
 use Rattle.template_machine.proofs.Branching.{asked}
 use Rattle.template_machine.proofs.Moving.{moves_pc}
@@ -52,3 +53,15 @@ returns-then-holds-clause-chooses c = λ is.
 pub returns-clause-chooses : goal.returns-clause-chooses
 returns-clause-chooses c = λ is.
     (branch_works c.args.program.now c.args.self.now c.args.running c.args.number c.args.arm c.args.to is.0 c.requires.op is.1).1 c.set_pc-2.new.self c.set_pc-2.ensures
+
+pub returns-then-holds-clause-behind : goal.returns-then-holds-clause-behind
+returns-then-holds-clause-behind c =
+    let r = c.args.self.now in
+    (behind_pc c.args.program.now r c.args.running (op.Test c.args.number c.args.arm c.args.to) c.requires.op (c.args.running.pc + 1) c.set_pc.new.self c.set_pc.ensures).0
+    ∙ ap (λ b. on_body (with_pc (if b then c.args.running.pc + 1 else c.args.to)) (reverse r.frames.frames)) (sym c.if-holds.true)
+
+pub returns-clause-behind : goal.returns-clause-behind
+returns-clause-behind c =
+    let r = c.args.self.now in
+    (behind_pc c.args.program.now r c.args.running (op.Test c.args.number c.args.arm c.args.to) c.requires.op c.args.to c.set_pc-2.new.self c.set_pc-2.ensures).0
+    ∙ ap (λ b. on_body (with_pc (if b then c.args.running.pc + 1 else c.args.to)) (reverse r.frames.frames)) (sym c.if-holds.false)

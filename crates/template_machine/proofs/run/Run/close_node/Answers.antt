@@ -1,3 +1,5 @@
+use Rattle.template_machine.proofs.Finished.{node_moves, not_held}
+use Rattle.template_machine.specs.declared.putting.Putting.{Putting}
 use Rattle.std.proofs.Common.{refl, sym, subst, ap}
 use Rattle.template_machine.specs.declared.run.Doing.TheVariants as doing
 use Rattle.template_machine.specs.Well.{IsWell}
@@ -21,7 +23,7 @@ returns-clause-stands c =
     let st = c.close-change.ensures.closed in
     let m = record r { source = c.close-change.new.self; putting = c.see.new.self } in
     let w = node_left p r (record m { doing = doing.List }) a.0 c.requires.over a.1.1 a.1.0
-    (record { outer = refl; aside = refl; store = refl; putting = record { targets = c.see.ensures.targets; shelves = c.see.ensures.shelves; holds = c.see.ensures.holds } }) refl
+    (record { outer = refl; aside = refl; store = refl; putting = record { targets = c.see.ensures.stands.targets; shelves = c.see.ensures.stands.shelves; holds = c.see.ensures.stands.holds } }) refl
     st.path_is st.scopes_are st.ahead_is st.held_is st.origin_is c.close-change.ensures.counts refl in
     goes_or_waits p c.list_goes_on.result m c.list_goes_on.new.self c.list_goes_on.ensures.run c.list_goes_on.ensures.step (subst (IsWell p) (sym c.list_goes_on.ensures.run) w)
 
@@ -34,3 +36,13 @@ returns-clause-works c =
 
 pub returns-clause-asks : goal.returns-clause-asks
 returns-clause-asks c = goes_asks c.list_goes_on.result _ c.list_goes_on.ensures.step
+
+pub returns-clause-moves : goal.returns-clause-moves
+returns-clause-moves c = λ alone.
+    let p = c.args.program.now in
+    let r = c.args.self.now in
+    let st = c.close-change.ensures.closed in
+    let m = record r { source = c.close-change.new.self; putting = c.see.new.self } in
+    node_moves p r c.list_goes_on.new.self m c.close-change.new.self c.see.new.self c.list_goes_on.result alone c.requires.over.apart
+    (not_held r.source c.requires.over.steady.source.held alone.held) c.list_goes_on.ensures.step st.path_is st.ahead_is st.held_is st.origin_is c.list_goes_on.ensures.run
+    (ap (λ (x : Putting). x.buffers) c.see.ensures.rest) (ap (λ (x : Putting). x.targets) c.see.ensures.rest)

@@ -1,4 +1,4 @@
-use Rattle.std.proofs.Common.{◌≡◌, ◌+◌, ◌-◌, ◌∙◌, Some, IsSome, length, reverse, take, ap, sym, subst, arith}
+use Rattle.std.proofs.Common.{◌≡◌, ◌+◌, ◌-◌, ◌∙◌, Some, IsSome, length, reverse, take, refl, ap, sym, subst, arith}
 use Rattle.std.specs.Option.{option_and_then, option_map}
 use Rattle.frame_stack.specs.Change.{locals_of, with_locals, with_pc}
 use Rattle.instr_code.specs.declared.code.Op.TheVariants as op
@@ -7,6 +7,7 @@ use Rattle.template_machine.specs.Standing.{standing_of}
 use Rattle.template_machine.proofs.Moving.{drops, moves_locals}
 use Rattle.template_machine.proofs.Operating.{at_body, at_place, behind_locals, enough, frame_behind, goes_elsewhere, some_context}
 use Rattle.template_machine.proofs.Falling.{drop_works}
+use Rattle.template_machine.proofs.Shifting.{drop_carries}
 use Rattle.template_machine.proofs.run.Run.drop_locals.Goals as goal
 
 pub set_pc-requires : goal.set_pc-requires
@@ -49,3 +50,17 @@ pub returns-clause-works : goal.returns-clause-works
 returns-clause-works c =
     drop_works c.args.program.now c.args.self.now c.args.running c.args.count (take (c.len.result - c.args.count)) c.requires c.set_pc.new.self c.cut_locals.new.self
     c.set_pc.ensures c.cut_locals.ensures
+
+pub returns-clause-goes : goal.returns-clause-goes
+returns-clause-goes c = λ names.
+    let p = c.args.program.now in
+    let r = c.args.self.now in
+    let o = op.Drop c.args.count in
+    let next = c.args.running.pc + 1 in
+    let len = c.len.result - c.args.count in
+    let f = frame_behind p r c.args.running o c.requires next c.set_pc.new.self c.set_pc.ensures in
+    let same : Some (locals_of f.0) ≡ Some c.locals_at.result.now = sym (ap (option_map locals_of) f.1.0) ∙ c.locals_at.ensures in
+    let are : locals_of f.0 ≡ c.locals_at.result.now = cc in
+    drop_carries p r (record r { frames = c.cut_locals.new.self }) c.args.running c.args.count len tt c.requires names
+    (λ x b. omega (arith, c.len.ensures, ap length are, f.1.3 x b, enough p r c.args.running c.args.count c.requires x b))
+    (behind_locals p r c.args.running o c.requires next (take len) c.set_pc.new.self c.cut_locals.new.self c.set_pc.ensures c.cut_locals.ensures) refl

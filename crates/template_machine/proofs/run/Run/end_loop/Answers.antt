@@ -53,3 +53,22 @@ returns-clause-works c =
     let there = below_top p r c.args.running o l.0 gs c.take_off.new.frames c.requires.op l.1.1 same in
     top_off p r c.set_pc.new.self (Loop l.0) gs c.requires.op.well.steady.places l.1.1
     (pc_set to c.args.running.body c.take_off.new.frames c.set_pc.new.self c.set_pc.ensures ∙ ap frames_work same) (omega arith)
+
+pub returns-clause-behind : goal.returns-clause-behind
+returns-clause-behind c =
+    let p = c.args.program.now in
+    let r = c.args.self.now in
+    let to = c.args.to in
+    let o = op.Test c.args.number c.args.arm to in
+    let l = open_loop p r c.args.running c.args.number c.args.arm to c.requires.op c.requires.form in
+    let gs = l.1.0 in
+    let same = c.take_off.ensures (Loop l.0) gs l.1.1 in
+    let there = below_top p r c.args.running o l.0 gs c.take_off.new.frames c.requires.op l.1.1 same in
+    record {
+      turn = l.0;
+      others = gs;
+      top = l.1.1;
+      behind =
+          ap (λ (x : FrameStack). reverse x.frames) c.set_pc.ensures ∙ changed_reversed (with_pc to) c.take_off.new.frames.frames c.args.running.body there.0
+          ∙ ap (on_body (with_pc to)) same;
+    }

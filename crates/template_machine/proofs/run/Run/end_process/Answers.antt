@@ -1,3 +1,4 @@
+use Rattle.template_machine.proofs.Finished.{instr_moves, own_by}
 use Rattle.std.proofs.Common.{◌≡◌, ◌+◌, ◌-◌, ◌∙◌, IsSome, length, reverse, take, refl, ap, sym, subst, arith}
 use Rattle.std.specs.Option.{option_and_then, option_map}
 use Rattle.frame_stack.specs.Change.{locals_of, with_locals}
@@ -65,3 +66,49 @@ returns-clause-works c =
     let weigh = locals_set (take len) c.running-body.result.body r.frames c.cut_locals.new.self c.cut_locals.ensures in
     let same : load n ≡ load r = ap (λ w. w + ahead_work r.source.ahead + outer_work r.outer.items) weigh in
     begins_body 0 r n refl refl (omega (arith, same))
+
+pub returns-clause-back : goal.returns-clause-back
+returns-clause-back c =
+    let p = c.args.program.now in
+    let r = c.args.self.now in
+    let w = c.requires in
+    let pc = c.running-body.result.pc in
+    let at = c.running-body.ensures.pc in
+    let x = placed_in r.frames.frames c.running-body.result.body c.running-body.ensures.body in
+    let count = length c.handed-count.result.now in
+    let many = waiting_count p r pc c.instr_asked.result.now count w at c.instr_asked.ensures (ap length c.handed-count.ensures) in
+    let are = sym (ap (option_map locals_of) x.1.1) ∙ c.locals_at.ensures in
+    let same : locals_of x.0 ≡ c.locals_at.result.now = cc in
+    let b = waits_at p r w in
+    let len = c.len.result - count in
+    record {
+      pc = pc;
+      instr = c.instr_asked.result.now;
+      body = x.0;
+      at = at;
+      is = c.instr_asked.ensures;
+      there = x.1.0;
+      left = len;
+      long = omega (arith, c.len.ensures, ap length same, ap length c.handed-count.ensures, waiting_locals p r pc x.0 c.locals_at.result.now count w at x.1.0 are many b.0 b.1);
+      behind =
+          ap (λ (y : FrameStack). reverse y.frames) c.cut_locals.ensures
+          ∙ changed_reversed (with_locals (take len)) r.frames.frames c.running-body.result.body c.running-body.ensures.body;
+      rest = refl;
+    }
+
+pub returns-clause-moves : goal.returns-clause-moves
+returns-clause-moves c = λ alone.
+    let p = c.args.program.now in
+    let r = c.args.self.now in
+    let pc = c.running-body.result.pc in
+    let at = c.running-body.ensures.pc in
+    let x = placed_in r.frames.frames c.running-body.result.body c.running-body.ensures.body in
+    let are = sym (ap (option_map locals_of) x.1.1) ∙ c.locals_at.ensures in
+    let count = length c.handed-count.result.now in
+    let len = c.len.result - count in
+    let long : c.len.result ≡ length c.locals_at.result.now = omega (arith, c.len.ensures) in
+    instr_moves p r (record r { frames = c.cut_locals.new.self; doing = doing.Body }) len pc alone at
+    (own_by p len pc c.instr_asked.result.now c.locals_at.result.now (reverse r.frames.frames) at (ap (option_map locals_of) x.1.0 ∙ are) c.instr_asked.ensures
+    (ap (λ k. k - count) long ∙ ap (λ l. length c.locals_at.result.now - length l) c.handed-count.ensures))
+    (ap (λ (y : FrameStack). reverse y.frames) c.cut_locals.ensures ∙ changed_reversed (with_locals (take len)) r.frames.frames c.running-body.result.body c.running-body.ensures.body)
+    refl

@@ -56,7 +56,7 @@ end_process-requires c =
     let gone = c.take_off.ensures (Region f.asked f.level) f.frames f.is in
     let ok = c.in_ok-change.ensures.ok in
     let n = record r { frames = c.take_off.new.frames; putting = c.see.new.self; source = c.resume.new.self; aside = c.pop.new.self } in
-    region_resumes p r n c.requires (path_node q) f both.0 refl both.1 refl c.see.ensures gone ok.path_is ok.scopes_are ok.ahead_is ok.held_is ok.origin_is
+    region_resumes p r n c.requires (path_node q) f both.0 refl both.1 refl c.see.ensures.stands gone ok.path_is ok.scopes_are ok.ahead_is ok.held_is ok.origin_is
     c.in_ok-change.ensures.counts
 
 pub returns-clause-works : goal.returns-clause-works

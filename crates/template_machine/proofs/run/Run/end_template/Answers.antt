@@ -1,3 +1,8 @@
+use Rattle.template_machine.proofs.Returning.{alone_left, state_left, template_moves, unskipped_below}
+use Rattle.template_machine.specs.Bodies.{spent_in}
+use Rattle.template_machine.specs.Declaring.{ends_scope}
+use Rattle.template_machine.specs.Still.{state_of}
+use Rattle.template_machine.specs.Well.{is_again}
 use Rattle.std.proofs.Common.{◌≡◌, ◌+◌, ◌<◌, ◌≤◌, ◌∙◌, true, false, List, get_or, length, reverse, refl, ap, sym, subst, arith}
 use Rattle.std.proofs.lemmas.Option.{slice_get_read}
 use Rattle.sheet_model.specs.declared.sheet.Template.{Template}
@@ -90,3 +95,38 @@ returns-clause-works c =
     let off = load_off r m f.frame f.frames f.on_top (c.take_off.ensures f.frame f.frames f.on_top) refl refl in
     begins_ok p 5 4 r m c.leave_body-2.new.self c.requires.op.well.steady.places refl
     (subst (λ w. load m + w ≤ load r) (ap frame_work f.body.1.1.1) off) (omega arith) c.leave_body-2.result c.leave_body-2.ensures.asks c.leave_body-2.ensures.works
+
+pub returns-then-declared-clause-moves : goal.returns-then-declared-clause-moves
+returns-then-declared-clause-moves c = λ alone.
+    let p = c.args.program.now in
+    let r = c.args.self.now in
+    let f = template_finds p r c.args.running c.args.template c.args.level c.args.spent c.requires.op c.requires.body in
+    let t = c.index-as_slice-template.result in
+    let is : t ≡ get_or p.sheet.templates c.args.template t = c.index-as_slice-template.is ∙ ap (λ l. get_or l c.args.template t) c.as_slice.ensures in
+    let got = slice_get_read p.sheet.templates (length p.sheet.templates) c.args.template t refl (template_within p c.args.template f.declared f.is) is in
+    let m = c.leave_scope.new.self in
+    let n = record r { frames = c.take_off.new.frames } in
+    let l = c.leave_scope.ensures in
+    let new : t.new_scope ≡ true = cc in
+    let frames = ap (λ (x : Run). reverse x.frames.frames) l.rest ∙ c.take_off.ensures f.frame f.frames f.on_top in
+    let rest : m ≡ record r { frames = m.frames; store = m.store; putting = m.putting } = l.rest ∙ ap (λ x. record r { frames = x; store = m.store; putting = m.putting }) (sym (ap (λ (x : Run). x.frames) l.rest)) in
+    template_moves p r m c.leave_body.new.self c.args.running c.args.template c.args.level c.args.spent c.requires.op f t c.leave_body.result got frames rest
+    (λ given left. state_left given p n m t.group left l ∙ ap (λ b. ends_scope given b t.group (state_of given p r left)) (sym new))
+    (c.leave_body.ensures.moves (alone_left p r m rest (unskipped_below p r m _ c.args.template c.args.level c.args.spent f frames) alone)
+    (λ again. ap spent_in frames ∙ f.spent_is (ap (is_again c.args.level) (sym frames) ∙ again)))
+
+pub returns-clause-moves : goal.returns-clause-moves
+returns-clause-moves c = λ alone.
+    let p = c.args.program.now in
+    let r = c.args.self.now in
+    let f = template_finds p r c.args.running c.args.template c.args.level c.args.spent c.requires.op c.requires.body in
+    let t = c.index-as_slice-template.result in
+    let is : t ≡ get_or p.sheet.templates c.args.template t = c.index-as_slice-template.is ∙ ap (λ l. get_or l c.args.template t) c.as_slice.ensures in
+    let got = slice_get_read p.sheet.templates (length p.sheet.templates) c.args.template t refl (template_within p c.args.template f.declared f.is) is in
+    let m = record r { frames = c.take_off.new.frames } in
+    let none : t.new_scope ≡ false = cc in
+    let frames = c.take_off.ensures f.frame f.frames f.on_top in
+    template_moves p r m c.leave_body-2.new.self c.args.running c.args.template c.args.level c.args.spent c.requires.op f t c.leave_body-2.result got frames refl
+    (λ given left. ap (λ b. ends_scope given b t.group (state_of given p r left)) (sym none))
+    (c.leave_body-2.ensures.moves (alone_left p r m refl (unskipped_below p r m _ c.args.template c.args.level c.args.spent f frames) alone)
+    (λ again. ap spent_in frames ∙ f.spent_is (ap (is_again c.args.level) (sym frames) ∙ again)))

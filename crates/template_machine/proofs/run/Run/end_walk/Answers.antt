@@ -1,5 +1,6 @@
-use Rattle.std.proofs.Common.{◌+◌, ◌-◌, ◌∷◌, ◌∙◌, IsSome, false, take, refl, ap, sym, subst, arith}
-use Rattle.frame_stack.specs.Change.{changed, with_locals, with_pc}
+use Rattle.std.proofs.Common.{◌≡◌, ◌+◌, ◌-◌, ◌∷◌, ◌∙◌, Some, IsSome, false, length, take, refl, ap, sym, subst, arith}
+use Rattle.std.specs.Option.{option_map}
+use Rattle.frame_stack.specs.Change.{changed, locals_of, with_locals, with_pc}
 use Rattle.frame_stack.specs.Stack.{with_frames}
 use Rattle.frame_stack.specs.declared.frame.Frame.TheVariants.{Loop}
 use Rattle.instr_code.specs.declared.code.Op.TheVariants as op
@@ -77,3 +78,36 @@ returns-clause-works c =
     (ap frames_work over.1
     ∙ body_weighs (λ f. with_pc to (with_locals (take len) f)) (λ f. pc_weighs to (with_locals (take len) f) ∙ locals_weigh (take len) f) gs)
     (omega arith)
+
+pub returns-clause-behind : goal.returns-clause-behind
+returns-clause-behind c =
+    let p = c.args.program.now in
+    let r = c.args.self.now in
+    let at = c.requires.op in
+    let to = c.args.to in
+    let o = op.Turn c.args.number to in
+    let l = open_walk p r c.args.running c.args.number to at c.requires.form in
+    let gs = l.1.0 in
+    let some : IsSome (level_in gs) = subst (λ fs. IsSome (level_in fs)) l.1.1 (at_body p r c.args.running o at).body in
+    let len = c.len-last.result - 1 in
+    let over = walk_over r.frames c.cut_locals.new.self c.take_off.new.frames c.set_pc.new.self c.args.running.body l.0 len to gs l.1.1 at.body some c.cut_locals.ensures
+    (c.take_off.ensures (Loop l.0) (on_body (with_locals (take len)) gs)) c.set_pc.ensures in
+    let a = at_place p r c.args.running o at in
+    record {
+      turn = l.0;
+      others = gs;
+      top = l.1.1;
+      left = len;
+      long = λ x there.
+          let same : locals_of x ≡ c.locals_at.result.now = one_list (ap (option_map locals_of) (sym there ∙ a.1.0 ∙ sym a.1.1) ∙ c.locals_at.ensures) in
+          omega (
+            arith,
+            ap length same,
+            c.len-last.ensures,
+            has_items p r c.args.running c.args.number to at c.requires.form c.locals_at.result.now c.locals_at.ensures,
+          );
+      behind = over.1;
+    }
+  where
+    one_list : {A : Type 0} {x y : A} → Some x ≡ Some y → x ≡ y
+    one_list e = cc

@@ -1,7 +1,7 @@
 use Rattle.std.proofs.Common.{◌+◌}
 use Rattle.instr_code.specs.declared.code.Op.TheVariants as op
 use Rattle.template_machine.proofs.Enclosed.{enters_list}
-use Rattle.template_machine.proofs.Operating.{at_place}
+use Rattle.template_machine.proofs.Operating.{at_place, behind_pc}
 use Rattle.template_machine.proofs.Falling.{begins_pc}
 use Rattle.template_machine.proofs.run.Run.enter_list.Goals as goal
 
@@ -13,3 +13,7 @@ returns-clause-stands c = enters_list c.args.program.now c.args.self.now c.args.
 
 pub returns-clause-works : goal.returns-clause-works
 returns-clause-works c = begins_pc c.args.self.now (c.args.running.pc + 1) c.args.running.body c.set_pc.new.self c.requires.op.doing c.set_pc.ensures
+
+pub returns-clause-behind : goal.returns-clause-behind
+returns-clause-behind c =
+    (behind_pc c.args.program.now c.args.self.now c.args.running (op.Open c.args.number c.args.to) c.requires.op (c.args.running.pc + 1) c.set_pc.new.self c.set_pc.ensures).0

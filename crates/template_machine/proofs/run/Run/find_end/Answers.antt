@@ -1,3 +1,5 @@
+use Rattle.template_machine.specs.declared.source.Ahead.TheVariants.{Ended}
+use Rattle.template_machine.proofs.Hearing.{main_there, end_heard, found_ended, found_frames}
 use Rattle.template_machine.proofs.Lightened.{end_found}
 use Rattle.std.proofs.Common.{ap, arith}
 use Rattle.template_machine.specs.Documents.{documents}
@@ -15,3 +17,11 @@ returns-clause-documents c = ap documents c.end_list.ensures
 
 pub returns-clause-fuel : goal.returns-clause-fuel
 returns-clause-fuel c = omega (arith, ap (λ (x : Run). x.fuel) c.end_list.ensures)
+
+pub returns-clause-hears : goal.returns-clause-hears
+returns-clause-hears c = λ may offset.
+    let p = c.args.program.now in
+    let r = c.args.self.now in
+    let m = c.end_list.new.self in
+    end_heard p r (record m { source = record m.source { ahead = Ended } }) offset may
+    (found_ended p r m (main_there p r may) c.end_list.ensures) (found_frames r m _ c.end_list.ensures)

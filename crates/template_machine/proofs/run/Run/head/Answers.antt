@@ -28,7 +28,7 @@ end_region-requires g c =
     let k = c.hold-change.ensures in
     let x = some_last (last_of (path r.source.stack).nodes) (subst (λ o. IsSome o) (way_here (path r.source.stack)) c.requires.head.there.head) in
     let n = record r { source = c.hold-change.new.self; putting = c.see.new.self } in
-    head_held p r n x.0 c.requires (c.in_ok-over.ensures over) x.1 (record { outer = refl; aside = refl; store = refl; putting = c.see.ensures }) refl
+    head_held p r n x.0 c.requires (c.in_ok-over.ensures over) x.1 (record { outer = refl; aside = refl; store = refl; putting = c.see.ensures.stands }) refl
     k.held.path_is k.held.scopes_are k.held.ahead_is (k.held.held_is ∙ ap (option_map parked) x.1) k.held.origin_is k.counts
 
 pub asker-asker-requires : goal.asker-asker-requires

@@ -1,11 +1,17 @@
 use Rattle.std.proofs.Common.{All, sym, subst, ◌^◌, arith}
 use Rattle.instr_code.specs.declared.code.Op.TheVariants as op
+use Rattle.sheet_model.specs.declared.instr.Instr.TheOpen.{Instr-F}
+use Rattle.sheet_model.specs.declared.instr.Instr.TheViews.{rolls-CallProcedure, rolls-ProcessAttributes, rolls-ProcessBuffer, rolls-ProcessChildren, rolls-ProcessDocument, rolls-ProcessSelf, rolls-ProcessSiblings}
 use Rattle.sheet_model.specs.declared.instr.WithParam.{WithParam}
 use Rattle.stxpath_syntax.specs.Shape.{CanBeEvaluated}
 use Rattle.template_machine.proofs.Formed.{done, has_number}
 use Rattle.template_machine.proofs.Fueled.{at_spent}
 use Rattle.template_machine.proofs.Instructing.{attributes_single, buffer_single, buffer_there, call_single, called_params, called_procedure, children_single, document_single, href_runs, itself_single, siblings_single, stays_here}
 use Rattle.template_machine.proofs.Falling.{spent_ok}
+use Rattle.template_machine.proofs.Proceeding.{unit_wanted}
+use Rattle.template_machine.proofs.Valued.{act_steps, only_shown}
+use Rattle.template_machine.specs.Saying.{Steps}
+use Rattle.template_machine.proofs.Saying.{stops_with}
 use Rattle.template_machine.proofs.run.Run.instruct.Goals as goal
 
 pub instr-instr-requires : goal.instr-instr-requires
@@ -124,3 +130,46 @@ returns-in-ProcessDocument-clause-works g c =
 pub returns-in_default-clause-works : goal.returns-in_default-clause-works
 returns-in_default-clause-works g c =
     spent_ok c.args.program.now c.args.self.now c.spend.new.self c.act.new.self (2 ^ 68) c.requires.well.steady.places c.spend.ensures.same c.in_ok-spend.ensures.ok (omega arith) c.act.result c.act.ensures.works
+
+-- What is done.
+
+pub returns-in_err-spend-clause-goes : goal.returns-in_err-spend-clause-goes
+returns-in_err-spend-clause-goes g c = λ names shown.
+    let e = c.in_err-spend.field-0.0 in
+    subst (λ r. Steps g.S.Sink.output g.S.Sink.told c.args.program.now r c.args.self.now c.spend.new.self c.args.out.now c.args.out.now) (sym (stops_with c.from_residual.result e c.from_residual.ensures.1))
+    (unit_wanted g.S.Sink.output g.S.Sink.told c.args.program.now g.met.S.Sink.nothing e c.args.self.now c.spend.new.self c.args.running c.args.number c.instr-instr.result.now
+    c.place_of-at.result c.args.out.now c.requires c.instr-instr.ensures c.place_of-at.ensures c.in_err-spend.ensures.spent c.in_err-spend.ensures.err)
+
+pub returns-in_default-clause-goes : goal.returns-in_default-clause-goes
+returns-in_default-clause-goes g c = λ names shown.
+    act_steps g.S.Sink.output g.S.Sink.told g.met.S.Sink.nothing c.args.program.now c.act.result c.args.self.now c.spend.new.self c.act.new.self c.args.running c.args.number c.instr-instr.result.now
+    c.args.out.now c.act.new.out c.requires c.instr-instr.ensures c.spend.ensures.same c.in_ok-spend.ensures.ok c.act.ensures.acts c.act.ensures.passes (c.act.ensures.sets names) c.act.ensures.same
+    (shown c.instr-instr.result.now c.instr-instr.ensures)
+
+pub returns-in-CallProcedure-clause-goes : goal.returns-in-CallProcedure-clause-goes
+returns-in-CallProcedure-clause-goes g c = λ names shown.
+    only_shown c.instr-instr.result.now _ (Instr-F.CallProcedure _ _ _) (rolls-CallProcedure _ _ _) c.in-CallProcedure.is (λ x. x) (λ x. x) (shown c.instr-instr.result.now c.instr-instr.ensures)
+
+pub returns-in-ProcessChildren-clause-goes : goal.returns-in-ProcessChildren-clause-goes
+returns-in-ProcessChildren-clause-goes g c = λ names shown.
+    only_shown c.instr-instr.result.now _ (Instr-F.ProcessChildren _ _ _) (rolls-ProcessChildren _ _ _) c.in-ProcessChildren.is (λ x. x) (λ x. x) (shown c.instr-instr.result.now c.instr-instr.ensures)
+
+pub returns-in-ProcessAttributes-clause-goes : goal.returns-in-ProcessAttributes-clause-goes
+returns-in-ProcessAttributes-clause-goes g c = λ names shown.
+    only_shown c.instr-instr.result.now _ (Instr-F.ProcessAttributes _ _ _) (rolls-ProcessAttributes _ _ _) c.in-ProcessAttributes.is (λ x. x) (λ x. x) (shown c.instr-instr.result.now c.instr-instr.ensures)
+
+pub returns-in-ProcessSelf-clause-goes : goal.returns-in-ProcessSelf-clause-goes
+returns-in-ProcessSelf-clause-goes g c = λ names shown.
+    only_shown c.instr-instr.result.now _ (Instr-F.ProcessSelf _ _ _) (rolls-ProcessSelf _ _ _) c.in-ProcessSelf.is (λ x. x) (λ x. x) (shown c.instr-instr.result.now c.instr-instr.ensures)
+
+pub returns-in-ProcessSiblings-clause-goes : goal.returns-in-ProcessSiblings-clause-goes
+returns-in-ProcessSiblings-clause-goes g c = λ names shown.
+    only_shown c.instr-instr.result.now _ (Instr-F.ProcessSiblings _ _ _ _ _) (rolls-ProcessSiblings _ _ _ _ _) c.in-ProcessSiblings.is (λ x. x) (λ x. x) (shown c.instr-instr.result.now c.instr-instr.ensures)
+
+pub returns-in-ProcessBuffer-clause-goes : goal.returns-in-ProcessBuffer-clause-goes
+returns-in-ProcessBuffer-clause-goes g c = λ names shown.
+    only_shown c.instr-instr.result.now _ (Instr-F.ProcessBuffer _ _ _ _) (rolls-ProcessBuffer _ _ _ _) c.in-ProcessBuffer.is (λ x. x) (λ x. x) (shown c.instr-instr.result.now c.instr-instr.ensures)
+
+pub returns-in-ProcessDocument-clause-goes : goal.returns-in-ProcessDocument-clause-goes
+returns-in-ProcessDocument-clause-goes g c = λ names shown.
+    only_shown c.instr-instr.result.now _ (Instr-F.ProcessDocument _ _ _ _) (rolls-ProcessDocument _ _ _ _) c.in-ProcessDocument.is (λ x. x) (λ x. x) (shown c.instr-instr.result.now c.instr-instr.ensures)

@@ -1,9 +1,11 @@
-use Rattle.std.proofs.Common.{◌∙◌, reverse, ap}
+use Rattle.std.proofs.Common.{refl, ◌∙◌, reverse, ap}
 use Rattle.frame_stack.specs.Change.{with_pc}
 use Rattle.frame_stack.specs.Stack.{FrameStack}
 use Rattle.template_machine.specs.Standing.{standing_of}
 use Rattle.template_machine.proofs.Moving.{jumps, moves_pc}
-use Rattle.template_machine.proofs.Operating.{body_goes, goes_elsewhere}
+use Rattle.instr_code.specs.declared.code.Op.TheVariants as op
+use Rattle.template_machine.proofs.Deciding.{jump_carries}
+use Rattle.template_machine.proofs.Operating.{behind_pc, body_goes, goes_elsewhere}
 use Rattle.template_machine.proofs.Placing.{changed_reversed, placed_in}
 use Rattle.template_machine.proofs.Falling.{jump_works}
 use Rattle.template_machine.proofs.run.Run.jump.Goals as goal
@@ -23,3 +25,9 @@ returns-clause-stands c =
 
 pub returns-clause-works : goal.returns-clause-works
 returns-clause-works c = jump_works c.args.program.now c.args.self.now c.args.running c.args.to c.requires c.set_pc.new.self c.set_pc.ensures
+
+pub returns-clause-goes : goal.returns-clause-goes
+returns-clause-goes c =
+    let r = c.args.self.now in
+    jump_carries c.args.program.now r (record r { frames = c.set_pc.new.self }) c.args.running c.args.to tt c.requires
+    (behind_pc c.args.program.now r c.args.running (op.Jump c.args.to) c.requires c.args.to c.set_pc.new.self c.set_pc.ensures).0 refl

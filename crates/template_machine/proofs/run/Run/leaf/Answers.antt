@@ -1,3 +1,9 @@
+use Rattle.template_machine.specs.Heard.{leaf_first}
+use Rattle.template_machine.specs.Trail.{leaf_node}
+use Rattle.node_stack.specs.Stack.{path}
+use Rattle.node_stack.specs.Path.{entered}
+use Rattle.std.proofs.Common.{sym, ◌∙◌, ap}
+use Rattle.template_machine.proofs.Hearing.{hears_if, leaf_heard, took_leaf, never_spent}
 use Rattle.std.proofs.Common.{◌∙◌, refl, sym, ap}
 use Rattle.node_stack.specs.Open.{leaf_of}
 use Rattle.template_machine.proofs.Arriving.{arrives, leaf_scopes, takes_at, takes_list}
@@ -44,3 +50,16 @@ returns-clause-fuel c =
     let r = c.args.self.now in
     if_ok c.leaf.result _ _ c.leaf.ensures.ok
     (λ u st. begun_fuel c.args.program.now.limits.fuel r.fuel c.begin.new.self.fuel r.source.origin c.in_ok-begin.ensures.ok)
+
+pub returns-clause-hears : goal.returns-clause-hears
+returns-clause-hears c = λ listens l same.
+    let p = c.args.program.now in
+    let r = c.args.self.now in
+    let m = c.begin.new.self in
+    let n = record m { source = c.leaf.new.self } in
+    hears_if p (leaf_first l) c.leaf.result r n _
+    (if_ok c.leaf.result _ _ c.leaf.ensures.ok
+    (λ u st. took_leaf p (leaf_node l) r m c.leaf.new.self c.begin.ensures.same listens.alone.origin c.in_ok-begin.ensures.ok
+    (st.path_is ∙ ap (λ k. entered k (path m.source.stack)) (sym same)) st.ahead_is st.held_is st.origin_is))
+    c.leaf.ensures.err
+    (λ took. leaf_heard p r n l listens took (takes_list p r (leaf_of c.args.leaf) c.requires))

@@ -1,3 +1,4 @@
+use Rattle.template_machine.proofs.Finished.{node_moves, not_held}
 use Rattle.std.proofs.Common.{refl, sym, subst, ap}
 use Rattle.template_machine.specs.declared.run.Doing.TheVariants as doing
 use Rattle.template_machine.specs.Well.{IsWell}
@@ -28,3 +29,11 @@ returns-clause-works c =
 
 pub returns-clause-asks : goal.returns-clause-asks
 returns-clause-asks c = goes_asks c.list_goes_on.result _ c.list_goes_on.ensures.step
+
+pub returns-clause-moves : goal.returns-clause-moves
+returns-clause-moves c = λ alone.
+    let p = c.args.program.now in
+    let r = c.args.self.now in
+    let m = record r { source = record r.source { stack = c.leave_attribute.new.self } } in
+    node_moves p r c.list_goes_on.new.self m (record r.source { stack = c.leave_attribute.new.self }) r.putting c.list_goes_on.result alone c.requires.over.apart
+    (not_held r.source c.requires.over.steady.source.held alone.held) c.list_goes_on.ensures.step c.leave_attribute.ensures refl refl refl c.list_goes_on.ensures.run refl refl

@@ -37,7 +37,7 @@ returns-clause-stands c =
     let items : r.outer.items ≡ init ++ c.unwrap.result ∷ [] =
     sym (ap (λ (x : Run). x.outer.items) run) ∙ c.pop.ensures.items ∙ ap (λ o. init ++ option_to_list o) c.unwrap.ensures in
     let n = record m { source = c.unwrap.result; outer = c.pop.new.self; putting = c.see.new.self } in
-    leaves_source p r m n c.take_off.new.frames h f run c.close_stream.ensures.closed c.see.ensures gone c.unwrap.result init items refl refl refl
+    leaves_source p r m n c.take_off.new.frames h f run c.close_stream.ensures.closed c.see.ensures.stands gone c.unwrap.result init items refl refl refl
 
 pub returns-clause-works : goal.returns-clause-works
 returns-clause-works c =

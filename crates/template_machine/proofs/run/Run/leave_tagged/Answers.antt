@@ -1,14 +1,23 @@
-use Rattle.std.proofs.Common.{◌≡◌, ◌-◌, ◌+◌, Some, IsSome, length, map, ap, sym, subst, ◌∙◌, arith, take}
+use Rattle.std.proofs.Common.{◌≡◌, ◌-◌, ◌+◌, ◌∷◌, [], Ok, Err, Some, IsSome, length, map, reverse, refl, ap, sym, subst, ◌∙◌, arith, take}
 use Rattle.std.specs.List.{slice_get}
 use Rattle.std.specs.Option.{option_and_then}
-use Rattle.frame_stack.specs.Change.{locals_of}
+use Rattle.stx_base.specs.declared.part.Part.TheVariants as part
+use Rattle.frame_stack.specs.Change.{locals_of, with_locals, with_pc}
 use Rattle.frame_stack.specs.declared.frame.Frame.{Frame}
 use Rattle.frame_stack.specs.declared.locals.Local.{Local}
 use Rattle.instr_code.specs.declared.code.Op.TheVariants as op
-use Rattle.template_machine.specs.Bodies.{level_of}
+use Rattle.template_machine.specs.Bodies.{level_of, on_body}
+use Rattle.template_machine.specs.Saying.{Puts, Steps}
+use Rattle.template_machine.specs.Stepwise.{tagged}
+use Rattle.template_machine.specs.declared.stop.Stop.TheVariants as stop
+use Rattle.template_machine.proofs.Copied.{puts_copied}
+use Rattle.template_machine.proofs.Deciding.{carried}
 use Rattle.template_machine.proofs.Enclosed.{has_tag, leaves_tagged, same_locals}
-use Rattle.template_machine.proofs.Operating.{at_place, frame_behind, next_fits}
+use Rattle.template_machine.proofs.Operating.{at_place, behind_locals, frame_behind, next_fits}
+use Rattle.template_machine.proofs.Rounding.{memory_stops}
+use Rattle.template_machine.proofs.Saying.{stops_with}
 use Rattle.template_machine.proofs.Shelved.{stands_on}
+use Rattle.template_machine.proofs.Tagging.{element_closes, has_those, value_waits, waits_at}
 use Rattle.template_machine.proofs.Writing.{only_puts, puts_at}
 use Rattle.template_machine.proofs.Falling.{tagged_works}
 use Rattle.template_machine.proofs.run.Run.leave_tagged.Goals as goal
@@ -71,7 +80,7 @@ returns-clause-stands g c =
     let n = c.args.number in
     let o = op.Close n in
     let new = c.end.new.self in
-    let stands = stands_on r.putting c.waiting_name.new.self new c.waiting_name.ensures c.end.ensures in
+    let stands = stands_on r.putting c.waiting_name.new.self new c.waiting_name.ensures.same c.end.ensures.stands in
     let u = record r { putting = new } in
     let at = puts_at p r u c.args.running o (only_puts r new stands) c.requires.op in
     let t = has_tag p u c.args.running n at c.requires.form in
@@ -85,3 +94,45 @@ returns-clause-works g c =
     tagged_works c.args.program.now c.args.self.now c.args.running c.args.number (take (c.len-last.result - 1)) c.requires.op c.set_pc.new.self c.cut_locals.new.self
     c.set_pc.ensures c.cut_locals.ensures in
     record { still = l.still; spared = l.spared; falls = l.falls }
+
+-- What is done.
+
+pub returns-in_err-name-clause-goes : goal.returns-in_err-name-clause-goes
+returns-in_err-name-clause-goes g c = λ i is element.
+    let p = c.args.program.now in
+    let r = c.args.self.now in
+    let new = record r { putting = c.waiting_name.new.self } in
+    subst (λ x. Steps g.S.Sink.output g.S.Sink.told p x r new c.args.out.now c.args.out.now) (sym (stops_with c.from_residual.result stop.Memory c.from_residual.ensures.1))
+    (carried g.S.Sink.output g.S.Sink.told g.met.S.Sink.nothing p (Err stop.Memory) r new c.args.out.now (memory_stops p r new))
+
+pub returns-in_err-end-clause-goes : goal.returns-in_err-end-clause-goes
+returns-in_err-end-clause-goes g c = λ i is element.
+    let p = c.args.program.now in
+    let r = c.args.self.now in
+    let e = c.in_err-end.field-0.0 in
+    let locals = c.locals_at-locals.result.now in
+    let new = record r { putting = c.end.new.self } in
+    let t = waits_at p r c.args.running c.args.number locals c.requires.op c.requires.form c.locals_at-locals.ensures in
+    subst (λ x. Steps g.S.Sink.output g.S.Sink.told p x r new c.args.out.now c.end.new.out) (sym (stops_with c.from_residual-in_err-end.result e c.from_residual-in_err-end.ensures.1))
+    (element_closes g.S.Sink.output g.S.Sink.told p (Err e) r new c.args.running c.args.number i c.args.at locals t c.args.out.now c.end.new.out c.requires.op is element
+    (has_those p r c.args.running c.args.number locals c.requires.op c.locals_at-locals.ensures)
+    (puts_copied g.S.Sink.output g.S.Sink.told c.args.at (part.End (tagged t.waiting.value) ∷ []) (Err e) r.putting c.waiting_name.new.self c.end.new.self c.args.out.now c.end.new.out c.waiting_name.ensures.rest
+    (subst (λ n. Puts {A = Unit {0}} g.S.Sink.output g.S.Sink.told c.args.at (part.End n ∷ []) (Err e) c.waiting_name.new.self c.end.new.self c.args.out.now c.end.new.out)
+    (c.in_ok-name.ensures.name ∙ ap tagged (value_waits locals t (c.len-last.result - 1) c.value.result.now (ap (λ k. k - 1) c.len-last.ensures) c.value.ensures)) c.in_err-end.ensures.puts))
+    tt refl)
+
+pub returns-clause-goes : goal.returns-clause-goes
+returns-clause-goes g c = λ i is element.
+    let p = c.args.program.now in
+    let r = c.args.self.now in
+    let locals = c.locals_at-locals.result.now in
+    let new = record r { frames = c.cut_locals.new.self; putting = c.end.new.self } in
+    let t = waits_at p r c.args.running c.args.number locals c.requires.op c.requires.form c.locals_at-locals.ensures in
+    element_closes g.S.Sink.output g.S.Sink.told p (Ok _) r new c.args.running c.args.number i c.args.at locals t c.args.out.now c.end.new.out c.requires.op is element
+    (has_those p r c.args.running c.args.number locals c.requires.op c.locals_at-locals.ensures)
+    (puts_copied g.S.Sink.output g.S.Sink.told c.args.at (part.End (tagged t.waiting.value) ∷ []) (Ok _) r.putting c.waiting_name.new.self c.end.new.self c.args.out.now c.end.new.out c.waiting_name.ensures.rest
+    (subst (λ n. Puts {A = Unit {0}} g.S.Sink.output g.S.Sink.told c.args.at (part.End n ∷ []) (Ok _) c.waiting_name.new.self c.end.new.self c.args.out.now c.end.new.out)
+    (c.in_ok-name.ensures.name ∙ ap tagged (value_waits locals t (c.len-last.result - 1) c.value.result.now (ap (λ k. k - 1) c.len-last.ensures) c.value.ensures)) c.in_ok-end.ensures.puts))
+    (subst (λ k. reverse c.cut_locals.new.self.frames ≡ on_body (λ f. with_locals (take k) (with_pc (c.args.running.pc + 1) f)) (reverse r.frames.frames)) (ap (λ k. k - 1) c.len-last.ensures)
+    (behind_locals p r c.args.running (op.Close c.args.number) c.requires.op (c.args.running.pc + 1) (take (c.len-last.result - 1)) c.set_pc.new.self c.cut_locals.new.self c.set_pc.ensures c.cut_locals.ensures))
+    refl

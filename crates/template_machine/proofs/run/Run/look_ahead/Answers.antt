@@ -35,7 +35,7 @@ returns-in_ok-change-in-Held-clause-stands g c =
     let h = holds_head p r c.requires.well c.requires.list c.in-Held.is c.requires.events in
     let k = c.in_ok-change-in-Held.ensures in
     let n = record r { putting = c.see.new.self; source = c.resume_held.new.self } in
-    head_resumed p r n c.requires.well h (record { outer = refl; aside = refl; store = refl; putting = c.see.ensures }) refl
+    head_resumed p r n c.requires.well h (record { outer = refl; aside = refl; store = refl; putting = c.see.ensures.stands }) refl
     (k.ok.path_is ∙ ap (λ o. resumed_by (option_map path_node o) (path r.source.stack)) h.is)
     (k.ok.scopes_are ∙ ap (λ o. within_held (option_map path_node o) r.source.bindings) h.is) k.ok.ahead_is k.ok.origin_is k.counts c.requires.list
 

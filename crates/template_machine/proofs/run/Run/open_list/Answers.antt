@@ -1,13 +1,25 @@
-use Rattle.std.proofs.Common.{sym, subst, arith}
+use Rattle.std.proofs.Common.{◌+◌, [], ◌∷◌, Ok, Err, reverse, refl, ap, sym, subst, ◌∙◌, arith}
 use Rattle.std.specs.Prelude.{All}
+use Rattle.frame_stack.specs.Locals.{local}
+use Rattle.instr_code.specs.Steps.{Holds}
 use Rattle.instr_code.specs.declared.code.Op.TheVariants as op
+use Rattle.sheet_model.specs.declared.instr.Instr.TheOpen.{Instr-F}
+use Rattle.sheet_model.specs.declared.instr.Instr.TheViews.{rolls-Copy, rolls-Literal, rolls-ResultBuffer}
 use Rattle.sheet_model.specs.declared.instr.LiteralAttr.{LiteralAttr}
+use Rattle.template_machine.specs.Bodies.{body_in, on_body}
 use Rattle.template_machine.specs.Evaluating.{TemplateCanBeEvaluated}
+use Rattle.template_machine.specs.Saying.{OpensShown, Steps}
+use Rattle.template_machine.specs.Shifting.{with_more}
+use Rattle.template_machine.specs.Stepwise.{Working, puts_aside, tag_of}
+use Rattle.template_machine.specs.declared.run.Run.{Run}
+use Rattle.template_machine.specs.declared.stop.Stop.TheVariants as stop
+use Rattle.template_machine.proofs.Opened.{element_on, element_opens_so, element_stops, fuel_and_put, opens_for, opens_on, opens_memory, round_spent}
+use Rattle.template_machine.proofs.Saying.{stops_with}
 use Rattle.template_machine.proofs.Evaluable.{can_run}
 use Rattle.template_machine.proofs.Formed.{has_number}
 use Rattle.template_machine.proofs.Fueled.{at_spent, runs_at}
 use Rattle.template_machine.proofs.Seeing.{sees}
-use Rattle.template_machine.proofs.Spelled.{element_runs, is_round, literal_runs, opened_round}
+use Rattle.template_machine.proofs.Spelled.{element_runs, is_round, literal_runs, opened_round, out_is}
 use Rattle.template_machine.proofs.Writing.{puts_at}
 use Rattle.template_machine.proofs.Falling.{puts_falls, spent_on}
 use Rattle.template_machine.proofs.run.Run.open_list.Goals as goal
@@ -71,7 +83,7 @@ enter_tagged-requires-clause-op g c =
     let o = op.Open c.args.number c.args.to in
     let p = c.args.program.now in
     let t = c.spend.new.self in
-    puts_at p t c.open_element.new.self c.args.running o c.open_element.ensures (at_spent p c.args.self.now t c.args.running o c.spend.ensures.same c.requires)
+    puts_at p t c.open_element.new.self c.args.running o c.open_element.ensures.only (at_spent p c.args.self.now t c.args.running o c.spend.ensures.same c.requires)
 
 pub unreachable-requires : goal.unreachable-requires
 unreachable-requires g c =
@@ -89,7 +101,7 @@ returns-in_ok-open_literal-in-Literal-clause-works g c =
 pub returns-in_ok-enter_tagged-in-Element-clause-works : goal.returns-in_ok-enter_tagged-in-Element-clause-works
 returns-in_ok-enter_tagged-in-Element-clause-works g c =
     puts_falls c.args.program.now c.args.self.now c.spend.new.self c.open_element.new.self c.enter_tagged.new.self c.requires.well.steady.places c.spend.ensures.same
-    c.in_ok-spend.ensures.ok c.open_element.ensures c.requires.doing c.in_ok-enter_tagged-in-Element.ensures.works
+    c.in_ok-spend.ensures.ok c.open_element.ensures.only c.requires.doing c.in_ok-enter_tagged-in-Element.ensures.works
 
 pub returns-in-ResultBuffer-clause-works : goal.returns-in-ResultBuffer-clause-works
 returns-in-ResultBuffer-clause-works g c =
@@ -100,3 +112,125 @@ pub returns-in_ok-inside-in-Copy-clause-works : goal.returns-in_ok-inside-in-Cop
 returns-in_ok-inside-in-Copy-clause-works g c =
     puts_falls c.args.program.now c.args.self.now c.spend.new.self c.open_copy.new.self c.enter_or_pass.new.self c.requires.well.steady.places c.spend.ensures.same
     c.in_ok-spend.ensures.ok c.open_copy.ensures c.requires.doing c.enter_or_pass.ensures.works
+
+-- What is done.
+
+pub returns-in_err-spend-clause-goes : goal.returns-in_err-spend-clause-goes
+returns-in_err-spend-clause-goes g c = λ shown.
+    let p = c.args.program.now in
+    let r = c.args.self.now in
+    let e = c.in_err-spend.field-0.0 in
+    subst (λ x. Steps g.S.Sink.output g.S.Sink.told p x r c.spend.new.self c.args.out.now c.args.out.now) (sym (stops_with c.from_residual.result e c.from_residual.ensures.1))
+    (round_spent g.S.Sink.output g.S.Sink.told p g.met.S.Sink.nothing e r c.spend.new.self c.args.running c.args.number c.args.to c.instr-instr.result.now c.place_of.result c.args.out.now
+    c.requires c.instr-instr.ensures c.place_of.ensures c.in_err-spend.ensures.spent c.in_err-spend.ensures.err c.spend.ensures.same)
+
+pub returns-in_ok-open_literal-in-Literal-clause-goes : goal.returns-in_ok-open_literal-in-Literal-clause-goes
+returns-in_ok-open_literal-in-Literal-clause-goes g c = λ shown.
+    absurd (subst OpensShown (out_is c.instr-instr.result.now _ (Instr-F.Literal c.in-Literal.name c.in-Literal.attrs _ _) (rolls-Literal _ _ _ _) c.in-Literal.is) (shown c.instr-instr.result.now c.instr-instr.ensures))
+
+pub returns-in_err-open_literal-in-Literal-clause-goes : goal.returns-in_err-open_literal-in-Literal-clause-goes
+returns-in_err-open_literal-in-Literal-clause-goes g c = λ shown.
+    absurd (subst OpensShown (out_is c.instr-instr.result.now _ (Instr-F.Literal c.in-Literal.name c.in-Literal.attrs _ _) (rolls-Literal _ _ _ _) c.in-Literal.is) (shown c.instr-instr.result.now c.instr-instr.ensures))
+
+pub returns-in_ok-inside-in-Copy-clause-goes : goal.returns-in_ok-inside-in-Copy-clause-goes
+returns-in_ok-inside-in-Copy-clause-goes g c = λ shown.
+    absurd (subst OpensShown (out_is c.instr-instr.result.now _ (Instr-F.Copy c.in-Copy.attributes _ _) (rolls-Copy _ _ _) c.in-Copy.is) (shown c.instr-instr.result.now c.instr-instr.ensures))
+
+pub returns-in_err-inside-in-Copy-clause-goes : goal.returns-in_err-inside-in-Copy-clause-goes
+returns-in_err-inside-in-Copy-clause-goes g c = λ shown.
+    absurd (subst OpensShown (out_is c.instr-instr.result.now _ (Instr-F.Copy c.in-Copy.attributes _ _) (rolls-Copy _ _ _) c.in-Copy.is) (shown c.instr-instr.result.now c.instr-instr.ensures))
+
+pub returns-in-ResultBuffer-clause-goes : goal.returns-in-ResultBuffer-clause-goes
+returns-in-ResultBuffer-clause-goes g c = λ shown.
+    absurd (subst OpensShown (out_is c.instr-instr.result.now _ (Instr-F.ResultBuffer _ _ _ _) (rolls-ResultBuffer _ _ _ _) c.in-ResultBuffer.is) (shown c.instr-instr.result.now c.instr-instr.ensures))
+
+pub returns-in_err-name-in-Element-clause-goes : goal.returns-in_err-name-in-Element-clause-goes
+returns-in_err-name-in-Element-clause-goes g c = λ shown.
+    let p = c.args.program.now in
+    let r = c.args.self.now in
+    let s = c.spend.new.self in
+    let i = c.instr-instr.result.now in
+    let at = c.place_of.result in
+    let body = ap (λ (x : Run). body_in (reverse x.frames.frames)) c.spend.ensures.same ∙ c.requires.body in
+    let e = c.in_err-name-in-Element.field-0.0 in
+    let out = c.args.out.now in
+    let verdict = λ (w : Working). Holds [] w in
+    subst (λ x. Steps g.S.Sink.output g.S.Sink.told p x r s out out) (sym (stops_with c.from_residual-in_err-name-in-Element.result e c.from_residual-in_err-name-in-Element.ensures.1))
+    (opens_on g.S.Sink.output g.S.Sink.told p (Err e) r s s c.args.running c.args.number c.args.to (c.args.running.pc + 1) s.fuel i verdict out out c.requires c.instr-instr.ensures c.in_ok-spend.ensures.ok
+    (opens_for g.S.Sink.output g.S.Sink.told p i c.in-Element.name c.in-Element.namespace c.in-Element.scope _ _ at verdict (Err e) (record r { fuel = s.fuel }) s s s out out c.in-Element.is c.place_of.ensures
+    c.spend.ensures.same refl
+    (element_stops g.S.Sink.output g.S.Sink.told p _ g.met.S.Sink.nothing c.in-Element.name c.in-Element.namespace c.in-Element.scope _ at verdict e s out (c.in_err-name-in-Element.ensures body)))
+    (λ given w. refl) tt refl (fuel_and_put r s c.spend.ensures.same))
+
+pub returns-in_err-open_element-in-Element-clause-goes : goal.returns-in_err-open_element-in-Element-clause-goes
+returns-in_err-open_element-in-Element-clause-goes g c = λ shown.
+    let p = c.args.program.now in
+    let r = c.args.self.now in
+    let s = c.spend.new.self in
+    let i = c.instr-instr.result.now in
+    let at = c.place_of.result in
+    let body = ap (λ (x : Run). body_in (reverse x.frames.frames)) c.spend.ensures.same ∙ c.requires.body in
+    let e = c.in_err-open_element-in-Element.field-0.0 in
+    let name = c.in_ok-name-in-Element.name in
+    let out = c.args.out.now in
+    let now = c.open_element.new.out in
+    let mid = c.open_element.new.self in
+    let verdict = λ (w : Working). Holds [] (puts_aside (tag_of name) w) in
+    subst (λ x. Steps g.S.Sink.output g.S.Sink.told p x r mid out now) (sym (stops_with c.from_residual-in_err-open_element-in-Element.result e c.from_residual-in_err-open_element-in-Element.ensures.1))
+    (element_on g.S.Sink.output g.S.Sink.told p (Err e) r mid mid c.args.running c.args.number c.args.to s.fuel i (tag_of name) (local (record { uri = []; local = []; prefix = [] }) (tag_of name)) out now
+    c.requires c.instr-instr.ensures c.in_ok-spend.ensures.ok refl refl
+    (opens_for g.S.Sink.output g.S.Sink.told p i c.in-Element.name c.in-Element.namespace c.in-Element.scope _ _ at verdict (Err e) (record r { fuel = s.fuel }) s (record s { putting = mid.putting }) mid out now
+    c.in-Element.is c.place_of.ensures c.spend.ensures.same c.open_element.ensures.only.rest
+    (element_opens_so g.S.Sink.output g.S.Sink.told p c.in-Element.name c.in-Element.namespace c.in-Element.scope _ at name (Err e) s mid.putting out now (c.in_ok-name-in-Element.ensures body)
+    c.in_err-open_element-in-Element.ensures.puts))
+    tt refl (c.open_element.ensures.only.rest ∙ ap (λ (x : Run). record x { putting = mid.putting }) c.spend.ensures.same))
+
+pub returns-in_ok-enter_tagged-in-Element-clause-goes : goal.returns-in_ok-enter_tagged-in-Element-clause-goes
+returns-in_ok-enter_tagged-in-Element-clause-goes g c = λ shown.
+    let p = c.args.program.now in
+    let r = c.args.self.now in
+    let s = c.spend.new.self in
+    let i = c.instr-instr.result.now in
+    let at = c.place_of.result in
+    let body = ap (λ (x : Run). body_in (reverse x.frames.frames)) c.spend.ensures.same ∙ c.requires.body in
+    let name = c.in_ok-name-in-Element.name in
+    let out = c.args.out.now in
+    let now = c.open_element.new.out in
+    let mid = c.open_element.new.self in
+    let new = c.enter_tagged.new.self in
+    let waits = c.in_ok-enter_tagged-in-Element.ensures.behind in
+    let verdict = λ (w : Working). Holds [] (puts_aside (tag_of name) w) in
+    let puts_alone = c.open_element.ensures.only.rest ∙ ap (λ (x : Run). record x { putting = mid.putting }) c.spend.ensures.same in
+    element_on g.S.Sink.output g.S.Sink.told p (Ok _) r mid new c.args.running c.args.number c.args.to s.fuel i (tag_of name) waits.waiting out now
+    c.requires c.instr-instr.ensures c.in_ok-spend.ensures.ok waits.nameless waits.is
+    (opens_for g.S.Sink.output g.S.Sink.told p i c.in-Element.name c.in-Element.namespace c.in-Element.scope _ _ at verdict (Ok _) (record r { fuel = s.fuel }) s (record s { putting = mid.putting }) mid out now
+    c.in-Element.is c.place_of.ensures c.spend.ensures.same c.open_element.ensures.only.rest
+    (element_opens_so g.S.Sink.output g.S.Sink.told p c.in-Element.name c.in-Element.namespace c.in-Element.scope _ at name (Ok _) s mid.putting out now (c.in_ok-name-in-Element.ensures body)
+    c.in_ok-open_element-in-Element.ensures.puts))
+    (waits.behind ∙ ap (λ (x : Run). on_body (with_more waits.waiting (c.args.running.pc + 1)) (reverse x.frames.frames)) puts_alone) c.enter_tagged.ensures.rest puts_alone
+
+pub returns-in_err-enter_tagged-in-Element-clause-goes : goal.returns-in_err-enter_tagged-in-Element-clause-goes
+returns-in_err-enter_tagged-in-Element-clause-goes g c = λ shown.
+    let p = c.args.program.now in
+    let r = c.args.self.now in
+    let s = c.spend.new.self in
+    let i = c.instr-instr.result.now in
+    let at = c.place_of.result in
+    let body = ap (λ (x : Run). body_in (reverse x.frames.frames)) c.spend.ensures.same ∙ c.requires.body in
+    let name = c.in_ok-name-in-Element.name in
+    let out = c.args.out.now in
+    let now = c.open_element.new.out in
+    let mid = c.open_element.new.self in
+    let new = c.enter_tagged.new.self in
+    let waiting = local (record { uri = []; local = []; prefix = [] }) (tag_of name) in
+    let verdict = λ (w : Working). Holds [] (puts_aside (tag_of name) w) in
+    let puts_alone = c.open_element.ensures.only.rest ∙ ap (λ (x : Run). record x { putting = mid.putting }) c.spend.ensures.same in
+    subst (λ x. Steps g.S.Sink.output g.S.Sink.told p x r new out now) (sym (stops_with c.from_residual-in_err-enter_tagged-in-Element.result stop.Memory c.from_residual-in_err-enter_tagged-in-Element.ensures.1))
+    (element_on g.S.Sink.output g.S.Sink.told p (Err stop.Memory) r mid new c.args.running c.args.number c.args.to s.fuel i (tag_of name) waiting out now
+    c.requires c.instr-instr.ensures c.in_ok-spend.ensures.ok refl refl
+    (opens_for g.S.Sink.output g.S.Sink.told p i c.in-Element.name c.in-Element.namespace c.in-Element.scope _ _ at verdict (Err stop.Memory) (record r { fuel = s.fuel }) s (record s { putting = mid.putting }) mid out now
+    c.in-Element.is c.place_of.ensures c.spend.ensures.same c.open_element.ensures.only.rest
+    (opens_memory g.S.Sink.output g.S.Sink.told p _ _ verdict _ s (record s { putting = mid.putting }) out now
+    (element_opens_so g.S.Sink.output g.S.Sink.told p c.in-Element.name c.in-Element.namespace c.in-Element.scope _ at name (Ok _) s mid.putting out now (c.in_ok-name-in-Element.ensures body)
+    c.in_ok-open_element-in-Element.ensures.puts)))
+    tt c.enter_tagged.ensures.rest puts_alone)

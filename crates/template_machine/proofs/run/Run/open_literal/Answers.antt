@@ -19,7 +19,7 @@ pub returns-in_err-push : goal.returns-in_err-push
 returns-in_err-push g c = only_on _ _ _ (record { rest = refl; stands = same_buffers _ _ refl refl }) (only_on _ _ _ c.loop-attr.invariant (only_puts _ _ c.copied_name.ensures.same))
 
 pub returns-in_err-start : goal.returns-in_err-start
-returns-in_err-start g c = only_on _ _ _ (record { rest = refl; stands = same_buffers _ _ refl refl }) (only_on _ _ _ c.loop-attr.invariant (only_puts _ _ c.start-2.ensures))
+returns-in_err-start g c = only_on _ _ _ (record { rest = refl; stands = same_buffers _ _ refl refl }) (only_on _ _ _ c.loop-attr.invariant (only_puts _ _ c.start-2.ensures.stands))
 
 pub returns : goal.returns
-returns g c = only_on _ _ _ (record { rest = refl; stands = same_buffers _ _ refl refl }) (only_on _ _ _ c.loop-attr.invariant (only_puts _ _ (stands_on _ _ _ c.start-2.ensures c.attributes.ensures)))
+returns g c = only_on _ _ _ (record { rest = refl; stands = same_buffers _ _ refl refl }) (only_on _ _ _ c.loop-attr.invariant (only_puts _ _ (stands_on _ _ _ c.start-2.ensures.stands c.attributes.ensures)))

@@ -1,3 +1,9 @@
+use Rattle.std.proofs.Common.{sym, subst}
+use Rattle.template_machine.specs.Heard.{Hears, start_first}
+use Rattle.template_machine.proofs.Hearing.{memory_heard}
+use Rattle.template_machine.proofs.Saying.{stops_with}
+use Rattle.xml_events.specs.Tree.{Element as Told}
+use Rattle.template_machine.proofs.Hearing.{start_heard, took_node}
 use Rattle.std.proofs.Common.{refl, ◌∙◌, ap}
 use Rattle.node_stack.specs.Path.{Element}
 use Rattle.template_machine.proofs.Arriving.{arrives, takes_at, takes_list, takes_room}
@@ -26,7 +32,7 @@ returns-clause-stands c =
     let x = Element c.args.name c.args.attrs c.args.decls c.args.first in
     let h = takes_at p c.args.self.now m x m.fuel c.begin.ensures.same c.requires in
     let st = c.in_ok-change.ensures.ok in
-    arrives p m (record m { source = c.open.new.self; putting = c.see.new.self }) x h (record { outer = refl; aside = refl; store = refl; putting = c.see.ensures }) refl
+    arrives p m (record m { source = c.open.new.self; putting = c.see.new.self }) x h (record { outer = refl; aside = refl; store = refl; putting = c.see.ensures.stands }) refl
     st.path_is st.scopes_are st.ahead_is st.origin_is c.open.ensures.counts refl
 
 pub returns-clause-works : goal.returns-clause-works
@@ -48,3 +54,26 @@ returns-clause-documents c =
 pub returns-clause-fuel : goal.returns-clause-fuel
 returns-clause-fuel c =
     let r = c.args.self.now in begun_fuel c.args.program.now.limits.fuel r.fuel c.begin.new.self.fuel r.source.origin c.in_ok-begin.ensures.ok
+
+pub returns-clause-hears : goal.returns-clause-hears
+returns-clause-hears c = λ listens offset.
+    let p = c.args.program.now in
+    let r = c.args.self.now in
+    let m = c.begin.new.self in
+    let x = Element c.args.name c.args.attrs c.args.decls c.args.first in
+    let st = c.in_ok-change.ensures.ok in
+    let e : Told = record { offset = offset; name = c.args.name; attrs = c.args.attrs; decls = c.args.decls } in
+    let h = start_heard p r (record m { source = c.open.new.self; putting = c.see.new.self }) e c.args.first listens
+    (took_node p x r m c.open.new.self c.begin.ensures.same listens.alone.origin c.in_ok-begin.ensures.ok st.path_is st.ahead_is st.held_is st.origin_is c.see.new.self c.see.ensures.rest)
+    (takes_list p r x c.requires) in
+    record { alone = h.alone; does = h.does }
+
+pub returns-in_err-change-clause-hears : goal.returns-in_err-change-clause-hears
+returns-in_err-change-clause-hears c = λ listens offset.
+    let p = c.args.program.now in
+    let r = c.args.self.now in
+    let s = record c.begin.new.self { source = c.open.new.self } in
+    let e = c.in_err-change.field-0.0 in
+    let told : Told = record { offset = offset; name = c.args.name; attrs = c.args.attrs; decls = c.args.decls } in
+    subst (λ x. Hears p (start_first told c.args.first) x r s) (sym (stops_with c.from_residual-in_err-change.result e c.from_residual-in_err-change.ensures.1))
+    (memory_heard _ p (start_first told c.args.first) e r s c.in_err-change.ensures.err)

@@ -38,3 +38,10 @@ returns-clause-works c =
     on_ok c.push_local.result _ _ c.push_local.ensures.ok
     (λ e. begins_locals c.args.self.now (c.args.running.pc + 1) c.args.running.body c.args.running.body (λ ls. ls ++ x ∷ []) c.set_pc.new.self c.push_local.new.self
     c.requires.op.doing c.set_pc.ensures e)
+
+pub returns-clause-behind : goal.returns-clause-behind
+returns-clause-behind c =
+    let next = c.args.running.pc + 1 in
+    let x = local c.args.name c.args.value in
+    on_ok c.push_local.result _ _ c.push_local.ensures.ok
+    (λ e. behind_locals c.args.program.now c.args.self.now c.args.running (op.Do c.args.number) c.requires.op next (λ ls. ls ++ x ∷ []) c.set_pc.new.self c.push_local.new.self c.set_pc.ensures e)

@@ -11,8 +11,14 @@ put_parts-requires-clause-sees g c = sees c.args.program.now c.args.self.now c.a
 
 pub returns-clause-stands : goal.returns-clause-stands
 returns-clause-stands g c =
-    in_any c.put_parts.result _ (puts_well c.args.program.now c.args.self.now c.put_parts.new.self c.put_parts.ensures c.requires.runs.well)
+    in_any c.put_parts.result _ (puts_well c.args.program.now c.args.self.now c.put_parts.new.self c.put_parts.ensures.only c.requires.runs.well)
 
 pub returns-clause-works : goal.returns-clause-works
 returns-clause-works g c =
-    in_any c.put_parts.result _ (puts_begin c.args.self.now c.put_parts.new.self c.put_parts.ensures c.requires.runs.doing)
+    in_any c.put_parts.result _ (puts_begin c.args.self.now c.put_parts.new.self c.put_parts.ensures.only c.requires.runs.doing)
+
+pub returns-clause-rest : goal.returns-clause-rest
+returns-clause-rest g c = c.put_parts.ensures.only.rest
+
+pub returns-clause-acts : goal.returns-clause-acts
+returns-clause-acts g c = c.put_parts.ensures.acts

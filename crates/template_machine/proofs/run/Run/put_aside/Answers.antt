@@ -32,7 +32,7 @@ returns-clause-stands c =
     let filled : aside_of c.fill.new.aside.items ≡ Some x.0.node ∷ rest_of (aside_of r.aside.items) =
     slot_filled r.aside.items c.fill.new.aside.items q more c.fill.ensures
     ∙ ap (λ (y : PathNode). Some y.node ∷ rest_of (aside_of r.aside.items)) (sym x.1.1) in
-    puts_aside p r n x.0 c.requires refl filled x.1.0 refl c.see.ensures refl k.parked.path_is k.parked.scopes_are k.parked.ahead_is k.parked.held_is k.parked.origin_is
+    puts_aside p r n x.0 c.requires refl filled x.1.0 refl c.see.ensures.stands refl k.parked.path_is k.parked.scopes_are k.parked.ahead_is k.parked.held_is k.parked.origin_is
     k.counts refl
 
 pub returns-clause-works : goal.returns-clause-works

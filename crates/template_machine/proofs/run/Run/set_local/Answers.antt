@@ -1,10 +1,11 @@
-use Rattle.std.proofs.Common.{◌≡◌, Some, sym, ap, ◌∙◌}
+use Rattle.std.proofs.Common.{◌≡◌, Some, reverse, sym, ap, ◌∙◌}
 use Rattle.std.proofs.lemmas.Option.{slice_get_within}
 use Rattle.std.specs.List.{slice_get}
-use Rattle.frame_stack.specs.Change.{locals_of}
+use Rattle.frame_stack.specs.Change.{locals_of, with_locals}
+use Rattle.frame_stack.specs.Stack.{FrameStack}
 use Rattle.frame_stack.specs.declared.frame.Frame.{Frame}
 use Rattle.template_machine.proofs.Assigned.{local_set_well}
-use Rattle.template_machine.proofs.Placing.{placed_in}
+use Rattle.template_machine.proofs.Placing.{changed_reversed, placed_in}
 use Rattle.template_machine.proofs.Falling.{locals_set, same_under}
 use Rattle.frame_stack.specs.Locals.{with_value}
 use Rattle.template_machine.proofs.run.Run.set_local.Goals as goal
@@ -30,3 +31,8 @@ returns-clause-works c =
     let r = c.args.self.now in
     same_under r c.set_local.new.self c.requires.runs.doing
     (locals_set (with_value c.args.index c.args.value) c.args.body r.frames c.set_local.new.self c.set_local.ensures)
+
+pub returns-clause-behind : goal.returns-clause-behind
+returns-clause-behind c =
+    ap (λ (x : FrameStack). reverse x.frames) c.set_local.ensures
+    ∙ changed_reversed (with_locals (with_value c.args.index c.args.value)) c.args.self.now.frames.frames c.args.body c.requires.runs.place

@@ -1,3 +1,4 @@
+use Rattle.template_machine.proofs.Hearing.{spare_heard}
 use Rattle.std.proofs.Common.{refl}
 use Rattle.template_machine.proofs.Going.{if_ok, well_put}
 use Rattle.template_machine.proofs.run.Run.skip.Goals as goal
@@ -18,3 +19,7 @@ returns-clause-documents c = c.pass_over-skipped.ensures.documents
 
 pub returns-clause-fuel : goal.returns-clause-fuel
 returns-clause-fuel c = c.pass_over-skipped.ensures.fuel
+
+pub returns-clause-hears : goal.returns-clause-hears
+returns-clause-hears c = λ alone.
+    spare_heard c.args.program.now _ c.pass_over-skipped.result c.args.self.now c.pass_over-skipped.new.self c.give_back.new.spare (c.pass_over-skipped.ensures.hears alone)

@@ -1,3 +1,10 @@
+use Rattle.std.proofs.Common.{false}
+use Rattle.template_machine.specs.Behind.{MovesFrom, body_done}
+use Rattle.template_machine.proofs.Finished.{frame_wants_memory, skip_memory}
+use Rattle.template_machine.proofs.Saying.{stops_with}
+use Rattle.template_machine.specs.declared.stop.Stop.TheVariants as stop
+use Rattle.template_machine.proofs.Finished.{body_moves_open, memory_moves, unspent_moves}
+use Rattle.std.proofs.Common.{reverse, Some, Err}
 use Rattle.std.proofs.Common.{◌≡◌, ◌∙◌, ◌∷◌, ◌++◌, [], refl, ap, sym, subst, arith}
 use Rattle.frame_stack.specs.Stack.{with_frames}
 use Rattle.frame_stack.specs.declared.frame.Frame.TheVariants.{Skip}
@@ -28,3 +35,23 @@ returns-clause-stands c =
 pub returns-clause-works : goal.returns-clause-works
 returns-clause-works c =
     pushed_list 4 c.args.self.now c.push.new.self (record c.push.new.self { doing = doing.List }) (Skip 0) c.in_ok-push.ensures.ok refl (omega arith)
+
+pub returns-clause-moves : goal.returns-clause-moves
+returns-clause-moves c = λ alone.
+    let p = c.args.program.now in
+    let r = c.args.self.now in
+    let m = record r { frames = with_frames (r.frames.frames ++ Skip 0 ∷ []) r.frames } in
+    let e : c.push.new.self ≡ m = c.in_ok-push.ensures.ok in
+    let b = both_by (can_have_children (current (path r.source.stack))) c.args.spent c.requires.open in
+    let pushed = ap (λ (x : Run). reverse x.frames.frames) e ∙ top_pushed r.frames.frames (Skip 0) in
+    unspent_moves p r (record c.push.new.self { doing = doing.List }) c.args.spent b.1
+    (body_moves_open p r (record c.push.new.self { doing = doing.List }) alone c.requires.over.apart b.0 pushed
+    (ap (λ (x : Run). record x { doing = doing.List }) e ∙ sym (ap (λ (x : Run). record r { frames = x.frames; doing = doing.List }) e)))
+
+pub returns-in_err-push-clause-moves : goal.returns-in_err-push-clause-moves
+returns-in_err-push-clause-moves c = λ alone.
+    let p = c.args.program.now in
+    let r = c.args.self.now in
+    let e = c.in_err-push.field-0.0 in
+    subst (λ x. MovesFrom p (λ given left f. body_done given p false c.args.spent r left f) x c.push.new.self) (sym (stops_with c.from_residual.result e c.from_residual.ensures.1))
+    (frame_wants_memory p (λ given left f. body_done given p false c.args.spent r left f) c.push.new.self e (skip_memory c.args.at r.frames.limit r.frames.frames e c.in_err-push.ensures.full))

@@ -1,3 +1,7 @@
+use Rattle.std.proofs.Common.{sym, inr}
+use Rattle.template_machine.specs.Still.{nodes_of}
+use Rattle.template_machine.specs.Heard.{Skips, end_first}
+use Rattle.template_machine.proofs.Hearing.{deepened, ended_full, passed_over, skip_heard, ended_deeper}
 use Rattle.std.proofs.Common.{◌≡◌, ◌+◌, ◌-◌, ◌<◌, subst, arith, ◌∙◌, ap}
 use Rattle.template_machine.specs.Moments.{SkipsOn}
 use Rattle.template_machine.proofs.Arriving.{skip_goes_on, skip_is_over, skips_at}
@@ -31,3 +35,19 @@ returns-in-Some-clause-documents c = c.skip_to.ensures.documents ∙ ap document
 
 pub returns-in-Some-clause-fuel : goal.returns-in-Some-clause-fuel
 returns-in-Some-clause-fuel c = omega (arith, c.skip_to.ensures.fuel, ap (λ (x : Run). x.fuel) c.end_list.ensures)
+
+pub returns-in-Some-clause-hears : goal.returns-in-Some-clause-hears
+returns-in-Some-clause-hears c = λ skips offset.
+    let p = c.args.program.now in
+    let r = c.args.self.now in
+    let m = c.end_list.new.self in
+    let one : c.args.depth ≡ c.in-Some.less + 1 = omega (arith, c.in-Some.ensures) in
+    skip_heard p r c.skip_to.new.self c.args.depth c.in-Some.less skips
+    (passed_over p r m c.skip_to.new.self _ skips.ahead c.end_list.ensures (ended_full p.limits.fuel r.fuel r.source.origin skips.alone.origin) c.skip_to.ensures.rest)
+    (deepened r m c.skip_to.new.self _ c.in-Some.less c.end_list.ensures c.skip_to.ensures.depth) (end_first offset)
+    (λ given held aside fs st f. ended_deeper given p c.args.depth c.in-Some.less offset (nodes_of r.source) held aside fs st f one)
+
+pub returns-in-None-clause-hears : goal.returns-in-None-clause-hears
+returns-in-None-clause-hears c = λ skips offset.
+    let none : c.args.depth ≡ 0 = omega (arith, c.in-None.ensures) in
+    c.find_end.ensures.hears (inr (subst (λ d. Skips c.args.program.now d c.args.self.now) none skips)) offset

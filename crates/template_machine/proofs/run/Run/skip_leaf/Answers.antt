@@ -1,3 +1,6 @@
+use Rattle.template_machine.specs.Still.{nodes_of}
+use Rattle.template_machine.specs.Heard.{leaf_first}
+use Rattle.template_machine.proofs.Hearing.{begun_full, deepened, passed_over, skip_heard, skipped_leaf}
 use Rattle.template_machine.proofs.Arriving.{skips_at}
 use Rattle.template_machine.proofs.Lightened.{skip_begun}
 use Rattle.std.proofs.Common.{◌∙◌, ap, arith}
@@ -22,3 +25,14 @@ pub returns-clause-fuel : goal.returns-clause-fuel
 returns-clause-fuel c =
     let r = c.args.self.now in
     omega (arith, c.skip_to.ensures.fuel, begun_fuel c.args.program.now.limits.fuel r.fuel c.begin.new.self.fuel r.source.origin c.in_ok-begin.ensures.ok)
+
+pub returns-clause-hears : goal.returns-clause-hears
+returns-clause-hears c = λ skips l.
+    let p = c.args.program.now in
+    let r = c.args.self.now in
+    let m = c.begin.new.self in
+    let full = begun_full p.limits.fuel r.fuel m.fuel r.source.origin skips.alone.origin c.in_ok-begin.ensures.ok in
+    let h = skip_heard p r c.skip_to.new.self c.args.depth c.args.depth skips (passed_over p r m c.skip_to.new.self m.fuel skips.ahead c.begin.ensures.same full c.skip_to.ensures.rest)
+    (deepened r m c.skip_to.new.self m.fuel c.args.depth c.begin.ensures.same c.skip_to.ensures.depth) (leaf_first l)
+    (λ given held aside fs st f. skipped_leaf given p c.args.depth l (nodes_of r.source) held aside fs st f) in
+    record { alone = h.alone; does = h.does }

@@ -1,3 +1,6 @@
+use Rattle.template_machine.specs.Still.{nodes_of}
+use Rattle.template_machine.specs.Heard.{start_first}
+use Rattle.template_machine.proofs.Hearing.{begun_full, deepened, passed_over, skip_heard, started_deeper}
 use Rattle.std.proofs.Common.{◌+◌, ◌∙◌, ap, arith}
 use Rattle.template_machine.proofs.Arriving.{skips_at}
 use Rattle.template_machine.proofs.Lightened.{skip_begun}
@@ -22,3 +25,14 @@ pub returns-clause-fuel : goal.returns-clause-fuel
 returns-clause-fuel c =
     let r = c.args.self.now in
     omega (arith, c.skip_to.ensures.fuel, begun_fuel c.args.program.now.limits.fuel r.fuel c.begin.new.self.fuel r.source.origin c.in_ok-begin.ensures.ok)
+
+pub returns-clause-hears : goal.returns-clause-hears
+returns-clause-hears c = λ skips e first.
+    let p = c.args.program.now in
+    let r = c.args.self.now in
+    let m = c.begin.new.self in
+    let full = begun_full p.limits.fuel r.fuel m.fuel r.source.origin skips.alone.origin c.in_ok-begin.ensures.ok in
+    let h = skip_heard p r c.skip_to.new.self c.args.depth (c.args.depth + 1) skips (passed_over p r m c.skip_to.new.self m.fuel skips.ahead c.begin.ensures.same full c.skip_to.ensures.rest)
+    (deepened r m c.skip_to.new.self m.fuel (c.args.depth + 1) c.begin.ensures.same c.skip_to.ensures.depth) (start_first e first)
+    (λ given held aside fs st f. started_deeper given p c.args.depth e first (nodes_of r.source) held aside fs st f) in
+    record { alone = h.alone; does = h.does }

@@ -31,3 +31,10 @@ returns-clause-works c = λ d skipped.
           ∙ top_changed (with_depth c.args.depth) r.frames.frames (Skip old) gs is)
           refl refl refl,
     )
+
+pub returns-clause-depth : goal.returns-clause-depth
+returns-clause-depth c = λ d gs is.
+    let r = c.args.self.now in
+    ap (λ (x : FrameStack). reverse x.frames) c.set_depth.ensures
+    ∙ ap (λ k. reverse (changed (with_depth c.args.depth) (k - 1) r.frames.frames)) c.count-top.ensures
+    ∙ top_changed (with_depth c.args.depth) r.frames.frames (Skip d) gs is

@@ -1,3 +1,6 @@
+use Rattle.std.proofs.Common.{sym, ◌≡◌, ◌∙◌}
+use Rattle.template_machine.specs.declared.source.Origin.TheVariants as origin
+use Rattle.template_machine.proofs.Finished.{waits_moves}
 use Rattle.std.proofs.Common.{refl, sym, subst}
 use Rattle.template_machine.specs.Moments.{IsBuffer, IsDocument}
 use Rattle.template_machine.proofs.Spared.{means_stay}
@@ -29,3 +32,12 @@ returns-in-Main-clause-works c = means_stay c.args.self.now c.args.self.now refl
 
 pub returns-in-Document-clause-works : goal.returns-in-Document-clause-works
 returns-in-Document-clause-works c = means_stay c.args.self.now c.args.self.now refl
+
+pub returns-in-Main-clause-moves : goal.returns-in-Main-clause-moves
+returns-in-Main-clause-moves c = λ alone. waits_moves c.args.program.now c.args.self.now alone
+
+pub returns-in-Document-clause-moves : goal.returns-in-Document-clause-moves
+returns-in-Document-clause-moves c = λ alone. absurd (let no : origin.Main ≡ origin.Document c.in-Document.at = sym alone.origin ∙ c.in-Document.is in cc)
+
+pub returns-in-Buffer-clause-moves : goal.returns-in-Buffer-clause-moves
+returns-in-Buffer-clause-moves c = λ alone. absurd (let no = sym alone.origin ∙ c.in-Buffer.is in cc)
