@@ -11,3 +11,5 @@ pub mod Sections
 pub mod Documents
 pub mod Going
 pub mod Standing
+pub mod Future
+pub mod Given

@@ -3,4 +3,5 @@ pub mod Taking
 pub mod Asks
 pub mod Pieces
 pub mod Fitting
+pub mod More
 pub mod inside
