@@ -31,6 +31,7 @@ impl Tables for Xml {
             "last events" => tell_again::<events::Events>(alloc, row, out),
             "results" => writer::tell(alloc, row, out),
             "settled" => writer::tell_settled(alloc, row, out),
+            "settled tags" => writer::judged::tell_settled_tags(alloc, row, out),
             "at once" => writer::tell_at_once(alloc, row, out),
             "characters" => writer::tell_character(alloc, row, out),
             _ => Err(Trouble::Row("a table that isn't there")),

@@ -7,6 +7,8 @@ ghost use Rattle.std.specs.Prelude.{◌≡◌, true};
 ghost use Rattle.result_writer.specs.Target.{holds_cdata_text};
 ghost use Rattle.stx_base.specs.Character.{is_cdata_text};
 
+pub mod judged;
+
 use result_writer::{Opened, ResultFault, WriteStop, Writer, holds_cdata_text};
 use rows::{Row, Trouble, binding_of, name_of, text_of};
 use std::alloc::Global;
@@ -433,16 +435,18 @@ fn accept_all(
 
 /// What comes of the parts in a way to hand them over.
 fn told_by(alloc: Global, row: &Row, way: &str) -> Result<Told, Trouble> {
-    if way == "accepted" {
-        accepted(alloc, row)
-    } else {
-        written(alloc, row, handed_of(way)?)
+    match way {
+        "accepted" => accepted(alloc, row),
+        "judged" => judged::written(alloc, row),
+        _ => written(alloc, row, handed_of(way)?),
     }
 }
 
 /// What is written of the parts in the ways that `: handed` names, and told again where it isn't the same.
 pub fn tell(alloc: Global, row: &Row, out: &mut String) -> Result<(), Trouble> {
-    let ways = row.setting("handed").unwrap_or("lent over kind accepted");
+    let ways = row
+        .setting("handed")
+        .unwrap_or("lent over kind judged accepted");
     let (way, others) = ways.split_once(' ').unwrap_or((ways, ""));
     let first = told_by(alloc, row, way)?;
     out.push_str(first.text(alloc)?.as_str())?;
