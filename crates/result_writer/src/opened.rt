@@ -1,4 +1,4 @@
-ghost use Rattle.std.specs.Prelude.{◌≡◌, ◌<◌, ◌+◌, ◌++◌, ◌∷◌, [], ℕ, None, Some, false, true, List as Items, codes, IfOk, IfErr, IfSome, MatchOption, OnOk, OnErr, is_some, length, map, slice_get, slice_set, unwrap_or, vec_capacity, vec_len, ◌≤◌};
+ghost use Rattle.std.specs.Prelude.{◌≡◌, ◌↔◌, ◌<◌, ◌+◌, ◌++◌, ◌∷◌, [], ℕ, None, Some, false, true, List as Items, codes, IfOk, IfErr, IfSome, IsTrue, MatchOption, OnOk, OnErr, is_some, length, map, slice_get, slice_set, unwrap_or, vec_capacity, vec_len, ◌≤◌};
 ghost use Rattle.std.specs.Option.{option_copied};
 ghost use Rattle.stx_base.specs.declared.name.Attr.{Attr};
 ghost use Rattle.stx_base.specs.declared.name.Name.{Name};
@@ -20,7 +20,7 @@ use crate::attributes::Attributes;
 use crate::bytes::{append, append_byte, append_two};
 use crate::fault::{ResultFault, WriteStop};
 use crate::in_force::InForce;
-use crate::steady::{copy_unless_same, keep_bindings, keeps_names, unless_same};
+use crate::steady::{are_same, copy_unless_same, keep_bindings, keeps_names, unless_same};
 use crate::tag::{Dressed, HeldTag, append_end_tag, append_open_tag, dress};
 use crate::words::{is_empty, same_name};
 use std::alloc::Global;
@@ -491,6 +491,13 @@ impl Opened {
     {
         self.around.tag.attrs.clear();
         self.around.hold(name, other);
+    }
+
+    /// Whether a scope is that of the start before. Allocates nothing.
+    pub(crate) fn is_last_scope(&self, scope: &List<Binding>) -> bool
+        ensures { IsTrue result ↔ (scope.now ≡ self.now.last) }
+    {
+        are_same(scope.as_slice(), self.around.tag.scope.as_slice())
     }
 
     /// A copy of a scope, unless it is that of the start before.

@@ -77,8 +77,9 @@ pub fn unless_same(scope: List<Binding>, other: &List<Binding>) -> Option<List<B
     }
 }
 
-fn are_same(bindings: &[Binding], others: &[Binding]) -> bool
-    ensures { result ≡ true → bindings.now ≡ others.now }
+/// Whether two scopes have the same bindings in one order.
+pub fn are_same(bindings: &[Binding], others: &[Binding]) -> bool
+    ensures { IsTrue result ↔ (bindings.now ≡ others.now) }
 {
     if bindings.len() != others.len() {
         return false;

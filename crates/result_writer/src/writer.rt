@@ -1,4 +1,4 @@
-ghost use Rattle.std.specs.Prelude.{◌≡◌, ◌++◌, [], true, false, None, Some, Err, IfOk, IfErr, MatchResult, OnOk, OnErr, map, unwrap_or};
+ghost use Rattle.std.specs.Prelude.{◌≡◌, ◌↔◌, ◌++◌, [], true, false, None, Some, Err, IfOk, IfErr, IsTrue, MatchResult, OnOk, OnErr, map, unwrap_or};
 ghost use Rattle.stx_base.specs.declared.part.Part.TheVariants.{Start, Attribute, End, Chars, CData, Comment, Pi};
 ghost use Rattle.stx_base.specs.declared.name.Name.{Name as Spelled};
 ghost use Rattle.result_writer.specs.Allowed.{is_good_name};
@@ -186,6 +186,14 @@ impl Writer {
         let other = self.opened.unless_last(scope);
         self.write_start(name, other, out)?;
         Ok(())
+    }
+
+    /// Whether a scope is that of the start before, or has no bindings where there was none. So a start in it can be put as one in
+    /// that. Allocates nothing.
+    pub fn is_last_scope(&self, scope: &List<Binding>) -> bool
+        ensures { IsTrue result ↔ (scope.now ≡ self.now.last) }
+    {
+        self.opened.is_last_scope(scope)
     }
 
     /// The same of a start in the scope of the start before, or in one without bindings where there was none. The texts of the
