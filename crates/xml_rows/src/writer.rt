@@ -157,7 +157,7 @@ enum Handed {
     Over,
     /// By the call of its kind.
     ByKind,
-    /// The same, but for ends, which end the innermost element.
+    /// The same, but for ends, which end the innermost element, and for starts in the scope of the start before.
     Innermost,
 }
 
@@ -205,6 +205,20 @@ fn put_again(
     out: &mut Vec<u8>,
 ) -> Result<(), WriteStop> {
     writer.put_start_again(name, spare, out)
+}
+
+/// A start, which is put again where it is in the scope of the start before.
+fn put_start_in(
+    writer: &mut Writer,
+    name: Name,
+    scope: &List<Binding>,
+    spare: &mut Spare,
+    out: &mut Vec<u8>,
+) -> Result<(), WriteStop> {
+    if writer.is_last_scope(scope) {
+        return put_again(writer, name, spare, out);
+    }
+    put_start(writer, name, scope, out)
 }
 
 fn put_attribute(writer: &mut Writer, name: Name, value: Text) -> Result<(), WriteStop> {
@@ -273,6 +287,7 @@ fn put_innermost(
     requires { holds_cdata_text part ≡ true }
 {
     match part {
+        Part::Start { name, scope } => put_start_in(writer, name, &scope, spare, out),
         Part::End { name: _name } => end_innermost(writer, spare, out),
         part => put_by_kind(writer, part, out),
     }
