@@ -1,6 +1,6 @@
 -- Attributes that are found by their names.
 use Rattle.std.proofs.Common.{◌≡◌, ℕ, zero, suc, ◌+◌, ◌<◌, ◌≤◌, Bool, true, false, ◌||◌, ◌&&◌, List, [], ◌∷◌, ◌++◌, Option, Some, None, refl, sym, ap, ◌∙◌, subst, length, map, take, drop, get_or, arith, encode_utf8_all, cond, ◌-◌}
-use Rattle.std.specs.Prelude.{bytes_eq, if◌then◌else◌, slice_set, String, string_bytes, IfOk, MatchOption, Result, Ok, Err}
+use Rattle.std.specs.Prelude.{bytes_eq, if◌then◌else◌, slice_get, slice_set, String, string_bytes, IfOk, MatchOption, Result, Ok, Err}
 use Rattle.std.specs.Cmp.Lexicographic.{slice_cmp}
 use Rattle.std.specs.List.{list_any}
 use Rattle.std.specs.Option.{option_map, option_or}
@@ -11,6 +11,7 @@ use Rattle.std.proofs.lemmas.Bool.{and_parts}
 use Rattle.std.proofs.lemmas.Bool.Decides.{same_from_decides}
 use Rattle.std.proofs.lemmas.List.{drop-append-le, drop_all, length-map, map-append, length-drop}
 use Rattle.std.proofs.lemmas.Map.Text.{is_eq-slice_cmp}
+use Rattle.std.proofs.lemmas.Option.{slice_get-get_or}
 use Rattle.std.proofs.lemmas.Slice.Eq.{bytes_eq-Decides}
 use Rattle.std.proofs.lemmas.Str.{encodes_same}
 use Rattle.stx_base.specs.declared.name.Attr.{Attr}
@@ -142,10 +143,17 @@ module _ (name : Name) where
   absent (suc k) n (x ∷ xs) h = absent k n xs (or_false (named x) (list_any named xs) h).1
 
 -- the names stay where an attribute only gets another value
-pub names-set : (attrs : List Attr) (at : ℕ) (b : Attr) → (d : Attr) → at < length attrs → b.name ≡ (get_or attrs at d).name → names (slice_set attrs at b) ≡ names attrs
+names-set : (attrs : List Attr) (at : ℕ) (b : Attr) → (d : Attr) → at < length attrs → b.name ≡ (get_or attrs at d).name → names (slice_set attrs at b) ≡ names attrs
 names-set [] at b d h e = absurd (omega arith)
 names-set (x ∷ xs) zero b d h e = ap (λ n. n ∷ names xs) e
 names-set (x ∷ xs) (suc k) b d h e = ap (λ ns. x.name ∷ ns) (names-set xs k b d (omega arith) e)
+
+pub names-kept : (attrs new : List Attr) (at : ℕ) (value : List ℕ) → at < length attrs
+    → ((a : Attr) → slice_get attrs at ≡ Some a → new ≡ slice_set attrs at (record a { value = value })) → names new ≡ names attrs
+names-kept attrs new at value h says =
+    let any : Attr = record { name = record { uri = []; local = []; prefix = [] }; value = value } in
+    let a = get_or attrs at any in
+    ap names (says a (slice_get-get_or attrs at any h)) ∙ names-set attrs at (record a { value = value }) any h refl
 
 -- few attributes have no places
 pub few : (attrs : List Attr) → length attrs ≤ 16 → drop 16 (names attrs) ≡ []

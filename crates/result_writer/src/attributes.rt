@@ -1,6 +1,6 @@
 //! The attributes of a start tag that is held back.
 
-ghost use Rattle.std.specs.Prelude.{◌≡◌, ◌<◌, ◌≤◌, true, ◌++◌, ◌∷◌, [], ℕ, false, IfOk, MatchOption, OnOk, OnErr, drop, encode_utf8_all, length, map, slice_get, slice_set, string_bytes};
+ghost use Rattle.std.specs.Prelude.{◌≡◌, ◌<◌, ◌≤◌, true, ◌++◌, ◌∷◌, [], ℕ, false, IfOk, MatchOption, OnOk, OnErr, drop, encode_utf8_all, length, map, slice_get, slice_set, string_bytes, vec_len};
 ghost use Rattle.std.specs.List.{list_any};
 ghost use Rattle.std.specs.Option.{option_copied};
 ghost use Rattle.stx_base.specs.declared.name.Attr.{Attr};
@@ -64,7 +64,10 @@ impl Attributes {
         ensures err { OnErr result (self.new ≡ self.old) }
     {
         match self.place(&name)? {
-            Some(at) => self.replace(at, value),
+            Some(at) => {
+                self.replace(at, value);
+                Ok(())
+            }
             None => self.append(Attr { name, value }),
         }
     }
@@ -153,15 +156,15 @@ impl Attributes {
         Ok(self.places.get(&key).copied())
     }
 
-    /// Gives the attribute at a place its value. After a refusal all is unchanged.
-    fn replace(&mut self, at: usize, value: Text) -> Result<(), Memory>
+    /// Gives the attribute at a place its value. Allocates nothing.
+    fn replace(&mut self, at: usize, value: Text)
         requires { at < length self.old }
-        ensures ok { (a : Attr) → slice_get self.old at ≡ Some a → OnOk result (self.new ≡ slice_set self.old at (record a { value = value })) }
-        ensures err { OnErr result (self.new ≡ self.old) }
+        ensures { (a : Attr) → slice_get self.old at ≡ Some a → self.new ≡ slice_set self.old at (record a { value = value }) }
     {
-        let name = self.list.as_slice()[at].name.copy(self.alloc)?;
-        self.list.set(at, Attr { name, value });
-        Ok(())
+        let list = mem::replace(&mut self.list, List::new(self.alloc));
+        let mut attrs = list.into_vec();
+        set_value(&mut attrs, at, value);
+        self.list = List::from_vec(attrs);
     }
 
     /// Appends an attribute of another name. After a refusal all is unchanged.
@@ -185,6 +188,14 @@ impl Attributes {
             }
         }
     }
+}
+
+/// Leaves the name where it is.
+fn set_value(attrs: &mut Vec<Attr>, at: usize, value: Text)
+    requires { at < vec_len attrs.old }
+    ensures { (a : Attr) → slice_get attrs.old.items at ≡ Some a → attrs.new.items ≡ slice_set attrs.old.items at (record a { value = value }) }
+{
+    attrs[at].value = value;
 }
 
 /// Whether no two attributes have one name.

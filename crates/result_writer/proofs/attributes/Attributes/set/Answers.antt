@@ -1,4 +1,4 @@
-use Rattle.std.proofs.Common.{◌≡◌, sym, subst, get_or, false}
+use Rattle.std.proofs.Common.{◌≡◌, sym, ◌∙◌, subst, get_or, false}
 use Rattle.std.specs.Prelude.{MatchOption, OnOk}
 use Rattle.std.specs.List.{list_any}
 use Rattle.std.proofs.lemmas.Option.{slice_get-get_or}
@@ -14,7 +14,7 @@ returns-in-Some-clause-ok c =
     let first : IsFirst attrs name c.in-Some.at = subst (λ o. MatchOption o (list_any (λ a. same_name a.name name) attrs ≡ false) (IsFirst attrs name)) c.in-Some.is c.in_ok-at.ensures in
     let a = get_or attrs c.in-Some.at (record { name = name; value = c.args.value }) in
     let found = slice_get-get_or attrs c.in-Some.at (record { name = name; value = c.args.value }) first.0 in
-    subst (λ l. OnOk c.replace.result (c.replace.new.self ≡ l)) (sym (first.1 c.args.value a found)) (c.replace.ensures.ok a found)
+    c.replace.ensures a found ∙ sym (first.1 c.args.value a found)
 
 pub returns-in-None-clause-ok : goal.returns-in-None-clause-ok
 returns-in-None-clause-ok c =
