@@ -10,8 +10,8 @@ use Rattle.stx_base.specs.declared.name.Name.{Name}
 use Rattle.stx_base.specs.declared.part.Part.{Part}
 use Rattle.stx_base.specs.declared.part.Part.TheVariants as part
 use Rattle.result_writer.specs.Allowed.{is_empty, is_good_attribute, is_good_name, is_qname, same}
-use Rattle.result_writer.specs.Laws.{AreApart, DeclaresOnce, HoldsGoodTags, WritesOnce}
-use Rattle.result_writer.specs.Table.{attribute_prefix, entered, free_prefix, has_prefix, in_order, is_new, is_taken, placed, precedes, prefixes, with_attributes, with_element, with_name, with_scope}
+use Rattle.result_writer.specs.Laws.{DeclaresOnce, HoldsGoodTags, WritesOnce}
+use Rattle.result_writer.specs.Table.{AreApart, attribute_prefix, entered, free_prefix, has_prefix, in_order, is_new, is_taken, placed, precedes, prefixes, with_attributes, with_element, with_name, with_scope}
 use Rattle.result_writer.specs.Target.{AreDistinct, Left, added, fault, first_fault, left_by, next, nothing, or_else, same_name, unless, with_attribute}
 use Rattle.result_writer.specs.declared.fault.ResultFault.{ResultFault}
 use Rattle.result_writer.specs.declared.fault.ResultFault.TheVariants.{BadName}
@@ -198,7 +198,7 @@ writes-once in_force tag i j a b p h good distinct l f g fp gp local =
 
 -- Declarations
 
-apart-last : (t : List Binding) (x : Binding) → AreApart t → has_prefix t x.prefix ≡ false → AreApart (t ++ x ∷ [])
+pub apart-last : (t : List Binding) (x : Binding) → AreApart t → has_prefix t x.prefix ≡ false → AreApart (t ++ x ∷ [])
 apart-last [] x h k = (refl, tt)
 apart-last (b ∷ bs) x h k =
     let both = or_none (same b.prefix x.prefix) (has_prefix bs x.prefix) k in

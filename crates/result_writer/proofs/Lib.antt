@@ -3,6 +3,7 @@ mod Apart
 mod Attributed
 mod Bound
 mod Ended
+mod Entering
 mod Escaping
 mod Growing
 mod InFront
@@ -12,6 +13,7 @@ mod Nesting
 mod Opening
 mod Places
 mod Prefixing
+mod Sorting
 mod Steadying
 mod Tabling
 mod Texts

@@ -8,7 +8,7 @@ use Rattle.stx_base.specs.declared.part.Part.{Part}
 use Rattle.stx_base.specs.declared.part.Part.TheVariants as part
 use Rattle.result_writer.specs.Allowed.{is_good_attribute, is_good_name, is_prefix, is_word}
 use Rattle.result_writer.specs.Nodes.{Nodes, End, Chars, CData, Comment, Instruction, Nested, forest, inside, nodes_fault, parts_of, plain, unprefixed, written}
-use Rattle.result_writer.specs.Table.{bound, has_prefix, with_attributes, with_element}
+use Rattle.result_writer.specs.Table.{AreApart, bound, has_prefix, with_attributes, with_element}
 use Rattle.result_writer.specs.Tag.{dressed}
 use Rattle.result_writer.specs.Target.{first_fault, left_by, nothing, same_name, text, text_from, whole_fault, with_attribute, AreDistinct}
 use Rattle.result_writer.specs.declared.tag.HeldTag.{HeldTag}
@@ -115,11 +115,6 @@ WritesOnce =
     → slice_get (dressed in_force tag).prefixes j ≡ Some prefix
     → a.name.local ≡ b.name.local
     → ⊥
-
--- no prefix has two bindings
-abbrev pub AreApart : List Binding → Type 0
-AreApart [] = Unit {0}
-AreApart (b ∷ bs) = (has_prefix bs b.prefix ≡ false) × AreApart bs
 
 -- No tag declares a prefix twice.
 abbrev pub DeclaresOnce : Type 0

@@ -1,5 +1,5 @@
 -- The prefixes of a start tag, and what is declared in it (Namespaces in XML 1.0, 3, 5 and 6).
-use Rattle.std.specs.Prelude.{◌≡◌, ◌<◌, ◌≤◌, ℕ, zero, suc, ◌+◌, Bool, true, ◌&&◌, ◌||◌, not, if◌then◌else◌, List, [], ◌∷◌, ◌++◌, codes, length, filter, encode_utf8_all}
+use Rattle.std.specs.Prelude.{◌≡◌, ◌<◌, ◌≤◌, ℕ, zero, suc, ◌+◌, Bool, true, false, ◌&&◌, ◌||◌, not, if◌then◌else◌, List, [], ◌∷◌, ◌++◌, codes, length, filter, encode_utf8_all}
 use Rattle.std.specs.Cmp.Lexicographic.{slice_cmp}
 use Rattle.std.specs.Fmt.{decimal}
 use Rattle.std.specs.List.{list_any}
@@ -13,6 +13,11 @@ use Rattle.result_writer.specs.Allowed.{is_empty, is_word, same}
 
 abbrev pub has_prefix : List Binding → List ℕ → Bool
 has_prefix table prefix = list_any (λ b. same b.prefix prefix) table
+
+-- no prefix has two bindings
+abbrev pub AreApart : List Binding → Type 0
+AreApart [] = Unit {0}
+AreApart (b ∷ bs) = (has_prefix bs b.prefix ≡ false) × AreApart bs
 
 -- the table has the prefix with another URI
 abbrev pub is_taken : List Binding → Name → Bool

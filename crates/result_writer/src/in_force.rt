@@ -1,6 +1,6 @@
-//! The bindings that the open elements declared, of which the last one of a prefix is found without a walk over all.
+//! Bindings, as those that the open elements declared, of which the last one of a prefix is found without a walk over all.
 
-ghost use Rattle.std.specs.Prelude.{◌≡◌, ◌<◌, ◌-◌, ◌^◌, ◌++◌, ◌∷◌, [], ℕ, true, false, List as Items, OnOk, OnErr, length, take, unwrap_or};
+ghost use Rattle.std.specs.Prelude.{◌≡◌, ◌<◌, ◌-◌, ◌^◌, ◌++◌, ◌∷◌, [], ℕ, true, false, List as Items, OnOk, OnErr, length, take, map, unwrap_or, IfOk};
 ghost use Rattle.std.specs.Option.{option_copied};
 ghost use Rattle.result_writer.specs.Table.{bound_from};
 
@@ -60,6 +60,19 @@ impl InForce {
         }
     }
 
+    /// All of them, in their order. After a refusal they are dropped.
+    pub fn into_list(self) -> Result<List<Binding>, Memory>
+        ensures { IfOk result (λ bindings. bindings ≡ self) }
+    {
+        let InForce { first, others } = self;
+        let mut bindings = first;
+        for entry in others.into_entries().into_vec() {
+            let Entry { binding, .. } = entry;
+            bindings.push(binding)?;
+        }
+        Ok(bindings)
+    }
+
     /// Appends bindings. After a refusal they are dropped, and all else is unchanged.
     pub fn extend(&mut self, bindings: List<Binding>) -> Result<(), Memory>
         ensures ok { OnOk result (self.new ≡ self.old ++ bindings) }
@@ -96,8 +109,9 @@ impl InForce {
         Ok(())
     }
 
+    /// Appends a binding. After a refusal it is dropped, and all else is unchanged.
     #[tactic(auto, using(crate::proofs::InFront::pushed_first, crate::proofs::InFront::pushed_other))]
-    fn push(&mut self, binding: Binding) -> Result<(), Memory>
+    pub fn push(&mut self, binding: Binding) -> Result<(), Memory>
         ensures ok { OnOk result (self.new ≡ self.old ++ binding ∷ []) }
         ensures err { OnErr result (self.new ≡ self.old) }
     {
@@ -189,6 +203,13 @@ impl Indexed {
         ensures some { result ≡ false → 0 < length self.now }
     {
         self.len() == 0
+    }
+
+    fn into_entries(self) -> List<Entry>
+        ensures { map (λ e. e.binding) result ≡ self }
+    {
+        let Indexed { entries, .. } = self;
+        entries
     }
 
     /// The URI of the last binding of the prefix.

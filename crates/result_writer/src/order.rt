@@ -1,48 +1,33 @@
 //! Declarations, ordered by their prefixes.
 
-ghost use Rattle.std.specs.Prelude.{◌≡◌, [], IfOk, OnOk, length, insert, ◌≤◌};
-ghost use Rattle.stx_base.specs.declared.name.Binding.{Binding};
-ghost use Rattle.result_writer.specs.Table.{declarations, placed, precedes};
+ghost use Rattle.std.specs.Prelude.{◌≡◌, [], IfOk, OnOk, filter};
+ghost use Rattle.result_writer.specs.Table.{declarations, in_order, is_new};
 
 use crate::in_force::InForce;
-use crate::table::is_new;
-use std::alloc::Global;
-use stx_base::{Binding, Copied, List, Memory, Text};
+use crate::table::{Table, is_new};
+use stx_base::{Binding, List, Memory};
 
-fn precedes(first: &Text, second: &Text) -> bool
-    ensures { result ≡ precedes first.now second.now }
+/// Puts bindings in the order of their prefixes.
+fn sort(bindings: &mut Vec<Binding>) -> Result<(), Memory>
+    ensures { OnOk result (bindings.new.items ≡ in_order [] bindings.old.items) }
 {
-    first.as_str() < second.as_str()
+    bindings.sort_by(|first, second| first.prefix.as_str().cmp(second.prefix.as_str()))?;
+    Ok(())
 }
 
-/// Where a binding of this prefix belongs among bindings that are in order.
-fn place(sorted: &[Binding], prefix: &Text) -> usize
-    ensures within { result ≤ length sorted.now }
-    ensures placed { (b : Binding) → b.prefix ≡ prefix.now → placed b sorted.now ≡ insert sorted.now result b }
+/// Drops the bindings that are in force.
+fn keep_new(in_force: &InForce, bindings: &mut Vec<Binding>)
+    ensures { bindings.new.items ≡ filter (is_new in_force.now) bindings.old.items }
 {
-    for (at, binding) in sorted.iter().enumerate() {
-        if precedes(prefix, &binding.prefix) {
-            return at;
-        }
-    }
-    sorted.len()
+    bindings.retain(|binding| is_new(in_force, binding));
 }
 
 /// What a tag with this table has to declare, where these bindings are in force.
-pub fn declarations(
-    alloc: Global,
-    in_force: &InForce,
-    table: &List<Binding>,
-) -> Result<List<Binding>, Memory>
-    ensures { IfOk result (λ made. made ≡ declarations in_force.now table.now) }
+pub fn declarations(in_force: &InForce, table: Table) -> Result<List<Binding>, Memory>
+    ensures { IfOk result (λ made. made ≡ declarations in_force.now table) }
 {
-    let mut sorted = Vec::new(alloc);
-    for entry in table.as_slice() {
-        if is_new(in_force, entry) {
-            let binding = entry.copy(alloc)?;
-            let at = place(&sorted, &binding.prefix);
-            sorted.insert(at, binding)?;
-        }
-    }
-    Ok(List::from_vec(sorted))
+    let mut bindings = table.into_list()?.into_vec();
+    keep_new(in_force, &mut bindings);
+    sort(&mut bindings)?;
+    Ok(List::from_vec(bindings))
 }

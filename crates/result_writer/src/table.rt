@@ -1,56 +1,94 @@
 //! The prefixes of a start tag, and what has to be declared in it.
 
-ghost use Rattle.std.specs.Prelude.{◌≡◌, if◌then◌else◌, IfOk, OnOk};
+ghost use Rattle.std.specs.Prelude.{◌≡◌, [], if◌then◌else◌, length, IfOk, OnOk};
 ghost use Rattle.result_writer.specs.Allowed.{is_empty, same};
 ghost use Rattle.result_writer.specs.Table.{attribute_prefix, bound, entered, free_prefix, HasPassed, has_prefix, is_new, is_taken, numbered, prefixes, with_attributes, with_scope};
 
 use crate::in_force::InForce;
 use crate::words::{is_empty, is_word, same};
 use std::alloc::Global;
+use std::marker::Model;
 use stx_base::{Attr, Binding, Copied, List, Memory, Name, Text};
 
-pub fn has_prefix(table: &List<Binding>, prefix: &Text) -> bool
-    ensures { result ≡ has_prefix table.now prefix.now }
-{
-    table.as_slice().iter().any(|b| same(&b.prefix, prefix))
+/// The prefixes that a tag uses, in the order in which they came, each with one URI.
+#[derive(Debug, Drop)]
+pub struct Table {
+    entries: InForce,
 }
 
-fn is_taken(table: &List<Binding>, name: &Name) -> bool
-    ensures { result ≡ is_taken table.now name.now }
-{
-    table.as_slice().iter().any(|b| same(&b.prefix, &name.prefix) && !same(&b.uri, &name.uri))
+impl Model for Table {
+    ghost use Rattle.std.specs.Prelude.{List};
+    ghost use Rattle.stx_base.specs.declared.name.Binding.{Binding};
+
+    ghost Value = { List Binding };
+
+    ghost use Rattle.result_writer.specs.Table.{AreApart};
+
+    ghost view = { λ table. table.entries };
+
+    ghost invariant = { λ table. AreApart table.entries };
 }
 
-/// Enters a prefix, unless it is there already.
-pub fn enter(
-    alloc: Global,
-    table: &mut List<Binding>,
-    prefix: &Text,
-    uri: &Text,
-) -> Result<(), Memory>
-    ensures { OnOk result (table.new ≡ entered table.old prefix.now uri.now) }
-{
-    if !has_prefix(table, prefix) {
-        let prefix = prefix.copy(alloc)?;
-        let uri = uri.copy(alloc)?;
-        table.push(Binding { prefix, uri })?;
+impl Table {
+    /// Allocates nothing.
+    pub fn new(alloc: Global) -> Table
+        ensures { result ≡ [] }
+    {
+        Table {
+            entries: InForce::new(alloc),
+        }
     }
-    Ok(())
-}
 
-/// Enters a prefix that has a URI.
-fn enter_bound(
-    alloc: Global,
-    table: &mut List<Binding>,
-    prefix: &Text,
-    uri: &Text,
-) -> Result<(), Memory>
-    ensures { OnOk result (table.new ≡ (if is_empty uri.now then table.old else entered table.old prefix.now uri.now)) }
-{
-    if is_empty(uri) {
-        return Ok(());
+    fn len(&self) -> usize
+        ensures { result ≡ length self.now }
+    {
+        self.entries.len()
     }
-    enter(alloc, table, prefix, uri)
+
+    fn has_prefix(&self, prefix: &Text) -> bool
+        ensures { result ≡ has_prefix self.now prefix.now }
+    {
+        self.entries.uri(prefix).is_some()
+    }
+
+    fn is_taken(&self, name: &Name) -> bool
+        ensures { result ≡ is_taken self.now name.now }
+    {
+        match self.entries.uri(&name.prefix) {
+            Some(uri) => !same(uri, &name.uri),
+            None => false,
+        }
+    }
+
+    /// Enters a prefix, unless it is there already.
+    pub fn enter(&mut self, alloc: Global, prefix: &Text, uri: &Text) -> Result<(), Memory>
+        ensures { OnOk result (self.new ≡ entered self.old prefix.now uri.now) }
+    {
+        if !self.has_prefix(prefix) {
+            let prefix = prefix.copy(alloc)?;
+            let uri = uri.copy(alloc)?;
+            self.entries.push(Binding { prefix, uri })?;
+        }
+        Ok(())
+    }
+
+    /// Enters a prefix that has a URI.
+    fn enter_bound(&mut self, alloc: Global, prefix: &Text, uri: &Text) -> Result<(), Memory>
+        ensures { OnOk result (self.new ≡ (if is_empty uri.now then self.old else entered self.old prefix.now uri.now)) }
+    {
+        if is_empty(uri) {
+            return Ok(());
+        }
+        self.enter(alloc, prefix, uri)
+    }
+
+    /// Its entries, in their order.
+    pub fn into_list(self) -> Result<List<Binding>, Memory>
+        ensures { IfOk result (λ entries. entries ≡ self) }
+    {
+        let Table { entries } = self;
+        entries.into_list()
+    }
 }
 
 fn numbered(alloc: Global, number: usize) -> Result<Text, Memory>
@@ -61,14 +99,14 @@ fn numbered(alloc: Global, number: usize) -> Result<Text, Memory>
 }
 
 /// The number of the first of ns0, ns1, ns2 and so on that isn't in the table, where those before `passed` are in it.
-fn first_free(alloc: Global, table: &List<Binding>, passed: usize) -> Result<usize, Memory>
+fn first_free(alloc: Global, table: &Table, passed: usize) -> Result<usize, Memory>
     requires { HasPassed table.now passed }
     ensures free { IfOk result (λ number. numbered number ≡ free_prefix table.now) }
     ensures passed { IfOk result (λ number. HasPassed table.now number) }
 {
     for number in passed..table.len() {
         let prefix = numbered(alloc, number)?;
-        if !has_prefix(table, &prefix) {
+        if !table.has_prefix(&prefix) {
             return Ok(number);
         }
     }
@@ -79,7 +117,7 @@ fn first_free(alloc: Global, table: &List<Binding>, passed: usize) -> Result<usi
 /// tried at each attribute anew.
 fn attribute_prefix(
     alloc: Global,
-    table: &List<Binding>,
+    table: &Table,
     name: &Name,
     passed: &mut usize,
 ) -> Result<Text, Memory>
@@ -87,7 +125,7 @@ fn attribute_prefix(
     ensures prefix { IfOk result (λ prefix. prefix ≡ attribute_prefix table.now name.now) }
     ensures passed { HasPassed table.now passed.new }
 {
-    if is_empty(&name.uri) || (!is_empty(&name.prefix) && !is_taken(table, name)) {
+    if is_empty(&name.uri) || (!is_empty(&name.prefix) && !table.is_taken(name)) {
         return name.prefix.copy(alloc);
     }
     let number = first_free(alloc, table, *passed)?;
@@ -98,7 +136,7 @@ fn attribute_prefix(
 /// Enters the attributes' prefixes, and hands them out.
 pub fn enter_attributes(
     alloc: Global,
-    table: &mut List<Binding>,
+    table: &mut Table,
     attrs: &[Attr],
 ) -> Result<List<Text>, Memory>
     ensures entered { OnOk result (table.new ≡ with_attributes table.old attrs.now) }
@@ -108,22 +146,18 @@ pub fn enter_attributes(
     let mut passed = 0;
     for attr in attrs {
         let prefix = attribute_prefix(alloc, table, &attr.name, &mut passed)?;
-        enter_bound(alloc, table, &prefix, &attr.name.uri)?;
+        table.enter_bound(alloc, &prefix, &attr.name.uri)?;
         prefixes.push(prefix)?;
     }
     Ok(prefixes)
 }
 
 /// Enters the bindings that are in force where the element comes from.
-pub fn enter_scope(
-    alloc: Global,
-    table: &mut List<Binding>,
-    scope: &List<Binding>,
-) -> Result<(), Memory>
+pub fn enter_scope(alloc: Global, table: &mut Table, scope: &List<Binding>) -> Result<(), Memory>
     ensures { OnOk result (table.new ≡ with_scope table.old scope.now) }
 {
     for binding in scope.as_slice() {
-        enter_bound(alloc, table, &binding.prefix, &binding.uri)?;
+        table.enter_bound(alloc, &binding.prefix, &binding.uri)?;
     }
     Ok(())
 }

@@ -12,7 +12,7 @@ use crate::escape::{Context, append_escaped};
 use crate::in_force::InForce;
 use crate::order::declarations;
 use crate::steady::keeps_names;
-use crate::table::{enter, enter_attributes, enter_scope};
+use crate::table::{Table, enter_attributes, enter_scope};
 use crate::words::is_empty;
 use std::alloc::Global;
 use stx_base::{Attr, Binding, Copied, List, Memory, Name, Text};
@@ -58,8 +58,8 @@ pub fn dress(
 pub fn attribute_prefixes(alloc: Global, name: &Name, attrs: &[Attr]) -> Result<List<Text>, Memory>
     ensures { IfOk result (λ made. made ≡ prefixes (with_element name.now) attrs.now) }
 {
-    let mut table = List::new(alloc);
-    enter(alloc, &mut table, &name.prefix, &name.uri)?;
+    let mut table = Table::new(alloc);
+    table.enter(alloc, &name.prefix, &name.uri)?;
     enter_attributes(alloc, &mut table, attrs)
 }
 
@@ -67,11 +67,11 @@ pub fn attribute_prefixes(alloc: Global, name: &Name, attrs: &[Attr]) -> Result<
 fn dress_by_table(alloc: Global, in_force: &InForce, tag: &HeldTag) -> Result<Dressed, Memory>
     ensures { IfOk result (λ made. made ≡ dressed in_force.now tag.now) }
 {
-    let mut table = List::new(alloc);
-    enter(alloc, &mut table, &tag.name.prefix, &tag.name.uri)?;
+    let mut table = Table::new(alloc);
+    table.enter(alloc, &tag.name.prefix, &tag.name.uri)?;
     let prefixes = enter_attributes(alloc, &mut table, tag.attrs.as_slice())?;
     enter_scope(alloc, &mut table, &tag.scope)?;
-    let declared = declarations(alloc, in_force, &table)?;
+    let declared = declarations(in_force, table)?;
     Ok(Dressed { declared, prefixes })
 }
 

@@ -15,12 +15,12 @@ loop-attr-preserved c =
     let within : i < length attrs = c.loop-attr-test.true in
     let item : a ≡ get_or attrs i a = c.attr-item.is in
     let prefix = c.in_ok-prefix.ensures.prefix in
-    let new : c.enter_bound.new.table ≡ with_name table a.name =
+    let new : c.enter_bound.new.self ≡ with_name table a.name =
     c.in_ok-enter_bound.ensures ∙ ap (λ p. if is_empty a.name.uri then table else entered table p a.name.uri) prefix in
     let one : c.push.new.self ≡ c.loop-attr.prefixes ++ attribute_prefix table a.name ∷ [] =
     c.in_ok-push.ensures.ok ∙ ap (λ p. c.loop-attr.prefixes ++ p ∷ []) prefix in record {
       table = ap (λ t. with_attributes t rest) new ∙ sym (with_attributes-step table attrs i a within item) ∙ c.loop-attr.invariant.table;
-      prefixes = ap (λ l. l ++ prefixes c.enter_bound.new.table rest) one
+      prefixes = ap (λ l. l ++ prefixes c.enter_bound.new.self rest) one
           ∙ append_assoc c.loop-attr.prefixes _ _
           ∙ ap (λ t. c.loop-attr.prefixes ++ attribute_prefix table a.name ∷ prefixes t rest) new
           ∙ ap (λ l. c.loop-attr.prefixes ++ l) (sym (prefixes-step table attrs i a within item))
