@@ -1,0 +1,4 @@
+pub mod Remaining
+pub mod Laws
+pub mod Beside
+pub mod MoreOf

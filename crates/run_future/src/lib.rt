@@ -1,0 +1,4 @@
+//! What a run still gives, in every state.
+#![tactic(auto)]
+
+pub mod law;
