@@ -330,12 +330,12 @@ in_main m asks order = record {
     by p stations doing.List h r list none goes alone = absurd (cc)
 
 some_begun : (n : ℕ) → n ≢ 0 → (k : ℕ) × (n ≡ suc k)
-some_begun zero no = absurd (no refl)
-some_begun (suc k) no = (k, refl)
+some_begun zero some = absurd (some refl)
+some_begun (suc k) some = (k, refl)
 
 pub anywhere : DoesAsAloneAnywhere
 anywhere given p r main left d = (
-  λ open. let begun = some_begun r.source.begun open in run_alone given p r (suc begun.0) left (d ∷ []) main.alone main.order main.looked begun.1,
+  λ going. let begun = some_begun r.source.begun going in run_alone given p r (suc begun.0) left (d ∷ []) main.alone main.order main.looked begun.1,
   λ over. run_alone given p r 0 left [] main.alone main.order main.looked over,
 )
 

@@ -75,15 +75,15 @@ gives_as_alone does given r m left x one reads = by reads
 -- A piece comes before what is to come.
 
 later_open : (r : Reader) (others : List ℕ) (ended : Bool) → r.ended ≡ false → later r others ended ≡ record r { unread = r.unread ++ others; ended = ended }
-later_open r others ended open = ap (λ b. if b then r else record r { unread = r.unread ++ others; ended = ended }) open
+later_open r others ended going = ap (λ b. if b then r else record r { unread = r.unread ++ others; ended = ended }) going
 
 fed_later : (r : Reader) (piece others : List ℕ) (ended : Bool) → r.ended ≡ false → later (record r { unread = r.unread ++ piece }) others ended ≡ later r (piece ++ others) ended
-fed_later r piece others ended open =
-    later_open (record r { unread = r.unread ++ piece }) others ended open ∙ ap (λ l. record r { unread = l; ended = ended }) (append_assoc r.unread piece others)
-    ∙ sym (later_open r (piece ++ others) ended open)
+fed_later r piece others ended going =
+    later_open (record r { unread = r.unread ++ piece }) others ended going ∙ ap (λ l. record r { unread = l; ended = ended }) (append_assoc r.unread piece others)
+    ∙ sym (later_open r (piece ++ others) ended going)
 
 ended_later : (r : Reader) (others : List ℕ) (ended : Bool) → r.ended ≡ false → later (record r { ended = true }) others ended ≡ later r [] true
-ended_later r others ended open = ap (λ l. record r { unread = l; ended = true }) (sym (append-nil r.unread)) ∙ sym (later_open r [] true open)
+ended_later r others ended going = ap (λ l. record r { unread = l; ended = true }) (sym (append-nil r.unread)) ∙ sym (later_open r [] true going)
 
 -- and once it has ended nothing does
 over_later : (r : Reader) (these others : List ℕ) (b c : Bool) → r.ended ≡ true → later r these b ≡ later r others c
@@ -100,11 +100,11 @@ by_lists_of d f = record { name = d.name; lists = f ++ behind_document d.name }
 
 fed_document : (d : Open) (piece : List ℕ) (x : Coming) → d.source.lexer.ended ≡ false
     → document_to_come (record d { source = fed_with d.source piece }) x ≡ document_to_come d (record x { bytes = piece ++ x.bytes })
-fed_document d piece x open = ap (λ l. by_lists_of d (future_by d.source l)) (fed_later d.source.lexer piece x.bytes x.ended open)
+fed_document d piece x going = ap (λ l. by_lists_of d (future_by d.source l)) (fed_later d.source.lexer piece x.bytes x.ended going)
 
 ended_document : (d : Open) (x : Coming) → d.source.lexer.ended ≡ false
     → document_to_come (record d { source = ended_there d.source }) x ≡ document_to_come d (record { bytes = []; ended = true })
-ended_document d x open = ap (λ l. by_lists_of d (future_by d.source l)) (ended_later d.source.lexer x.bytes x.ended open)
+ended_document d x going = ap (λ l. by_lists_of d (future_by d.source l)) (ended_later d.source.lexer x.bytes x.ended going)
 
 over_document : (d : Open) (x y : Coming) → d.source.lexer.ended ≡ true → document_to_come d x ≡ document_to_come d y
 over_document d x y over = ap (λ l. by_lists_of d (future_by d.source l)) (over_later d.source.lexer x.bytes y.bytes x.ended y.ended over)
@@ -144,21 +144,21 @@ of_newest s p reading may = absurd reading
 
 fed_come : (ds : List Open) (piece : List ℕ) (p : Piece) (xs : List Coming) → ((x : Coming) → with_piece p x ≡ record x { bytes = piece ++ x.bytes }) → IsOpenFirst ds
     → to_come (fed_first piece ds) xs ≡ to_come ds (with_newest p xs)
-fed_come [] piece p xs is open = absurd open
-fed_come (d ∷ ds) piece p [] is open = ap (λ y. y ∷ to_come ds []) (fed_document d piece nothing_yet open ∙ ap (document_to_come d) (sym (is nothing_yet)))
-fed_come (d ∷ ds) piece p (x ∷ xs) is open = ap (λ y. y ∷ to_come ds xs) (fed_document d piece x open ∙ ap (document_to_come d) (sym (is x)))
+fed_come [] piece p xs is going = absurd going
+fed_come (d ∷ ds) piece p [] is going = ap (λ y. y ∷ to_come ds []) (fed_document d piece nothing_yet going ∙ ap (document_to_come d) (sym (is nothing_yet)))
+fed_come (d ∷ ds) piece p (x ∷ xs) is going = ap (λ y. y ∷ to_come ds xs) (fed_document d piece x going ∙ ap (document_to_come d) (sym (is x)))
 
 end_come : (ds : List Open) (xs : List Coming) → IsOpenFirst ds → to_come (ended_first ds) xs ≡ to_come ds (with_newest piece.End xs)
-end_come [] xs open = absurd open
-end_come (d ∷ ds) [] open = ap (λ y. y ∷ to_come ds []) (ended_document d nothing_yet open)
-end_come (d ∷ ds) (x ∷ xs) open = ap (λ y. y ∷ to_come ds xs) (ended_document d x open)
+end_come [] xs going = absurd going
+end_come (d ∷ ds) [] going = ap (λ y. y ∷ to_come ds []) (ended_document d nothing_yet going)
+end_come (d ∷ ds) (x ∷ xs) going = ap (λ y. y ∷ to_come ds xs) (ended_document d x going)
 
 come_first : (r : Run) (p : Piece) (xs : List Coming) → IsOpenFirst r.documents → IsOfNewest p → to_come (handed r p) xs ≡ to_come r.documents (with_newest p xs)
-come_first r piece.Start xs open newest = absurd newest
-come_first r (piece.Bytes bytes) xs open newest = fed_come r.documents bytes.now (piece.Bytes bytes) xs (λ x. refl) open
-come_first r piece.End xs open newest = end_come r.documents xs open
-come_first r piece.Opened xs open newest = absurd newest
-come_first r piece.Absent xs open newest = absurd newest
+come_first r piece.Start xs going newest = absurd newest
+come_first r (piece.Bytes bytes) xs going newest = fed_come r.documents bytes.now (piece.Bytes bytes) xs (λ x. refl) going
+come_first r piece.End xs going newest = end_come r.documents xs going
+come_first r piece.Opened xs going newest = absurd newest
+come_first r piece.Absent xs going newest = absurd newest
 
 -- it gives what is said of what is to come
 by_come : (s : Stage) (given : Given) (ds es : List Open) (m : Machine) (left : Left) (xs ys : List Coming) → to_come ds xs ≡ to_come es ys
@@ -246,7 +246,7 @@ opened_goes_on nodes stands document given r m n left name x xs is waits program
     let fs = reverse m.run.frames.frames in
     let es = to_come r.documents xs in
     let list = doc_for r.limits r.strip r.cdata x.bytes x.ended in
-    let d = record { name = Some name; lists = list ∷ [] } in
+    let d : ToCome = record { name = Some name; lists = list ∷ [] } in
     let f = Source_frame None 0 (asked_in given p fs) in
     let g = within (Opened (Some name) (asked_at given p fs) (sources_open (ground_of given p m.run es).here.source + 1)) (list ∷ []) (ground_of given p m.run es) in
     ap (λ s. more_at s given r.documents m left xs) is

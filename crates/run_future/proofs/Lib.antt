@@ -1,6 +1,6 @@
 pub mod Held
 pub mod Standing
 pub mod Alone
-pub mod Reads
+pub mod Sources
 pub mod Regions
 pub mod Given

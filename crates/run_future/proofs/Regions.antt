@@ -140,9 +140,9 @@ module _ (given : Given) (p : Program) where
   kids_spot : (fs : List Frame) (x : PathNode) (xs : List PathNode) (g : Ground) (k : Ground → Here → Flat_does) (st : State) → spent_in fs ≡ Some false → has_kids x.node ≡ true
       → future.instr_over given p fs k (with_nodes (x ∷ xs) g) st
       ≡ k (list_taken (list_taken (with_nodes (x ∷ xs) g))) (standing.stands (Some (inner g.here.lists)) (left_kids given p (with_nodes (x ∷ xs) g)) st)
-  kids_spot fs x xs g k st open kids =
+  kids_spot fs x xs g k st going kids =
       ap (λ b. spot given p b (unwrap_or (spent_in fs) true || not (has_kids x.node)) (with_nodes (x ∷ xs) g) k st) (kids_apart x.node kids)
-      ∙ ap (λ s. spot given p false (unwrap_or s true || not (has_kids x.node)) (with_nodes (x ∷ xs) g) k st) open
+      ∙ ap (λ s. spot given p false (unwrap_or s true || not (has_kids x.node)) (with_nodes (x ∷ xs) g) k st) going
       ∙ ap (λ b. spot given p false (not b) (with_nodes (x ∷ xs) g) k st) kids
 
   -- the siblings that remain, and then what waits
@@ -201,11 +201,11 @@ module _ (given : Given) (p : Program) where
       → AsksForSiblings given p fs (with_nodes (x ∷ xs) g) level c → spent_in fs ≡ Some false → has_kids x.node ≡ true
       → future.waits_for given p (λ self. siblings_of given (asked_beside given (asked_at given p fs) (asks given p fs self).base (asks given p fs self).params c self)) fs (with_nodes (x ∷ xs) g) st
       ≡ future.goes_on given p doing.List (Skip 0 ∷ Region (asked_in given p fs) level ∷ fs) (record (with_nodes (x ∷ xs) g) { aside = None ∷ g.aside }) st
-  region_skips silent fs x xs g st level c asks_so open kids =
+  region_skips silent fs x xs g st level c asks_so going kids =
       let q = asks_siblings fs level xs g.here.source in
       let left = left_kids given p (with_nodes (x ∷ xs) g) in
       let behind_kids = list_taken (list_taken (with_nodes (x ∷ xs) g)) in
-      kids_spot fs x xs g (does fs c) st open kids
+      kids_spot fs x xs g (does fs c) st going kids
       ∙ does_siblings fs x xs g level c None (outer (outer g.here.lists)) (standing.stands (Some (inner g.here.lists)) left st) asks_so
       ∙ skipped_alike silent fs q g.here.source (inner g.here.lists) left st behind_kids (standing.with_locals given p fs (standing.stands (Some (inner g.here.lists)) left st)) refl
 
@@ -278,7 +278,7 @@ pub regions_begin : RegionsBegin
 regions_begin given p fs x xs g st level c asks_so are_gone = region_begins given p fs x xs g st level c asks_so are_gone
 
 pub regions_skip : SkipsSilently → RegionsSkip
-regions_skip silent given p fs x xs g st level c asks_so open kids = region_skips given p silent fs x xs g st level c asks_so open kids
+regions_skip silent given p fs x xs g st level c asks_so going kids = region_skips given p silent fs x xs g st level c asks_so going kids
 
 pub heads_are_held : HeadsAreHeld
 heads_are_held given p asked level fs first x xs g f st end are_gone ends =

@@ -17,7 +17,7 @@ use Rattle.sheet_model.specs.declared.instr.Instr.TheOpen.{Instr-F}
 use Rattle.sheet_model.specs.declared.instr.Instr.TheViews.{out-Instr}
 use Rattle.sheet_model.specs.declared.instr.When.{When}
 use Rattle.xml_events.specs.Document.{inner}
-use Rattle.xml_events.specs.Tree.{End, Forest, Future, Mark, Why}
+use Rattle.xml_events.specs.Tree.{Begun, End, Forest, Future, Mark, Why}
 use Rattle.template_machine.specs.Acting.{begins_reading, buffer_nodes, document_nodes, ends_reading}
 use Rattle.template_machine.specs.Between.{IsAsking}
 use Rattle.template_machine.specs.Bodies.{takes_events}
@@ -41,7 +41,7 @@ use Rattle.template_machine.specs.declared.run.Run.{Run}
 use Rattle.template_machine.specs.declared.source.Ahead.TheVariants as ahead
 use Rattle.template_machine.specs.declared.source.Origin.{Origin}
 use Rattle.template_machine.specs.declared.source.Origin.TheVariants as origin
-use Rattle.run_future.specs.Remaining.{Ground, Reading, ToCome, asked_at, asked_in, asks, buffers_around, goes_on, ground_of, lists_left, lists_of, remaining, remaining_in, waiter, waits_for, wanted}
+use Rattle.run_future.specs.Remaining.{Ground, Reading, ToCome, asked_at, asked_in, asks, buffers_around, goes_on, ground_of, lists_left, remaining, remaining_in, waiter, waits_for, wanted}
 
 -- Where the main document alone is read.
 
@@ -66,7 +66,7 @@ abbrev pub DoesAsAloneAnywhere : Type 0
 DoesAsAloneAnywhere =
     (given : Given) (p : Program) (r : Run) → IsOfMain p r → (left : Left) (d : ToCome)
     → (r.source.begun ≢ 0 → remaining_in given p r left (d ∷ []) ≡ still.still given p r left d.lists)
-    × (r.source.begun ≡ 0 → remaining_in given p r left [] ≡ still.still given p r left (lists_of origin.Main 0 0 r.putting.buffers None))
+    × (r.source.begun ≡ 0 → remaining_in given p r left [] ≡ still.still given p r left (End Begun 0 ∷ []))
 
 -- Sources that begin.
 

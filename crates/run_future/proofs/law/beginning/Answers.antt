@@ -1,5 +1,5 @@
 use Rattle.run_future.proofs.Held.{holds_nodes}
-use Rattle.run_future.proofs.Reads.{stands_in_buffer, stands_in_document}
+use Rattle.run_future.proofs.Sources.{stands_in_buffer, stands_in_document}
 use Rattle.run_future.proofs.Standing.{sources_begin}
 use Rattle.run_future.proofs.law.beginning.Goals as goal
 

@@ -1,4 +1,4 @@
-use Rattle.run_future.proofs.Reads.{buffers_end, documents_end, ends_are_told}
+use Rattle.run_future.proofs.Sources.{buffers_end, documents_end, ends_are_told}
 use Rattle.run_future.proofs.Standing.{sources_end}
 use Rattle.run_future.proofs.law.ending.Goals as goal
 

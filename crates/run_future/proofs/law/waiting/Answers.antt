@@ -1,4 +1,4 @@
-use Rattle.run_future.proofs.Reads.{goes_no_further}
+use Rattle.run_future.proofs.Sources.{goes_no_further}
 use Rattle.run_future.proofs.Standing.{waits_for_nodes}
 use Rattle.run_future.proofs.law.waiting.Goals as goal
 
