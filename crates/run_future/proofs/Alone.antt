@@ -305,15 +305,17 @@ module _ (given : Given) (p : Program) where
           (outer (still.lists_ahead given p h r f))
           (remains (record { earlier = still.before_front given p h (nodes_of r.source) (held_node r.source); coming = inner (still.lists_ahead given p h r f) }) (still.state_of given p r left))) none)
 
-  pub run_alone : (r : Run) (begun : ℕ) (left : Left) (ds : List ToCome) → IsAlone p r → AreInOrder (reverse r.frames.frames) → HeadIsInList r → r.source.begun ≡ begun
-      → remaining_in given p r left ds ≡ still.still given p r left (lists_of origin.Main begun r.source.next r.putting.buffers (document_of origin.Main begun ds))
-  run_alone r begun left ds alone order looked is =
-      let f = lists_of origin.Main begun r.source.next r.putting.buffers (document_of origin.Main begun ds) in
+  pub run_alone : (r : Run) (begun : ℕ) (left : Left) (ds : List ToCome) (f : Future) → IsAlone p r → AreInOrder (reverse r.frames.frames) → HeadIsInList r → r.source.begun ≡ begun
+      → lists_of origin.Main begun r.source.next r.putting.buffers (document_of origin.Main begun ds) ≡ f
+      → remaining_in given p r left ds ≡ still.still given p r left f
+  run_alone r begun left ds f alone order looked is come =
+      let g = lists_of origin.Main begun r.source.next r.putting.buffers (document_of origin.Main begun ds) in
       let fs = reverse r.frames.frames in
       let st = still.state_of given p r left in
-      ap (λ g. future.goes_on given p r.doing fs g st) (ground_alone r begun ds alone is)
-      ∙ run_alike r.doing (takes_events fs) r.source.ahead fs (nodes_of r.source) (held_node r.source) f st refl alone.held looked order
-      ∙ still_alone r.doing r.source.ahead fs r left f alone.aside
+      ap (λ x. future.goes_on given p r.doing fs x st) (ground_alone r begun ds alone is)
+      ∙ run_alike r.doing (takes_events fs) r.source.ahead fs (nodes_of r.source) (held_node r.source) g st refl alone.held looked order
+      ∙ still_alone r.doing r.source.ahead fs r left g alone.aside
+      ∙ ap (λ x. still.still given p r left x) come
 
 -- of a machine that asks for an event of it
 in_main : (m : Machine) → IsAsking m → RunsInOrder m → IsOfMain m.program m.run
@@ -335,8 +337,8 @@ some_begun (suc k) some = (k, refl)
 
 pub anywhere : DoesAsAloneAnywhere
 anywhere given p r main left d = (
-  λ going. let begun = some_begun r.source.begun going in run_alone given p r (suc begun.0) left (d ∷ []) main.alone main.order main.looked begun.1,
-  λ over. run_alone given p r 0 left [] main.alone main.order main.looked over,
+  λ going. let begun = some_begun r.source.begun going in run_alone given p r (suc begun.0) left (d ∷ []) d.lists main.alone main.order main.looked begun.1 refl,
+  λ over. run_alone given p r 0 left [] (End Begun 0 ∷ []) main.alone main.order main.looked over refl,
 )
 
 -- it is open, as one document is
