@@ -1,8 +1,6 @@
 -- What is still to come of the documents that an engine reads.
-use Rattle.std.proofs.Common.{◌≡◌, ◌⊎◌, inl, inr, ℕ, ◌+◌, Bool, true, false, if◌then◌else◌, List, [], ◌∷◌, ◌++◌, map, reverse, Option, Some, None, refl, sym, ap, subst, ◌∙◌, append-nil, append_assoc}
+use Rattle.std.proofs.Common.{◌≡◌, inl, inr, ℕ, ◌+◌, Bool, true, false, if◌then◌else◌, List, [], ◌∷◌, ◌++◌, map, reverse, Some, None, refl, sym, ap, ◌∙◌, append-nil, append_assoc}
 use Rattle.stx_base.specs.Course.{Halt, Same}
-use Rattle.stx_base.proofs.Course.{same_equal, same_then}
-use Rattle.stx_base.specs.declared.fault.RunCode.TheVariants.{NoDocument}
 use Rattle.frame_stack.specs.declared.frame.Frame.{Frame}
 use Rattle.frame_stack.specs.declared.frame.Frame.TheVariants.{Source as Source_frame}
 use Rattle.result_writer.specs.Target.{Left}
@@ -10,17 +8,16 @@ use Rattle.var_store.specs.Copies.{Stored}
 use Rattle.xml_tokens.specs.Reader.{Reader}
 use Rattle.xml_events.specs.Document.{doc_for, finished, inner, lists_of, reading_from, with_items}
 use Rattle.xml_events.specs.Laws.{HasDocument}
-use Rattle.xml_events.specs.Source.{Source, ended_there, fed_with, future, later, source_for, unless_over}
+use Rattle.xml_events.specs.Source.{Source, ended_there, fed_with, future, later, unless_over}
 use Rattle.xml_events.specs.Telling.{told}
-use Rattle.xml_events.specs.Tree.{Begun, End, Forest, Future, Need}
+use Rattle.xml_events.specs.Tree.{Future, Need}
 use Rattle.template_machine.specs.Between.{IsAsking}
-use Rattle.template_machine.specs.Ending.{Needs, fault_at}
-use Rattle.template_machine.specs.Fuel.{unready}
+use Rattle.template_machine.specs.Ending.{Needs}
 use Rattle.template_machine.specs.Giving as giving
 use Rattle.template_machine.specs.Giving.{RunsInOrder, StopsAt, whole}
 use Rattle.template_machine.specs.Job.{Given, Opened, State, sources_open}
 use Rattle.template_machine.specs.Still as still
-use Rattle.template_machine.specs.Stepwise.{Flat_does, flat_code}
+use Rattle.template_machine.specs.Stepwise.{flat_code}
 use Rattle.template_machine.specs.declared.machine.Machine.{Machine}
 use Rattle.template_machine.specs.declared.program.Program.{Program}
 use Rattle.template_machine.specs.declared.putting.Putting.{Putting}
@@ -33,7 +30,7 @@ use Rattle.run_engine.specs.Taking.{AreEnded, ended_first, fed_first, handed, op
 use Rattle.run_engine.specs.declared.piece.Piece.{Piece}
 use Rattle.run_engine.specs.declared.piece.Piece.TheVariants as piece
 use Rattle.run_engine.proofs.Future.{stops}
-use Rattle.run_future.specs.Laws.{DoesAsAlone, GoesNoFurther, StandsInDocument, WaitsForDocument, WaitsForNodes, Waits, Enters, within}
+use Rattle.run_future.specs.Laws.{DoesAsAlone, GoesNoFurther, StandsInDocument, WaitsForNodes, Waits, within}
 use Rattle.run_future.specs.MoreOf as more
 use Rattle.run_future.specs.MoreOf.{IsMainAlone, IsReading, ReadsMain, behind_document, document_to_come, more_at, more_of, to_come, tree_of, with_all, with_newest}
 use Rattle.run_future.specs.Remaining.{ToCome, asked_at, asked_in, goes_on, ground_of, remaining, remaining_in, wanting}

@@ -1,8 +1,8 @@
 -- What buffers hold, and how copies are opened and closed.
-use Rattle.std.proofs.Common.{◌≡◌, ℕ, zero, suc, Bool, true, false, List, [], ◌∷◌, Option, Some, None, refl, ap, sym, ◌∙◌}
+use Rattle.std.proofs.Common.{◌≡◌, ℕ, zero, suc, List, [], ◌∷◌, Some, None, refl, ap, sym, ◌∙◌}
 use Rattle.std.specs.Prelude.{if◌then◌else◌, slice_get, slice_set, unwrap_or}
 use Rattle.std.specs.Option.{option_and_then}
-use Rattle.event_buffers.specs.Buffers.{Buffer, Buffers, buffer_at, busy_at, is_read, newest, none, on_buffer, on_first, on_newest, with_copies}
+use Rattle.event_buffers.specs.Buffers.{Buffer, Buffers, busy_at, is_read, newest, none, on_buffer, on_first, on_newest, with_copies}
 use Rattle.event_buffers.specs.Forest as buffers
 use Rattle.event_buffers.specs.Forest.{element_of, forest, kept_before, lists, text_before}
 use Rattle.event_buffers.specs.Layer.{Layer, Reading, Shut, State, Writing, busy, closed, is_shut, opened_read}

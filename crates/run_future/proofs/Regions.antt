@@ -1,7 +1,7 @@
 -- Nodes that wait for their siblings, heads, and levels.
-use Rattle.std.proofs.Common.{◌≡◌, ◌⊎◌, inl, inr, ℕ, ◌+◌, ◌==◌, Bool, true, false, not, ◌||◌, List, [], ◌∷◌, ◌++◌, Option, Some, None, refl, ap, sym, ◌∙◌, arith}
+use Rattle.std.proofs.Common.{◌≡◌, ◌⊎◌, inl, inr, ℕ, ◌+◌, ◌==◌, true, false, not, ◌||◌, List, [], ◌∷◌, ◌++◌, Option, Some, None, refl, ap, sym, ◌∙◌, arith}
 use Rattle.std.specs.Prelude.{if◌then◌else◌, unwrap_or}
-use Rattle.stx_base.specs.Course.{Ask, Halt, Ret, Same, and_then}
+use Rattle.stx_base.specs.Course.{Ask, Halt, Ret, and_then}
 use Rattle.stx_base.specs.declared.node.NodeTest.{NodeTest}
 use Rattle.stx_base.proofs.Course.{funext, same_equal, same_then}
 use Rattle.frame_stack.specs.Frame.{opens_list}
@@ -12,16 +12,14 @@ use Rattle.node_stack.specs.Path.{Attribute, CData, Chars, Comment, Document, El
 use Rattle.xml_events.specs.Document.{inner, outer}
 use Rattle.xml_events.specs.Tree.{Forest, Future}
 use Rattle.template_machine.specs.Acting.{asked_beside, siblings_of}
-use Rattle.template_machine.specs.Bodies.{level_in, level_of, spent_in}
+use Rattle.template_machine.specs.Bodies.{level_in, spent_in}
 use Rattle.template_machine.specs.Ending.{Ending}
 use Rattle.template_machine.specs.Fuel.{skip}
 use Rattle.template_machine.specs.Job.{Asked, Condition, Does, Given, Here, Level, Nodes, Siblings, Source, State, remains, single}
 use Rattle.template_machine.specs.Laws.{SkipsSilently}
-use Rattle.template_machine.specs.Lists.{rest_of}
-use Rattle.template_machine.specs.Meaning.{at_document, ends_some, head, nodes, siblings, taken}
-use Rattle.template_machine.specs.Passing.{finish, gone, node}
+use Rattle.template_machine.specs.Meaning.{ends_some, head, nodes, siblings, taken}
+use Rattle.template_machine.specs.Passing.{gone, node}
 use Rattle.template_machine.specs.Programs.{instr_at}
-use Rattle.template_machine.specs.Steps.{group_of}
 use Rattle.template_machine.specs.Still as still
 use Rattle.template_machine.specs.Still.{Lists, Returns, counts_of, has_kids, trail_of}
 use Rattle.template_machine.specs.Stepwise.{Flat_does, Working, flat_code, lifted}

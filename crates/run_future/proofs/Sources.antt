@@ -1,14 +1,12 @@
 -- Runs that begin to read a source, that leave one, and that wait.
-use Rattle.std.proofs.Common.{◌≡◌, ℕ, zero, suc, ◌+◌, ◌≤◌, Bool, true, false, List, [], ◌∷◌, ◌++◌, map, reverse, Option, Some, None, refl, ap, sym, subst, ◌∙◌, arith}
-use Rattle.std.specs.Prelude.{drop}
-use Rattle.std.specs.Option.{option_map, option_map_or}
+use Rattle.std.proofs.Common.{◌≡◌, ℕ, zero, suc, ◌+◌, ◌≤◌, true, List, [], ◌∷◌, ◌++◌, map, reverse, Option, Some, None, refl, ap, sym, subst, ◌∙◌, arith}
+use Rattle.std.specs.Option.{option_map}
 use Rattle.std.proofs.lemmas.List.{reverse-append}
 use Rattle.stx_base.specs.Course.{Halt, Ret, Same}
 use Rattle.stx_base.specs.declared.fault.Place.{Place}
 use Rattle.stx_base.proofs.Course.{same_equal, same_then}
 use Rattle.event_buffers.specs.Buffers.{Buffers, busy_at, is_read, on_buffer, on_first, on_newest, read_at}
 use Rattle.event_buffers.specs.Layer.{closed, opened_read}
-use Rattle.frame_stack.specs.declared.frame.Frame.{Frame}
 use Rattle.frame_stack.specs.declared.frame.Frame.TheVariants.{Source as Source_frame}
 use Rattle.node_stack.specs.Path as paths
 use Rattle.node_stack.specs.Path.{PathNode}
@@ -17,8 +15,7 @@ use Rattle.node_stack.specs.declared.parked.Parked.{Parked}
 use Rattle.result_writer.specs.Target.{Left}
 use Rattle.var_store.specs.Copies.{Stored}
 use Rattle.xml_events.specs.Document.{inner}
-use Rattle.xml_events.specs.Tree.{Begun, End, Forest, Fresh, Future, Mark, Why}
-use Rattle.template_machine.specs.Between.{IsAsking}
+use Rattle.xml_events.specs.Tree.{Begun, End, Fresh, Future, Mark, Why}
 use Rattle.template_machine.specs.Bodies.{takes_events}
 use Rattle.template_machine.specs.Contexts.{Station}
 use Rattle.template_machine.specs.Fuel.{unready}
@@ -31,7 +28,6 @@ use Rattle.template_machine.specs.Still as still
 use Rattle.template_machine.specs.Still.{counts_of, nodes_of}
 use Rattle.template_machine.specs.Stepwise.{Flat_does, flat_code}
 use Rattle.template_machine.specs.Well.{GoesOn}
-use Rattle.template_machine.specs.declared.machine.Machine.{Machine}
 use Rattle.template_machine.specs.declared.program.Program.{Program}
 use Rattle.template_machine.specs.declared.run.Doing.{Doing}
 use Rattle.template_machine.specs.declared.run.Doing.TheVariants as doing

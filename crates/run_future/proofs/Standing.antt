@@ -1,12 +1,11 @@
 -- Where bodies go on, and how open lists and sources do.
-use Rattle.std.proofs.Common.{◌≡◌, ℕ, zero, suc, ◌+◌, ◌-◌, Bool, true, false, not, ◌||◌, List, [], ◌∷◌, ◌++◌, Option, Some, None, refl, ap, sym, subst, ◌∙◌}
+use Rattle.std.proofs.Common.{◌≡◌, ℕ, zero, suc, ◌+◌, ◌-◌, Bool, true, false, not, ◌||◌, List, [], ◌∷◌, ◌++◌, Option, Some, None, refl, ap, sym, ◌∙◌}
 use Rattle.std.specs.Prelude.{if◌then◌else◌, nat_lt, unwrap_or}
 use Rattle.std.specs.Option.{option_map_or}
 use Rattle.stx_base.specs.Course.{Ask, Halt, Ret, Same, and_then}
-use Rattle.stx_base.specs.declared.fault.Place.{Place}
 use Rattle.stx_base.specs.declared.fault.RunCode.TheVariants as code
 use Rattle.stx_base.specs.declared.node.NodeTest.{NodeTest}
-use Rattle.stx_base.proofs.Course.{funext, same_call, same_equal, same_then, unfolds}
+use Rattle.stx_base.proofs.Course.{funext, same_equal, same_then, unfolds}
 use Rattle.event_buffers.specs.Buffers.{busy_at, read_at}
 use Rattle.event_buffers.specs.Forest.{forest}
 use Rattle.frame_stack.specs.declared.frame.Frame.{Frame}
@@ -25,7 +24,7 @@ use Rattle.xml_events.specs.Tree.{Begun, Cut, End, Forest, Fresh, Future, Mark, 
 use Rattle.template_machine.specs.Acting.{asked_of, begins_reading, buffer_nodes, document_nodes, ends_reading, opens}
 use Rattle.template_machine.specs.Bodies.{spent_in}
 use Rattle.template_machine.specs.Declaring.{at_start}
-use Rattle.template_machine.specs.Ending.{Ending, fault_at}
+use Rattle.template_machine.specs.Ending.{fault_at}
 use Rattle.template_machine.specs.Fuel.{ended, skip, unready}
 use Rattle.template_machine.specs.Giving.{StopsAt}
 use Rattle.template_machine.specs.Job as job
@@ -33,7 +32,6 @@ use Rattle.template_machine.specs.Job.{Asked, Does, Given, Here, Job, Main, Node
 use Rattle.template_machine.specs.Lists.{rest_of}
 use Rattle.template_machine.specs.Meaning.{at_document, nodes}
 use Rattle.template_machine.specs.Passing as passing
-use Rattle.template_machine.specs.Programs.{instr_at}
 use Rattle.template_machine.specs.Putting.{unless_refused}
 use Rattle.template_machine.specs.Seen.{named_of}
 use Rattle.template_machine.specs.Still as still

@@ -25,7 +25,7 @@ use Rattle.template_machine.specs.Ending.{fault_at}
 use Rattle.template_machine.specs.Fuel.{unready}
 use Rattle.template_machine.specs.Giving as giving
 use Rattle.template_machine.specs.Giving.{RunsInOrder, StopsAt}
-use Rattle.template_machine.specs.Job.{Given, Main, Opened, Self, Source, State, single, sources_open}
+use Rattle.template_machine.specs.Job.{Given, Main, Opened, Source, State, single, sources_open}
 use Rattle.template_machine.specs.Listed.{AreInOrder}
 use Rattle.template_machine.specs.Ordinary.{IsAlone}
 use Rattle.template_machine.specs.Programs.{instr_at}

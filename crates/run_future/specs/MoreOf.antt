@@ -1,5 +1,5 @@
 -- What a run of an engine still gives in every state, by the bytes that are still to come of its documents.
-use Rattle.std.specs.Prelude.{◌≡◌, ◌⊎◌, ℕ, false, true, List, [], ◌∷◌, ◌++◌, Option, Some, None, reverse}
+use Rattle.std.specs.Prelude.{◌≡◌, ◌⊎◌, ℕ, true, List, [], ◌∷◌, ◌++◌, Option, Some, None, reverse}
 use Rattle.std.specs.Option.{option_map_or}
 use Rattle.stx_base.specs.Course.{Halt, Same}
 use Rattle.stx_base.specs.declared.fault.RunCode.TheVariants.{NoDocument}
