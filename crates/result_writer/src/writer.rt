@@ -198,6 +198,7 @@ impl Writer {
 
     /// The same of a start in the scope of the start before, or in one without bindings where there was none. The texts of the
     /// tag before are kept in `spare`.
+    #[inline(always)]
     pub fn put_start_again(
         &mut self,
         name: Name,
@@ -237,6 +238,7 @@ impl Writer {
     }
 
     /// Whether attributes can be put at once.
+    #[inline(always)]
     pub fn takes_at_once(&self, attrs: &[Attr]) -> bool
         ensures { result ≡ true → TakesAtOnce self.now.left attrs.now }
     {
@@ -245,6 +247,7 @@ impl Writer {
 
     /// The same of all attributes of a tag, without moving each of them. Allocates nothing. After a refusal they are dropped,
     /// and all else is unchanged.
+    #[inline(always)]
     pub fn put_attributes(&mut self, attrs: List<Attr>) -> Result<(), ResultFault>
         requires { TakesAtOnce self.old.left attrs }
         ensures taken { OnOk result (first_fault self.old.limit self.old.left (map attribute_part attrs) ≡ None) }
@@ -317,6 +320,7 @@ impl Writer {
 
     /// Ends the innermost element as `put_end` does, whose name needn't be known, and is kept in `spare`. After a refusal all is
     /// unchanged.
+    #[inline(always)]
     pub fn end_innermost(&mut self, spare: &mut Spare, out: &mut Vec<u8>) -> Result<(), WriteStop>
         ensures unmatched { innermost self.old.left.elements self.old.left.held ≡ None → result ≡ Err (WriteStop.Fault ResultFault.UnmatchedEnd) }
         ensures memory { (name : Spelled) → innermost self.old.left.elements self.old.left.held ≡ Some name → IfErr result (λ stop. stop ≡ WriteStop.Memory) }
@@ -362,6 +366,7 @@ impl Writer {
     }
 
     /// The same of characters. After a refusal all is unchanged.
+    #[inline(always)]
     pub fn put_chars(&mut self, text: &Text, out: &mut Vec<u8>) -> Result<(), WriteStop>
         ensures taken { OnOk result (spec.fault self.old.limit self.old.left (Chars text.now) ≡ None) }
         ensures fault { IfErr result (IsCause (spec.fault self.old.limit self.old.left (Chars text.now))) }
@@ -540,6 +545,7 @@ fn start_dressed(
 }
 
 /// The same of a start in the scope of the start before.
+#[inline(always)]
 #[tactic(auto, using(crate::proofs::Growing::begins_trans, crate::proofs::Growing::begins_self))]
 fn start_again(
     opened: &mut Opened,
@@ -596,6 +602,7 @@ fn end(opened: &mut Opened, out: &mut Vec<u8>) -> Result<Option<Name>, Memory>
 }
 
 /// The same of characters.
+#[inline(always)]
 #[tactic(auto, using(crate::proofs::Growing::begins_trans, crate::proofs::Growing::begins_self))]
 fn chars(opened: &mut Opened, text: &Text, out: &mut Vec<u8>) -> Result<(), WriteStop>
     ensures taken { OnOk result (chars_fault text.now ≡ None) }
