@@ -202,6 +202,7 @@ impl Copier {
     }
 
     // Puts an element's start, and its attributes.
+    #[inline(always)]
     fn put_start_tag(
         &mut self,
         name: Name,
@@ -235,6 +236,7 @@ impl Copier {
         Ok(())
     }
 
+    #[inline(always)]
     fn chars(&mut self, text: &Text, out: &mut Vec<u8>) -> Result<Turn, WriteStop>
         ensures takes { Takes (leaf_ahead self.old (leaf_parts self.old.pass (Chars 0 text.now))) self.new out.old.items out.new.items result }
         ensures opens { self.new.around ≡ self.old.around }
