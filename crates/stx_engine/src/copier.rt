@@ -257,6 +257,8 @@ impl Copier {
         Ok(Turn::More)
     }
 
+    // Comments and instructions are few: they stand out of the way of what documents are made of.
+    #[cold]
     fn comment(&mut self, text: &Text, out: &mut Vec<u8>) -> Result<Turn, WriteStop>
         ensures takes { Takes (leaf_ahead self.old (leaf_parts self.old.pass (Comment 0 text.now))) self.new out.old.items out.new.items result }
         ensures opens { self.new.around ≡ self.old.around }
@@ -276,6 +278,7 @@ impl Copier {
         Ok(Turn::More)
     }
 
+    #[cold]
     fn instruction(
         &mut self,
         target: &Text,
