@@ -4,12 +4,11 @@ use Rattle.frame_stack.specs.declared.frame.Frame.{Frame}
 use Rattle.frame_stack.specs.Frame.{instance_of}
 use Rattle.frame_stack.specs.Level.{instances}
 
--- the frames, the outermost first, and how many instances a level may have
+-- the frames, the outermost first
 pub record FrameStack : Type 0 where
-  pub limit : ℕ
   pub frames : List Frame
 
--- other frames under the same limit
+-- other frames
 abbrev pub with_frames : List Frame → FrameStack → FrameStack
 with_frames frames stack = record stack { frames = frames }
 

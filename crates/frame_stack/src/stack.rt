@@ -15,10 +15,9 @@ use stxpath_values::Atom;
 
 /// The frames of a run, the innermost last. The instances of a level are its templates' and procedures' bodies; two frames
 /// are of one level where they have the same number and no list that is open by itself, of a source or of attributes, stands
-/// between them. No level has more instances than the limit.
+/// between them.
 #[derive(Debug, Drop)]
 pub struct Frames {
-    limit: u32,
     entries: Vec<Entry>,
 }
 
@@ -29,7 +28,7 @@ impl Model for Frames {
 
     ghost use Rattle.frame_stack.specs.Counted.{AreCounted, frames_of};
 
-    ghost view = { λ frames. record { limit = frames.limit; frames = frames_of frames.entries.items } };
+    ghost view = { λ frames. record { frames = frames_of frames.entries.items } };
 
     ghost invariant = { λ frames. AreCounted frames.entries.items };
 }
@@ -37,25 +36,24 @@ impl Model for Frames {
 impl Frames {
     ghost use Rattle.frame_stack.specs.Stack.{IsFull, with_frames};
 
-    /// No frames, and so many instances that a level may have. Allocates nothing.
-    pub fn new(alloc: Global, instances: u32) -> Frames
-        ensures { result ≡ record { limit = instances; frames = [] } }
+    /// No frames. Allocates nothing.
+    pub fn new(alloc: Global) -> Frames
+        ensures { result ≡ record { frames = [] } }
     {
         Frames {
-            limit: instances,
             entries: Vec::new(alloc),
         }
     }
 
-    /// Puts a frame on top. `Instances` is answered exactly for a body whose level has as many instances as it may have.
-    /// After a refusal nothing has changed.
-    pub fn push(&mut self, frame: Frame) -> Result<(), FrameFault>
+    /// Puts a frame on top, where a level may have so many instances. `Instances` is answered exactly for a body whose level
+    /// has as many as it may have. After a refusal nothing has changed.
+    pub fn push(&mut self, limit: u32, frame: Frame) -> Result<(), FrameFault>
         ensures ok { OnOk result (self.new ≡ with_frames (self.old.frames ++ frame ∷ []) self.old) }
-        ensures room { OnOk result ((level : ℕ) → instance_of frame ≡ Some level → instances level self.old.frames < self.old.limit) }
+        ensures room { OnOk result ((level : ℕ) → instance_of frame ≡ Some level → instances level self.old.frames < limit) }
         ensures err { OnErr result (self.new ≡ self.old) }
-        ensures full { IfErr result (λ fault. fault ≡ FrameFault.Instances → IsFull self.old.limit frame self.old.frames) }
+        ensures full { IfErr result (λ fault. fault ≡ FrameFault.Instances → IsFull limit frame self.old.frames) }
     {
-        let entry = counted(&self.entries, self.limit, frame)?;
+        let entry = counted(&self.entries, limit, frame)?;
         self.entries.push(entry)?;
         Ok(())
     }

@@ -39,17 +39,23 @@ fn body(alloc: Global, level: u32) -> Frame {
 #[test]
 fn levels(rt: HostRuntime) -> Result<(), Fail> {
     let alloc = rt.alloc();
-    let mut frames = Frames::new(alloc, 2);
-    assert_eq!(rt; frames.push(body(alloc, 1)), Ok(()));
-    assert_eq!(rt; frames.push(Frame::Region { asked: 3, level: 1 }), Ok(()));
-    assert_eq!(rt; frames.push(body(alloc, 1)), Ok(()));
-    assert_eq!(rt; frames.push(body(alloc, 1)), Err(FrameFault::Instances));
-    assert_eq!(rt; frames.push(body(alloc, 2)), Ok(()));
+    let mut frames = Frames::new(alloc);
+    assert_eq!(rt; frames.push(2, body(alloc, 1)), Ok(()));
     assert_eq!(rt;
-        frames.push(Frame::Attributes { next: 0, asked: 4 }),
+        frames.push(2, Frame::Region { asked: 3, level: 1 }),
         Ok(())
     );
-    assert_eq!(rt; frames.push(body(alloc, 1)), Ok(()));
+    assert_eq!(rt; frames.push(2, body(alloc, 1)), Ok(()));
+    assert_eq!(rt; frames.push(2, body(alloc, 1)), Err(FrameFault::Instances));
+    assert_eq!(rt; frames.count(), 3);
+    assert_eq!(rt; frames.push(3, body(alloc, 1)), Ok(()));
+    assert!(rt; matches!(frames.pop(), Some(Frame::Body { level: 1, .. })));
+    assert_eq!(rt; frames.push(2, body(alloc, 2)), Ok(()));
+    assert_eq!(rt;
+        frames.push(2, Frame::Attributes { next: 0, asked: 4 }),
+        Ok(())
+    );
+    assert_eq!(rt; frames.push(2, body(alloc, 1)), Ok(()));
     assert_eq!(rt; frames.count(), 6);
     assert!(rt; matches!(frames.at(1), Frame::Region { asked: 3, level: 1 }));
     assert!(rt; matches!(frames.pop(), Some(Frame::Body { level: 1, .. })));
@@ -60,8 +66,8 @@ fn levels(rt: HostRuntime) -> Result<(), Fail> {
 #[test]
 fn replaced(rt: HostRuntime) -> Result<(), Fail> {
     let alloc = rt.alloc();
-    let mut frames = Frames::new(alloc, 1);
-    assert_eq!(rt; frames.push(Frame::Loop { turn: 1 }), Ok(()));
+    let mut frames = Frames::new(alloc);
+    assert_eq!(rt; frames.push(1, Frame::Loop { turn: 1 }), Ok(()));
     let old = frames.replace(0, Frame::Loop { turn: 2 });
     assert!(rt; matches!(old, Frame::Loop { turn: 1 }));
     assert!(rt; matches!(frames.at(0), Frame::Loop { turn: 2 }));
@@ -93,8 +99,8 @@ fn locals(rt: HostRuntime) -> Result<(), Fail> {
 #[test]
 fn grown(rt: HostRuntime) -> Result<(), Fail> {
     let alloc = rt.alloc();
-    let mut frames = Frames::new(alloc, 1);
-    assert_eq!(rt; frames.push(body(alloc, 1)), Ok(()));
+    let mut frames = Frames::new(alloc);
+    assert_eq!(rt; frames.push(1, body(alloc, 1)), Ok(()));
     assert_eq!(rt; frames.count(), 1);
     assert_eq!(rt;
         frames.push_local(0, name(alloc, "n")?, whole(alloc, 5)?),

@@ -12,7 +12,7 @@ invariant_of-self c =
 
 pub returns : goal.returns
 returns c =
-    ap (λ fs. record { limit = c.self.inside.limit; frames = fs })
+    ap (λ fs. record { frames = fs })
     (changed_frames (with_locals (take c.args.len)) c.self.inside.entries.items c.args.place c.index_mut.result.now c.cut_locals.new.self c.args.self.now.frames
     (ap (λ s. s.frames) c.self.view_is) c.requires.place c.index_mut.ensures.value c.cut_locals.ensures)
     ∙ ap (λ s. with_frames (changed (with_locals (take c.args.len)) c.args.place c.args.self.now.frames) s) c.self.view_is

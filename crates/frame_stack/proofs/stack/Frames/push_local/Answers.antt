@@ -15,7 +15,7 @@ pub returns-clause-ok : goal.returns-clause-ok
 returns-clause-ok c =
     on_ok c.push_local.result
     (λ put.
-    ap (λ fs. record { limit = c.self.inside.limit; frames = fs })
+    ap (λ fs. record { frames = fs })
     (changed_frames (with_locals (λ locals. locals ++ local c.args.name c.args.value ∷ [])) c.self.inside.entries.items c.args.place c.index_mut.result.now c.push_local.new.self c.args.self.now.frames
     (ap (λ s. s.frames) c.self.view_is) c.requires c.index_mut.ensures.value put)
     ∙ ap (λ s. with_frames (changed (with_locals (λ locals. locals ++ local c.args.name c.args.value ∷ [])) c.args.place c.args.self.now.frames) s) c.self.view_is)

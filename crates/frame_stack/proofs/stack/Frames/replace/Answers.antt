@@ -13,7 +13,7 @@ invariant_of-self c =
 pub returns-clause-new : goal.returns-clause-new
 returns-clause-new c =
     let items = c.self.inside.entries.items in
-    ap (λ fs. record { limit = c.self.inside.limit; frames = fs })
+    ap (λ fs. record { frames = fs })
     (frames-set items c.args.place (record c.index_mut.result.now { frame = c.replace.new.dest })
     ∙ ap (λ f. set (frames_of items) c.args.place f) c.replace.ensures.after)
     ∙ ap (λ s. with_frames (slice_set s.frames c.args.place c.args.frame) s) c.self.view_is

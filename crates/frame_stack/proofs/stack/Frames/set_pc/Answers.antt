@@ -12,7 +12,7 @@ invariant_of-self c =
 
 pub returns : goal.returns
 returns c =
-    ap (λ fs. record { limit = c.self.inside.limit; frames = fs })
+    ap (λ fs. record { frames = fs })
     (changed_frames (with_pc c.args.next) c.self.inside.entries.items c.args.place c.index_mut.result.now c.set_pc.new.self c.args.self.now.frames
     (ap (λ s. s.frames) c.self.view_is) c.requires c.index_mut.ensures.value c.set_pc.ensures)
     ∙ ap (λ s. with_frames (changed (with_pc c.args.next) c.args.place c.args.self.now.frames) s) c.self.view_is
