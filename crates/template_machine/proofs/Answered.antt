@@ -65,7 +65,7 @@ still_alike given p r src count left f same =
 pub alone_counted : (p : Program) (r : Run) (src : Source) (count : ℕ) → src ≡ record r.source { begun = count } → IsAlone p r → IsAlone p (record r { source = src })
 alone_counted p r src count same alone =
     subst (λ s. IsAlone p (record r { source = s })) (sym same)
-    (record { origin = alone.origin; outer = alone.outer; aside = alone.aside; held = alone.held; counted = alone.counted; whole = alone.whole; fuel = alone.fuel })
+    (record { origin = alone.origin; outer = alone.outer; aside = alone.aside; held = alone.held; counted = alone.counted; whole = alone.whole; untouched = alone.untouched; fuel = alone.fuel })
 
 stops_any : (given : Given) (p : Program) (s : Stop) (x y : Flat_does) → Proceeds given p {A = Unit {0}} (Err s) x [] y → Proceeds given p {A = Step} (Err s) x [] y
 stops_any given p (stop.Fault fault) x y h = h
@@ -83,10 +83,10 @@ module _ {S : Type 0} (output : S → Target) (told : S → S → List Said → 
     said = goes.said;
     tells = goes.tells;
     order = λ more. record { sheet = order.sheet; alone = goes.alone more };
-    goes = λ given docs program limit f.
+    goes = λ given docs program params limit f.
         turned_behind given m.program t (still.still given m.program m.run (output out).left (followed e f)) (still.still given m.program mid (output out).left f) [] goes.said (still.still given m.program new (output now).left f)
         (same_then (same_equal (flat_code given) (still_alike given m.program m.run src count (output out).left (followed e f) same)) (hears.does given program (output out).left f))
-        (goes.does given docs program limit f);
+        (goes.does given docs program params limit f);
   }
 
   -- or it stops there
@@ -96,7 +96,7 @@ module _ {S : Type 0} (output : S → Target) (told : S → S → List Said → 
     said = [];
     tells = tells;
     order = λ more. absurd (stop_more s (sym is ∙ more));
-    goes = λ given docs program limit f.
+    goes = λ given docs program params limit f.
         subst (λ u. Turned given u (still.still given m.program m.run (output out).left (followed e f)) [] (still.still given m.program new (output out).left f)) (sym is)
         (subst (λ x. Turned given (turn_of s) x [] (still.still given m.program new (output out).left f)) (sym (still_alike given m.program m.run src count (output out).left (followed e f) same))
         (stops_turned given m.program s (still.still given m.program begins (output out).left (followed e f)) [] (still.still given m.program new (output out).left f) (still.still given m.program new (output out).left f)
@@ -137,7 +137,7 @@ module _ {S : Type 0} (output : S → Target) (told : S → S → List Said → 
         goes = λ given docs program params limit bare tree.
             turned_behind given m.program t (whole given tree) (still.still given m.program r (output mid).left (document_of tree)) starts.said goes.said (still.still given m.program new (output now).left (document_of tree))
             (starts.does given docs program params limit bare tree)
-            (goes.does given docs program (limit_is output told leaves given out mid starts.said starts.tells limit) (document_of tree));
+            (goes.does given docs program params (limit_is output told leaves given out mid starts.said starts.tells limit) (document_of tree));
       })
 
   pub starts_not : (p : Program) (s : Stop) (t : Turn) (new : Run) (out now : S) → p ≡ m.program → t ≡ turn_of s → StartsWith output told m (Err s) new out now

@@ -175,6 +175,7 @@ module _ (p : Program) (stations : List Station) where
       let here : slice_get locals i ≡ Some l = ap (λ y. slice_get (locals_of y) i) same ∙ at in
       record {
         there = b.there;
+        own = b.own;
         in_loops = b.in_loops;
         locals_fit = by_themselves p stations (with_value i value locals) c.locals (are_set locals c.locals i l value here named (alone p stations locals c.locals b.locals_fit));
         asked = b.asked;
@@ -186,6 +187,7 @@ module _ (p : Program) (stations : List Station) where
       let here : slice_get locals i ≡ Some l = ap (λ y. slice_get (locals_of y) i) same ∙ at in
       record {
         there = b.there;
+        own = b.own;
         in_loops = b.in_loops;
         locals_fit = by_themselves p stations (with_value i value locals) c.locals (are_set locals c.locals i l value here named (alone p stations locals c.locals b.locals_fit));
         asked = b.asked;

@@ -2,18 +2,19 @@
 use Rattle.std.proofs.Common.{◌≡◌, ℕ, suc, Bool, true, false, List, [], ◌∷◌, ◌++◌, map, reverse, Option, Some, None, IsSome, refl, ap, sym, subst, ◌∙◌, arith}
 use Rattle.std.specs.Prelude.{◌==◌, ◌&&◌, if◌then◌else◌, not, All}
 use Rattle.std.specs.List.{slice_get}
-use Rattle.std.specs.Option.{option_and_then, option_map}
+use Rattle.std.specs.Option.{option_and_then, option_map, option_map_or}
 use Rattle.std.proofs.lemmas.Bool.{false≢true}
 use Rattle.std.proofs.lemmas.List.{reverse-append}
 use Rattle.frame_stack.specs.Stack.{FrameStack, with_frames}
 use Rattle.frame_stack.specs.declared.frame.Frame.{Frame}
 use Rattle.frame_stack.specs.declared.frame.Frame.TheVariants.{Attributes, Body, Call, Loop, Region, Skip}
 use Rattle.frame_stack.specs.declared.locals.Local.{Local}
-use Rattle.node_stack.specs.Path.{can_end, can_have_children, current}
+use Rattle.node_stack.specs.Path.{Attribute, Node, can_end, can_have_children, current, is_attribute, is_element}
 use Rattle.node_stack.specs.Stack.{path, path_node}
 use Rattle.node_stack.specs.declared.parked.Parked.{Parked}
 use Rattle.template_machine.specs.Bodies.{all_spent, level_in, level_of, pc_in, spent_by, spent_in}
 use Rattle.template_machine.specs.Lists.{rest_of}
+use Rattle.template_machine.specs.Sources.{is_in_element}
 use Rattle.template_machine.specs.Standing.{Standing, Unknown, known_now, rooms_of, standing_of, waits_from_here}
 use Rattle.template_machine.specs.Ways.{first_in, here, way_of}
 use Rattle.template_machine.specs.Moments.{PutsAside}
@@ -65,13 +66,19 @@ children_on p r asked body level frames h has unspent own same =
     (children_open p w.stations fs (standing_of r) level (known_now r) w.waits own (list_by r has) unspent)
     (tell_spent level fs (rooms_of r) (standing_of r).shelves w.steady.within)
 
+pub element_node : (o : Option Node) → option_map_or is_element o false ≡ true → is_attribute o ≡ false
+element_node None element = refl
+element_node (Some (Attribute a)) element = absurd (cc)
+element_node (Some x) element = refl
+
 -- its attributes are processed
 pub attributes_on : (p : Program) (r : Run) (asked body : ℕ) (frames : FrameStack) → Awaits p r asked body → reverse frames.frames ≡ Attributes 0 asked ∷ reverse r.frames.frames
-    → IsWell p (record r { frames = frames; doing = doing.List })
-attributes_on p r asked body frames h same =
+    → is_in_element (path r.source.stack) ≡ true → IsWell p (record r { frames = frames; doing = doing.List })
+attributes_on p r asked body frames h same element =
     let w = h.waits in
     let fs = reverse r.frames.frames in
-    lists_on p r w frames (Attributes 0 asked ∷ fs) same (attributes_open p w.stations fs (standing_of r) asked (known_now r) w.waits h.pc) w.steady.within
+    lists_on p r w frames (Attributes 0 asked ∷ fs) same (attributes_open p w.stations fs (standing_of r) asked (known_now r) w.waits h.pc (ap is_attribute (way_here (path r.source.stack)) ∙ element_node (current (path r.source.stack)) element))
+    w.steady.within
 
 -- Siblings.
 
@@ -225,7 +232,8 @@ children_then p r asked body level frames has spent h is has_list left unspent a
     children_on p r asked body level frames h (sym is ∙ has_list) (left ∙ ap (λ b. Some b) unspent) (level_found p r asked body level h at) same
 
 pub attributes_then : (p : Program) (r s : Run) (asked body : ℕ) → Awaits p r asked body
-    → s ≡ record r { frames = with_frames (r.frames.frames ++ Attributes 0 asked ∷ []) r.frames } → IsWell p (record s { doing = doing.List })
-attributes_then p r s asked body h is =
+    → s ≡ record r { frames = with_frames (r.frames.frames ++ Attributes 0 asked ∷ []) r.frames } → is_in_element (path r.source.stack) ≡ true
+    → IsWell p (record s { doing = doing.List })
+attributes_then p r s asked body h is element =
     subst (λ (y : Run). IsWell p (record y { doing = doing.List })) (sym is)
-    (attributes_on p r asked body (with_frames (r.frames.frames ++ Attributes 0 asked ∷ []) r.frames) h (reverse-append r.frames.frames (Attributes 0 asked ∷ [])))
+    (attributes_on p r asked body (with_frames (r.frames.frames ++ Attributes 0 asked ∷ []) r.frames) h (reverse-append r.frames.frames (Attributes 0 asked ∷ [])) element)

@@ -70,8 +70,9 @@ module _ (p : Program) (stations : List Station) where
         in_loop c,
         (
           refl,
-          λ n m locals level e body. record {
+          λ whose n m locals level e body. record {
             there = b;
+            own = body.own;
             in_loops = ap suc body.in_loops ∙ sym e;
             locals_fit = body.locals_fit;
             asked = λ e. absurd (false≢true e);
@@ -114,8 +115,9 @@ module _ (p : Program) (stations : List Station) where
         o,
         (
           sym (ap (λ (x : Context). x.writing) a.1.0),
-          λ n m locals level e body. record {
+          λ whose n m locals level e body. record {
             there = (a.1.2.0, a.1.2.1.0);
+            own = sym (ap (λ (x : Context). x.body) a.1.0) ∙ body.own;
             in_loops = omega (arith, body.in_loops, e, ap (λ (x : Context). x.loops) a.1.0);
             locals_fit = subst (WaitBehind 0 locals) (ap (λ (x : Context). x.locals) a.1.0) body.locals_fit;
             asked = λ e. absurd (false≢true e);
@@ -139,8 +141,9 @@ module _ (p : Program) (stations : List Station) where
         d,
         (
           refl,
-          λ n m locals level e body. record {
+          λ whose n m locals level e body. record {
             there = subst (λ f. Goes stations (pc + 1) (behind f c)) same l.1.2;
+            own = body.own;
             in_loops = body.in_loops ∙ e;
             locals_fit =
                 by_themselves p stations (locals ++ x ∷ []) d.locals

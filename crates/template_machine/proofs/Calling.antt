@@ -46,17 +46,18 @@ module _ (p : Program) (stations : List Station) where
 
   -- the body of a procedure at its beginning, with its parameters
   pub calls : (fs : List Frame) (s : Standing) (number pc level : ℕ) (locals : List Local) (q : Procedure) (known : Known) → BodyGoesOn p stations fs s known
-      → slice_get p.sheet.procedures number ≡ Some q → Goes stations pc (begun q.params) → AreOf locals (map (λ v. Named v.name) q.params) → level_in fs ≡ Some level
+      → slice_get p.sheet.procedures number ≡ Some q → Goes stations pc (begun (length p.sheet.templates + number) q.params) → AreOf locals (map (λ v. Named v.name) q.params) → level_in fs ≡ Some level
       → BodyGoesOn p stations (Call number pc locals level ∷ fs) s known
   calls fs s number pc level locals q known b is there are own = record {
     body = refl;
     well = (
-      begun q.params,
+      begun (length p.sheet.templates + number) q.params,
       (
         q,
         (
           record {
             there = there;
+            own = refl;
             in_loops = refl;
             locals_fit = (locals, ([], (sym (append-nil locals), refl, are)));
             asked = λ e. absurd (false≢true e);
@@ -116,7 +117,7 @@ sees_called p r body number pc level locals q more h is pushed =
     }
 
 bound_on : (p : Program) (r : Run) (body number pc level : ℕ) (bound : List Local) (q : Procedure) (more bindings : FrameStack) (h : Runs p r body)
-    → slice_get p.sheet.procedures number ≡ Some q → Goes h.well.stations pc (begun q.params) → AreOf bound (map (λ v. Named v.name) q.params)
+    → slice_get p.sheet.procedures number ≡ Some q → Goes h.well.stations pc (begun (length p.sheet.templates + number) q.params) → AreOf bound (map (λ v. Named v.name) q.params)
     → level_in (reverse r.frames.frames) ≡ Some level → more ≡ with_frames (r.frames.frames ++ Call number pc [] level ∷ []) r.frames
     → bindings ≡ with_frames (changed (with_locals (λ ls. ls ++ bound)) (length more.frames - 1) more.frames) more → IsWell p (record r { frames = bindings })
 bound_on p r body number pc level bound q more bindings h is there are own pushed binds =
@@ -133,7 +134,7 @@ bound_on p r body number pc level bound q more bindings h is there are own pushe
 
 -- and it goes on once they are bound
 pub called_on : (p : Program) (r t u : Run) (body number pc level : ℕ) (q : Procedure) (h : Runs p r body)
-    → slice_get p.sheet.procedures number ≡ Some q → Goes h.well.stations pc (begun q.params) → level_in (reverse r.frames.frames) ≡ Some level
+    → slice_get p.sheet.procedures number ≡ Some q → Goes h.well.stations pc (begun (length p.sheet.templates + number) q.params) → level_in (reverse r.frames.frames) ≡ Some level
     → t ≡ record r { frames = with_frames (r.frames.frames ++ Call number pc [] level ∷ []) r.frames } → BindsParams q.params t u → IsWell p u
 called_on p r t u body number pc level q h is there own pushed binds =
     let bound = binds.locals in
@@ -167,7 +168,7 @@ procedure_there (x ∷ xs) (suc n) less = procedure_there xs n (omega (arith, le
 
 pub procedure_starts : (p : Program) (r : Run) (body n : ℕ) (h : Runs p r body) → n < length p.sheet.procedures
     → (q : Procedure) × ((slice_get p.sheet.procedures n ≡ Some q) × (start : ℕ)
-    × (slice_get p.code.starts (length p.sheet.templates + n) ≡ Some start) × Goes h.well.stations start (begun q.params))
+    × (slice_get p.code.starts (length p.sheet.templates + n) ≡ Some start) × Goes h.well.stations start (begun (length p.sheet.templates + n) q.params))
 procedure_starts p r body n h less =
     let q = procedure_there p.sheet.procedures n less in
     let s = h.well.stand.procedures n q.0 q.1 in
@@ -192,5 +193,5 @@ pub call_on : (p : Program) (r t u : Run) (body number pc level : ℕ) (locals :
 call_on p r t u body number pc level locals q h there starts none at pushed binds =
     let s = h.well.stand.procedures number q there in
     let same : s.0 ≡ pc = same_start (sym s.1.0 ∙ starts) in
-    called_on p r t u body number pc level q h there (subst (λ n. Goes h.well.stations n (begun q.params)) same s.1.1) (level_of_running p r body level h at)
+    called_on p r t u body number pc level q h there (subst (λ n. Goes h.well.stations n (begun (length p.sheet.templates + number) q.params)) same s.1.1) (level_of_running p r body level h at)
     (pushed ∙ ap (λ ls. record r { frames = with_frames (r.frames.frames ++ Call number pc ls level ∷ []) r.frames }) none) binds

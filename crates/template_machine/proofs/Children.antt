@@ -87,5 +87,5 @@ module _ (p : Program) (stations : List Station) where
 
   -- The attributes of its node are processed.
   pub attributes_open : (fs : List Frame) (s : Standing) (asked : ℕ) (known : Known) → BodyWaits p stations fs s known → pc_in fs ≡ Some (suc asked)
-      → ListGoesOn p stations (Attributes 0 asked ∷ fs) s known
-  attributes_open fs s asked known b at = record { well = (refl, asks_before fs asked at, omega arith, b.well); fits = b.fits }
+      → is_attribute (here s.source.way) ≡ false → ListGoesOn p stations (Attributes 0 asked ∷ fs) s known
+  attributes_open fs s asked known b at node = record { well = (refl, asks_before fs asked at, omega arith, b.well); fits = (node, b.fits) }

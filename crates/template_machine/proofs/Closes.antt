@@ -68,13 +68,13 @@ putting_rest old new e = e ∙ sym (ap (λ (n : Run). record old { frames = new.
 
 -- The current node of a body.
 
-reverse_map : {A B : Type 0} (xs : List A) (f : A → B) → reverse (map f xs) ≡ map f (reverse xs)
+pub reverse_map : {A B : Type 0} (xs : List A) (f : A → B) → reverse (map f xs) ≡ map f (reverse xs)
 reverse_map [] f = refl
 reverse_map (x ∷ xs) f =
     reverse-append (f x ∷ []) (map f xs) ∙ ap (λ l. l ++ f x ∷ []) (reverse_map xs f) ∙ sym (map-append f (reverse xs) (x ∷ []))
     ∙ ap (map f) (sym (reverse-append (x ∷ []) xs))
 
-nodes_there : (given : Given) (p : Program) (r : Run) (running : Running) (o : Op) (w : Working) → IsAtOp p r running o → StandsAt given p r w
+pub nodes_there : (given : Given) (p : Program) (r : Run) (running : Running) (o : Op) (w : Working) → IsAtOp p r running o → StandsAt given p r w
     → w.self.trail ≡ still.trail_of (reverse (path r.source.stack).nodes)
 nodes_there given p r running o w at st =
     ap (λ (v : Working). v.self.trail) st.is ∙ ap still.trail_of (front r.source.ahead (reverse (path r.source.stack).nodes) given p (at.well.apart at.doing))

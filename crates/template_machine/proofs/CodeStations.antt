@@ -1,5 +1,5 @@
 -- The code of a sheet has stations.
-use Rattle.std.proofs.Common.{◌≡◌, ℕ, zero, suc, ◌+◌, List, [], ◌∷◌, ◌++◌, length, map, Some, refl, ap, sym, subst, ◌∙◌, arith, append-nil, append_assoc, length-append}
+use Rattle.std.proofs.Common.{◌≡◌, ℕ, zero, suc, ◌+◌, ◌-◌, ◌<◌, ◌≤◌, inl, inr, List, [], ◌∷◌, ◌++◌, length, map, Some, refl, ap, sym, subst, ◌∙◌, arith, append-nil, append_assoc, length-append}
 use Rattle.std.proofs.lemmas.List.{length-map}
 use Rattle.std.specs.List.{slice_get}
 use Rattle.std.specs.Option.{option_map}
@@ -21,15 +21,18 @@ use Rattle.sheet_model.specs.declared.sheet.Template.{Template}
 use Rattle.sheet_model.specs.declared.sheet.Variable.{Variable}
 use Rattle.sheet_model.proofs.Lists.{got_before, got_behind}
 use Rattle.template_machine.specs.Contexts.{Context, Goes, HasStations, IsAt, Leads, Station, begun}
-use Rattle.template_machine.proofs.Laying.{AreLed, Holds, holds_first, holds_second, led_append}
+use Rattle.template_machine.specs.Programs.{end_of}
+use Rattle.template_machine.proofs.Laying.{AreLed, AreOwn, Holds, holds_first, holds_second, led_append, own_append, own_at}
+use Rattle.template_machine.proofs.LaidOut.{end, end_here, end_later, ends}
+use Rattle.template_machine.proofs.Numbering.{in_either}
 use Rattle.template_machine.proofs.Places.{Numbered, got_at, numbered_first, numbered_second}
 use Rattle.instr_code.proofs.Sized.{sized}
 use Rattle.template_machine.proofs.Stations.{after, after_is, laid, to_number}
 
 -- a list of instructions changes locals alone
-loops_stay : (list : List Instr) (params : List Variable) → ((after list (begun params)).loops ≡ 0) × ((after list (begun params)).writing ≡ [])
-loops_stay list params =
-    let e = after_is list (begun params) in (ap (λ (c : Context). c.loops) e, ap (λ (c : Context). c.writing) e)
+loops_stay : (list : List Instr) (body : ℕ) (params : List Variable) → ((after list (begun body params)).loops ≡ 0) × ((after list (begun body params)).writing ≡ [])
+loops_stay list body params =
+    let e = after_is list (begun body params) in (ap (λ (c : Context). c.loops) e, ap (λ (c : Context). c.writing) e)
 
 -- all stations stand where they stand
 holds_behind : (before xs : List Station) → Holds (before ++ xs) (length before) xs
@@ -58,35 +61,51 @@ module _ (sheet : Sheet) where
   abbrev code : Code
   code = code_of sheet
 
-  -- bodies with their parameters, the first instruction of which has a number
-  record AllLaid (lists : List (List Instr)) (params : List (List Variable)) (m p : ℕ) : Type 0 where
+  -- a place is of one of these bodies, the first of which stands from a place on and has a number
+  record IsOfOne (lists : List (List Instr)) (number p place body : ℕ) : Type 0 where
+    which : ℕ
+    is : body ≡ number + which
+    start : ℕ
+    there : slice_get (starts p (body_pieces lists)) which ≡ Some start
+    behind : start ≤ place
+    before : place < end p (body_pieces lists) which
+
+  -- bodies with their parameters, the first of which has a number, and its first instruction one
+  record AllLaid (number : ℕ) (lists : List (List Instr)) (params : List (List Variable)) (m p : ℕ) : Type 0 where
     stations : List Station
     long : length stations ≡ length ((in_order (body_pieces lists)).ops m p)
+    own : (k : ℕ) (x : Station) → slice_get stations k ≡ Some x → IsOfOne lists number p (p + k) x.context.body
     leads : (all : List Station) → Holds all p stations → AreLed code all p ((in_order (body_pieces lists)).ops m p) stations
     begins :
         (all : List Station) (n : ℕ) (list : List Instr) (vs : List Variable) → Holds all p stations → slice_get lists n ≡ Some list
-        → slice_get params n ≡ Some vs → (start : ℕ) × ((slice_get (starts p (body_pieces lists)) n ≡ Some start) × Goes all start (begun vs))
+        → slice_get params n ≡ Some vs → (start : ℕ) × ((slice_get (starts p (body_pieces lists)) n ≡ Some start) × Goes all start (begun (number + n) vs))
 
   body_long : (list : List Instr) (m p : ℕ) → length ((body_piece list).ops m p) ≡ (body_piece list).size
   body_long list m p = omega (arith, (sized list).long m p, length-append ((in_order (pieces list)).ops m p) (op.Return ∷ []))
 
   -- one body more
-  one_more : (list : List Instr) (vs : List Variable) (lists : List (List Instr)) (params : List (List Variable)) (m p : ℕ)
-      → Numbered (instructions sheet) list m → AllLaid lists params (m + (body_piece list).numbers) (p + (body_piece list).size)
-      → AllLaid (list ∷ lists) (vs ∷ params) m p
-  one_more list vs lists params m p numbered rest =
+  one_more : (number : ℕ) (list : List Instr) (vs : List Variable) (lists : List (List Instr)) (params : List (List Variable)) (m p : ℕ)
+      → Numbered (instructions sheet) list m → AllLaid (number + 1) lists params (m + (body_piece list).numbers) (p + (body_piece list).size)
+      → AllLaid number (list ∷ lists) (vs ∷ params) m p
+  one_more number list vs lists params m p numbered rest =
       let x = in_order (pieces list) in
       let body = body_piece list in
-      let c = after list (begun vs) in
-      let l = laid sheet list m p (begun vs) 0 numbered in
+      let c = after list (begun number vs) in
+      let l = laid sheet list m p (begun number vs) 0 numbered in
       let last : Station = record { context = c; rank = 0 } in
       let own = l.stations ++ last ∷ [] in
       let others = (in_order (body_pieces lists)).ops (m + body.numbers) (p + body.size) in
       let long : length own ≡ length (body.ops m p) = omega (arith, length-append l.stations (last ∷ []), length-append (x.ops m p) (op.Return ∷ []), l.long) in
       let size = body_long list m p in
+      let alike : AreOwn number own = own_append number l.stations (last ∷ []) l.own (l.same, tt) in
       record {
         stations = own ++ rest.stations;
         long = omega (arith, length-append own rest.stations, length-append (body.ops m p) others, long, rest.long);
+        own = λ k y is.
+            elim (in_either own rest.stations k y is) [
+              | inl h ↦ first_one k y (own_at number own k y alike h.1) (omega (arith, h.0, long, size))
+              | inr h ↦ later_one k y (omega (arith, h.0, long, size)) (rest.own (k - length own) y h.1) (omega (arith, long, size))
+            ];
         leads = λ all h.
             let mine = holds_first all p own rest.stations h in
             let theirs = holds_second all p (p + body.size) own rest.stations (omega (arith, long, size)) h in
@@ -94,7 +113,7 @@ module _ (sheet : Sheet) where
             let end = holds_second all p (p + length (x.ops m p)) l.stations (last ∷ []) (omega (arith, l.long)) mine in
             led_append code all p (p + body.size) (body.ops m p) own others rest.stations (omega (arith, size))
             (led_append code all p (p + length (x.ops m p)) (x.ops m p) l.stations (op.Return ∷ []) (last ∷ []) refl
-            (l.leads all tt first end.0) (loops_stay list vs, tt))
+            (l.leads all tt first end.0) (loops_stay list number vs, tt))
             (rest.leads all theirs);
         begins = λ all n b w h is at.
             let mine = holds_first all p own rest.stations h in
@@ -104,33 +123,66 @@ module _ (sheet : Sheet) where
             here_or_later all (l.begins all tt first end.0) theirs n b w is at;
       }
     where
-      here_or_later : (all : List Station) → IsAt all p (begun vs) (laid sheet list m p (begun vs) 0 numbered).high
+      first_one : (k : ℕ) (y : Station) → y.context.body ≡ number → k < (body_piece list).size → IsOfOne (list ∷ lists) number p (p + k) y.context.body
+      first_one k y same less = record {
+        which = 0;
+        is = omega (arith, same);
+        start = p;
+        there = refl;
+        behind = omega arith;
+        before = omega (arith, end_here p (body_piece list) (body_pieces lists), less);
+      }
+
+      later_one : (k : ℕ) (y : Station) → (body_piece list).size ≤ k → {long : ℕ} → IsOfOne lists (number + 1) (p + (body_piece list).size) (p + (body_piece list).size + (k - long)) y.context.body
+          → long ≡ (body_piece list).size → IsOfOne (list ∷ lists) number p (p + k) y.context.body
+      later_one k y more o same = record {
+        which = suc o.which;
+        is = omega (arith, o.is);
+        start = o.start;
+        there = o.there;
+        behind = omega (arith, o.behind, same, more);
+        before = omega (arith, o.before, end_later p (body_piece list) (body_pieces lists) o.which, same, more);
+      }
+
+      here_or_later : (all : List Station) → IsAt all p (begun number vs) (laid sheet list m p (begun number vs) 0 numbered).high
           → Holds all (p + (body_piece list).size) rest.stations → (n : ℕ) (b : List Instr) (w : List Variable)
           → slice_get (list ∷ lists) n ≡ Some b → slice_get (vs ∷ params) n ≡ Some w
-          → (start : ℕ) × ((slice_get (starts p (body_pieces (list ∷ lists))) n ≡ Some start) × Goes all start (begun w))
+          → (start : ℕ) × ((slice_get (starts p (body_pieces (list ∷ lists))) n ≡ Some start) × Goes all start (begun (number + n) w))
       here_or_later all here theirs zero b w is at =
           let same : vs ≡ w = cc in
-          (p, (refl, ((laid sheet list m p (begun vs) 0 numbered).high, subst (λ v. IsAt all p (begun v) (laid sheet list m p (begun vs) 0 numbered).high) same here)))
-      here_or_later all here theirs (suc n) b w is at = rest.begins all n b w theirs is at
+          let first : number + 0 ≡ number = omega arith in (
+            p,
+            (
+              refl,
+              (
+                (laid sheet list m p (begun number vs) 0 numbered).high,
+                subst (λ k. IsAt all p (begun k w) (laid sheet list m p (begun number vs) 0 numbered).high) (sym first)
+                    (subst (λ v. IsAt all p (begun number v) (laid sheet list m p (begun number vs) 0 numbered).high) same here),
+              ),
+            ),
+          )
+      here_or_later all here theirs (suc n) b w is at =
+          let g = rest.begins all n b w theirs is at in
+          (g.0, (g.1.0, subst (λ k. Goes all g.0 (begun k w)) (omega arith) g.1.1))
 
-  all_laid : (lists : List (List Instr)) (params : List (List Variable)) (m p : ℕ) → length lists ≡ length params → Numbered (instructions sheet) (joined lists) m
-      → AllLaid lists params m p
-  all_laid [] params m p e numbered =
-      record { stations = []; long = refl; leads = λ all h. tt; begins = λ all n b w h is at. absurd (omega (arith, slice_get_within [] n b is)) }
-  all_laid (list ∷ lists) [] m p e numbered = absurd (omega (arith, e))
-  all_laid (list ∷ lists) (vs ∷ params) m p e numbered =
+  all_laid : (number : ℕ) (lists : List (List Instr)) (params : List (List Variable)) (m p : ℕ) → length lists ≡ length params → Numbered (instructions sheet) (joined lists) m
+      → AllLaid number lists params m p
+  all_laid number [] params m p e numbered =
+      record { stations = []; long = refl; own = λ k x is. absurd (omega (arith, slice_get_within [] k x is)); leads = λ all h. tt; begins = λ all n b w h is at. absurd (omega (arith, slice_get_within [] n b is)) }
+  all_laid number (list ∷ lists) [] m p e numbered = absurd (omega (arith, e))
+  all_laid number (list ∷ lists) (vs ∷ params) m p e numbered =
       let body = body_piece list in
-      one_more list vs lists params m p (numbered_first (instructions sheet) list (joined lists) m numbered)
-      (all_laid lists params (m + body.numbers) (p + body.size) (omega (arith, e))
+      one_more number list vs lists params m p (numbered_first (instructions sheet) list (joined lists) m numbered)
+      (all_laid (number + 1) lists params (m + body.numbers) (p + body.size) (omega (arith, e))
       (to_number (instructions sheet) (joined lists) (m + count_of list) (m + body.numbers) (omega arith) (numbered_second (instructions sheet) list (joined lists) m numbered)))
 
   -- the parameters of all bodies
   abbrev all_params : List (List Variable)
   all_params = map (λ (t : Template). t.params) sheet.templates ++ map (λ (q : Procedure). q.params) sheet.procedures
 
-  whole : AllLaid (sheet_bodies sheet) all_params 0 0
+  whole : AllLaid 0 (sheet_bodies sheet) all_params 0 0
   whole =
-      all_laid (sheet_bodies sheet) all_params 0 0
+      all_laid 0 (sheet_bodies sheet) all_params 0 0
       (omega (
         arith,
         length-append (map (λ (t : Template). t.body) sheet.templates) (map (λ (q : Procedure). q.body) sheet.procedures),
@@ -162,22 +214,41 @@ module _ (sheet : Sheet) where
       subst (λ k. slice_get (map f xs ++ map g ys) (k + n) ≡ Some (g y)) (length-map xs f)
       (got_behind (map f xs) (map g ys) n (g y) (mapped g ys n y is))
 
+  -- a body is numbered from the first one on
+  from_zero : (n : ℕ) → 0 + n ≡ n
+  from_zero n = omega arith
+
+  begins_as : (all : List Station) (starts_are : List ℕ) (n : ℕ) (vs : List Variable) → (start : ℕ) × ((slice_get starts_are n ≡ Some start) × Goes all start (begun (0 + n) vs))
+      → (start : ℕ) × ((slice_get starts_are n ≡ Some start) × Goes all start (begun n vs))
+  begins_as all starts_are n vs g = (g.0, (g.1.0, subst (λ (k : ℕ). Goes all g.0 (begun k vs)) (from_zero n) g.1.1))
+
   -- each operation has a station
   pub has_stations : HasStations code stations_of sheet
   unfolding stations_of
   has_stations = record {
     each = whole.long;
+    own = λ place c r is.
+        let o = whole.own place (record { context = c; rank = r }) is in
+        let same : c.body ≡ o.which = omega (arith, o.is) in
+        record {
+          start = o.start;
+          starts = ap (slice_get code.starts) same ∙ o.there;
+          behind = omega (arith, o.behind);
+          before = omega (arith, o.before, ends sheet o.which, ap (end_of code) same);
+        };
     leads = λ place o c r is at.
         subst (λ n. Leads code whole.stations n c r o) (omega arith)
         (led_at code whole.stations 0 place code.ops whole.stations o c r (whole.leads whole.stations hold) is at);
     templates = λ n t is.
-        whole.begins whole.stations n t.body t.params hold
+        begins_as whole.stations code.starts n t.params
+        (whole.begins whole.stations n t.body t.params hold
         (got_before (map (λ (t : Template). t.body) sheet.templates) (map (λ (q : Procedure). q.body) sheet.procedures) n t.body
         (mapped (λ (t : Template). t.body) sheet.templates n t is))
         (got_before (map (λ (t : Template). t.params) sheet.templates) (map (λ (q : Procedure). q.params) sheet.procedures) n t.params
-        (mapped (λ (t : Template). t.params) sheet.templates n t is));
+        (mapped (λ (t : Template). t.params) sheet.templates n t is)));
     procedures = λ n q is.
-        whole.begins whole.stations (length sheet.templates + n) q.body q.params hold
+        begins_as whole.stations code.starts (length sheet.templates + n) q.params
+        (whole.begins whole.stations (length sheet.templates + n) q.body q.params hold
         (behind_them (λ (t : Template). t.body) (λ (q : Procedure). q.body) sheet.templates sheet.procedures n q is)
-        (behind_them (λ (t : Template). t.params) (λ (q : Procedure). q.params) sheet.templates sheet.procedures n q is);
+        (behind_them (λ (t : Template). t.params) (λ (q : Procedure). q.params) sheet.templates sheet.procedures n q is));
   }

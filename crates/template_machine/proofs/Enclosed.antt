@@ -69,8 +69,9 @@ module _ (p : Program) (stations : List Station) where
         d,
         (
           refl,
-          λ k m locals level e body. record {
+          λ whose k m locals level e body. record {
             there = subst (λ f. Goes stations (pc + 1) (within f n c)) same l.1.2;
+            own = body.own;
             in_loops = body.in_loops ∙ e;
             locals_fit =
                 by_themselves p stations (locals ++ x ∷ []) d.locals
@@ -106,8 +107,9 @@ module _ (p : Program) (stations : List Station) where
         (
           body_moves p stations (λ f. with_locals (take len) (with_pc (pc + 1) f)) (λ o. pc + 1) (take len) (moves_locals (pc + 1) (take len)) (λ n m. n ≡ m) (λ n m e. ap suc e)
               0 0 false false fs c o.0 s s pc refl at b
-              (λ k m locals level e body. record {
+              (λ whose k m locals level e body. record {
                 there = o.1.1;
+                own = sym (ap (λ (x : Context). x.body) o.1.0) ∙ body.own;
                 in_loops = sym (ap (λ (x : Context). x.loops) o.1.0) ∙ body.in_loops ∙ e;
                 locals_fit =
                     by_themselves p stations (take len locals) o.0.locals

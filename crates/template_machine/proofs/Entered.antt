@@ -116,7 +116,7 @@ asking_well p stations (Source buffer next asked ∷ fs) s w =
     outer_on s.around _ ((t : Standing) × AreWell p stations 0 true fs t) w.5 (λ o others h. (source_over buffer o.source others s, h.1))
 asking_well p stations fs s w = (s, w)
 
-asking_at : (fs : List Frame) (n : ℕ) (x : Frame) → slice_get (reverse (asking fs)) n ≡ Some x → slice_get (reverse fs) n ≡ Some x
+pub asking_at : (fs : List Frame) (n : ℕ) (x : Frame) → slice_get (reverse (asking fs)) n ≡ Some x → slice_get (reverse fs) n ≡ Some x
 asking_at (Region asked level ∷ fs) n x is = ap (λ l. slice_get l n) (reversed (Region asked level) fs) ∙ before_at (reverse fs) (Region asked level ∷ []) n x is
 asking_at (Attributes next asked ∷ fs) n x is = ap (λ l. slice_get l n) (reversed (Attributes next asked) fs) ∙ before_at (reverse fs) (Attributes next asked ∷ []) n x is
 asking_at (Source buffer next asked ∷ fs) n x is = ap (λ l. slice_get l n) (reversed (Source buffer next asked) fs) ∙ before_at (reverse fs) (Source buffer next asked ∷ []) n x is
@@ -283,7 +283,7 @@ again_fits false A B e a = absurd (false≢true e)
 
 enters_again : (p : Program) (stations : List Station) (fs : List Frame) (s t : Standing) (number alternative pc level : ℕ) (spent : Bool) (locals : List Local)
     (template : Template) (known : Known) → BodyWaits p stations fs s known → spent_in fs ≡ Some spent → slice_get p.sheet.templates number ≡ Some template
-    → PassesBy p template alternative (here s.source.way) → Goes stations pc (begun template.params) → AreOf locals (map (λ v. Named v.name) template.params)
+    → PassesBy p template alternative (here s.source.way) → Goes stations pc (begun number template.params) → AreOf locals (map (λ v. Named v.name) template.params)
     → level ≡ number_of s.source.way → t.source ≡ s.source → scope_over template.new_scope template.group t ≡ s
     → (template.new_scope ≡ true → CanTakeOff template.group t) → BodyGoesOn p stations (Body number alternative pc locals level spent ∷ fs) t known
 enters_again p stations fs s t number alternative pc level spent locals template known b left is passes there are own same scope takes =
@@ -293,12 +293,13 @@ enters_again p stations fs s t number alternative pc level spent locals template
     record {
       body = refl;
       well = (
-        begun template.params,
+        begun number template.params,
         (
           template,
           (
             record {
               there = there;
+              own = refl;
               in_loops = refl;
               locals_fit = (locals, ([], (sym (append-nil locals), refl, are)));
               asked = λ e. absurd (false≢true e);
@@ -350,9 +351,9 @@ same_start : {a b : ℕ} → Some a ≡ Some b → a ≡ b
 same_start e = cc
 
 starts_there : (p : Program) (stations : List Station) (template pc : ℕ) (declared : Template) → HasStations p.code stations p.sheet
-    → slice_get p.sheet.templates template ≡ Some declared → slice_get p.code.starts template ≡ Some pc → Goes stations pc (begun declared.params)
+    → slice_get p.sheet.templates template ≡ Some declared → slice_get p.code.starts template ≡ Some pc → Goes stations pc (begun template declared.params)
 starts_there p stations template pc declared stand is starts =
-    let s = stand.templates template declared is in subst (λ n. Goes stations n (begun declared.params)) (same_start (sym s.1.0 ∙ starts)) s.1.1
+    let s = stand.templates template declared is in subst (λ n. Goes stations n (begun template declared.params)) (same_start (sym s.1.0 ∙ starts)) s.1.1
 
 enters_by : (p : Program) (r t u : Run) (template alternative pc level : ℕ) (spent : Bool) (declared : Template) → CanEnter p spent r
     → slice_get p.sheet.templates template ≡ Some declared → PassesBy p declared alternative (here (way_of (path r.source.stack)))
@@ -372,7 +373,7 @@ enters_by p r t u template alternative pc level spent declared (inr h) is passes
 
 -- What the calls of the method find, behind the push of the frame.
 
-can_steady : (p : Program) (spent : Bool) (r : Run) → CanEnter p spent r → IsSteady p r
+pub can_steady : (p : Program) (spent : Bool) (r : Run) → CanEnter p spent r → IsSteady p r
 can_steady p spent r (inl h) = h.0.steady
 can_steady p spent r (inr h) = h.0.steady
 

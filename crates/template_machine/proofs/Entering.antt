@@ -63,7 +63,7 @@ module _ (p : Program) (stations : List Station) where
       → spent ≡ false
       → slice_get p.sheet.templates number ≡ Some template
       → PassesBy p template alternative (here s.source.way)
-      → Goes stations pc (begun template.params)
+      → Goes stations pc (begun number template.params)
       → AreOf locals (map (λ v. Named v.name) template.params)
       → level ≡ number_of s.source.way
       → t.source ≡ s.source
@@ -75,12 +75,13 @@ module _ (p : Program) (stations : List Station) where
       record {
         body = refl;
         well = (
-          begun template.params,
+          begun number template.params,
           (
             template,
             (
               record {
                 there = there;
+                own = refl;
                 in_loops = refl;
                 locals_fit = (locals, ([], (sym (append-nil locals), refl, are)));
                 asked = λ e. absurd (false≢true e);

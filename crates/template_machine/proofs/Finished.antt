@@ -30,7 +30,7 @@ use Rattle.template_machine.specs.Bodies.{frame_in, level_in, on_body, pc_in, sk
 use Rattle.template_machine.specs.Job.{Given}
 use Rattle.template_machine.specs.Lists.{rest_of}
 use Rattle.template_machine.specs.Moments.{GoesOrWaits}
-use Rattle.template_machine.specs.Ordinary.{HeadIsCounted, IsAlone}
+use Rattle.template_machine.specs.Ordinary.{AreUntouched, HeadIsCounted, IsAlone, is_on_attribute}
 use Rattle.template_machine.specs.Outcome.{AreNew}
 use Rattle.template_machine.specs.Programs.{IsProgramOf, instr_at}
 use Rattle.template_machine.specs.Saying.{Proceeds}
@@ -55,9 +55,11 @@ use Rattle.template_machine.specs.declared.source.Ahead.TheVariants as ahead
 use Rattle.template_machine.specs.declared.source.Source.{Source}
 use Rattle.template_machine.specs.declared.stop.Stop.{Stop}
 use Rattle.template_machine.specs.declared.stop.Stop.TheVariants as stop
+use Rattle.template_machine.proofs.Moving.{moves_only}
 use Rattle.template_machine.proofs.Nodes.{is_way}
 use Rattle.template_machine.proofs.Onward.{still_over}
 use Rattle.template_machine.proofs.Seeing.{node_there}
+use Rattle.template_machine.proofs.Untouched.{on_first, skip_frame, untouched_from, untouched_moved, untouched_to}
 use Rattle.template_machine.proofs.Ways.{way_here}
 use Rattle.template_machine.proofs.Behind.{Own, body_ends_again, body_ends_attribute, body_ends_node, body_ends_open, instr_ends, list_ends_body, node_ends, skip_ends}
 
@@ -137,6 +139,9 @@ instr_moves p r s n pc alone at own cut rest = record {
     held = ap (λ (x : Run). held_node x.source) rest ∙ alone.held;
     counted = λ e. subst HeadIsCounted (sym (ap (λ (x : Run). nodes_of x.source) rest)) (alone.counted (sym (ap (λ (x : Run). x.source.ahead) rest) ∙ e));
     whole = λ e depth skipped. absurd (let no : None ≡ Some depth = sym (body_unskipped (take n) (reverse r.frames.frames) pc at) ∙ ap skipped_in (sym cut) ∙ skipped in cc);
+    untouched =
+        untouched_to _ (reverse s.frames.frames) _ (nodes_of s.source) (sym cut) (sym (ap (λ (x : Run). nodes_of x.source) rest))
+        (untouched_moved (with_locals (take n)) (λ o. o) (take n) (moves_only (take n)) (reverse r.frames.frames) (nodes_of r.source) pc at alone.untouched);
     fuel = subst (λ u. u ≤ p.limits.fuel) (sym (ap (λ (x : Run). x.fuel) rest)) alone.fuel;
   };
   over = λ e. absurd (goes_not_over step.More r tt e);
@@ -167,11 +172,11 @@ not_held s well none e = by s.held (well e) none
     by None h n = h
     by (Some x) h n = absurd (cc)
 
-pub node_moves : (p : Program) (r s m : Run) (src : Source) (put : Putting) (t : Step) → IsAlone p r → r.source.ahead ≢ ahead.Here → r.source.ahead ≢ ahead.Held → GoesOrWaits t m
-    → path src.stack ≡ paths.left (path r.source.stack) → src.ahead ≡ r.source.ahead → held_node src ≡ held_node r.source → src.origin ≡ r.source.origin
+pub node_moves : (p : Program) (r s m : Run) (src : Source) (put : Putting) (t : Step) → IsAlone p r → AreUntouched (reverse r.frames.frames) (rest_of (nodes_of r.source)) → r.source.ahead ≢ ahead.Here
+    → r.source.ahead ≢ ahead.Held → GoesOrWaits t m → path src.stack ≡ paths.left (path r.source.stack) → src.ahead ≡ r.source.ahead → held_node src ≡ held_node r.source → src.origin ≡ r.source.origin
     → s ≡ record r { source = src; putting = put; doing = doing.List } → put.buffers ≡ r.putting.buffers → put.targets ≡ r.putting.targets
     → MovesFrom p (λ given left f. node_done given p r left f) (Ok t) s
-node_moves p r s m src put t alone apart free goes gone front held origin rest buffers targets = record {
+node_moves p r s m src put t alone untouched apart free goes gone front held origin rest buffers targets = record {
   alone = record {
     origin = ap (λ (x : Run). x.source.origin) rest ∙ origin ∙ alone.origin;
     outer = ap (λ (x : Run). x.outer.items) rest ∙ alone.outer;
@@ -180,6 +185,9 @@ node_moves p r s m src put t alone apart free goes gone front held origin rest b
     counted = λ e. absurd (apart (sym front ∙ sym (ap (λ (x : Run). x.source.ahead) rest) ∙ e));
     whole = λ e depth skipped.
         alone.whole (sym front ∙ sym (ap (λ (x : Run). x.source.ahead) rest) ∙ e) depth (sym (ap (λ (x : Run). skipped_in (reverse x.frames.frames)) rest) ∙ skipped);
+    untouched =
+        untouched_to _ (reverse s.frames.frames) _ (nodes_of s.source) (sym (ap (λ (x : Run). reverse x.frames.frames) rest))
+        (sym (ap (λ (x : Run). nodes_of x.source) rest ∙ ap (λ (q : Path). reverse q.nodes) gone ∙ left_nodes (path r.source.stack).nodes)) untouched;
     fuel = subst (λ u. u ≤ p.limits.fuel) (sym (ap (λ (x : Run). x.fuel) rest)) alone.fuel;
   };
   over = λ e. absurd (goes_not_over t m goes e);
@@ -314,6 +322,12 @@ current_there r =
 pub first_now : (r : Run) (n : Node) → current (path r.source.stack) ≡ Some n → first_node (nodes_of r.source) ≡ n
 first_now r n is = first_is (path r.source.stack).nodes n is
 
+-- whether it is an attribute
+pub attribute_now : (r : Run) → is_on_attribute (nodes_of r.source) ≡ is_attribute (here (way_of (path r.source.stack)))
+attribute_now r =
+    let t = current_there r in
+    on_first (nodes_of r.source) ∙ ap (λ n. is_attribute (Some n)) (first_now r t.0 t.1) ∙ sym (ap is_attribute (way_here (path r.source.stack) ∙ t.1))
+
 -- a node that may have children is no attribute
 no_attribute : (n : Node) → can_have_children (Some n) ≡ true → is_attribute (Some n) ≡ false
 no_attribute Document may = refl
@@ -358,18 +372,20 @@ takes_below (Source_frame buffer next asked ∷ gs) w take_it may = refl
 takes_below (Pass base level spent ∷ gs) w take_it may = refl
 
 -- frames alone are others
-pub alone_frames : (p : Program) (r : Run) (frames : FrameStack) → IsAlone p r → r.source.ahead ≢ ahead.Ended → IsAlone p (record r { frames = frames })
-alone_frames p r frames alone going = record {
+pub alone_frames : (p : Program) (r : Run) (frames : FrameStack) → IsAlone p r → r.source.ahead ≢ ahead.Ended → AreUntouched (reverse frames.frames) (nodes_of r.source)
+    → IsAlone p (record r { frames = frames })
+alone_frames p r frames alone going untouched = record {
   origin = alone.origin;
   outer = alone.outer;
   aside = alone.aside;
   held = alone.held;
   counted = alone.counted;
   whole = λ e. absurd (going e);
+  untouched = untouched;
   fuel = alone.fuel;
 }
 
-path_still : (given : Given) (p : Program) (h : Ahead) (nodes : List PathNode) → h ≢ ahead.Here → still.path_before given p h nodes ≡ nodes
+pub path_still : (given : Given) (p : Program) (h : Ahead) (nodes : List PathNode) → h ≢ ahead.Here → still.path_before given p h nodes ≡ nodes
 path_still given p ahead.Nothing nodes e = refl
 path_still given p ahead.Here nodes e = absurd (e refl)
 path_still given p ahead.Held nodes e = refl
@@ -407,6 +423,9 @@ body_moves_open p r s alone apart may pushed rest = record {
     held = ap (λ (x : Run). held_node x.source) rest ∙ alone.held;
     counted = λ e. subst HeadIsCounted (sym (ap (λ (x : Run). nodes_of x.source) rest)) (alone.counted (sym (ap (λ (x : Run). x.source.ahead) rest) ∙ e));
     whole = λ e depth skipped. let same : Some 0 ≡ Some depth = sym (ap skipped_in pushed) ∙ skipped in cc;
+    untouched =
+        untouched_to (Skip 0 ∷ reverse r.frames.frames) (reverse s.frames.frames) _ (nodes_of s.source) (sym pushed) (sym (ap (λ (x : Run). nodes_of x.source) rest))
+        (untouched_from (reverse r.frames.frames) (Skip 0 ∷ reverse r.frames.frames) (nodes_of r.source) (λ a. skip_frame a 0 (reverse r.frames.frames)) alone.untouched);
     fuel = subst (λ u. u ≤ p.limits.fuel) (sym (ap (λ (x : Run). x.fuel) rest)) alone.fuel;
   };
   over = λ e. absurd (goes_not_over step.More r tt e);

@@ -112,7 +112,7 @@ module _ (given : Given) (p : Program) where
     where
       by : (t : NodeTest) (b : Bool) → passes t (kind_of n.node) ≡ b → one_more n.node (still.before_head given p n x.children.passing) t ≡ x.children.passing t
       by t true e =
-          ap (λ b. if b then raised (if b then n.earlier t else x.children.passing t) else (if b then n.earlier t else x.children.passing t)) e ∙ sym (counted t e)
+          ap (λ b. if b then raised (if b then n.earlier t else x.children.passing t) else (if b then n.earlier t else x.children.passing t)) e ∙ sym (counted.0 t e)
       by t false e =
           ap (λ b. if b then raised (if b then n.earlier t else x.children.passing t) else (if b then n.earlier t else x.children.passing t)) e
 

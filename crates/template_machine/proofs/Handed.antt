@@ -1,14 +1,12 @@
 -- Values that instructions hand to parameters, as they wait among the locals.
-use Rattle.std.proofs.Common.{◌≡◌, ℕ, suc, ◌+◌, ◌-◌, List, [], ◌∷◌, ◌++◌, drop, length, map, take, Some, Result, Ok, Err, reverse, All, refl, ap, sym, subst, ◌∙◌, arith, append-nil, append_assoc, length-append}
+use Rattle.std.proofs.Common.{◌≡◌, ℕ, suc, ◌+◌, ◌-◌, List, [], ◌∷◌, ◌++◌, length, map, take, Result, Ok, Err, All, refl, ap, sym, ◌∙◌, arith, append-nil, append_assoc, length-append}
 use Rattle.std.proofs.Math.Seq.{take-append_seam}
 use Rattle.std.proofs.lemmas.List.Elements.{All-head, All-tail}
-use Rattle.stx_base.specs.Course.{Halt}
 use Rattle.stx_base.specs.declared.fault.Place.{Place}
 use Rattle.frame_stack.specs.declared.locals.Local.{Local}
 use Rattle.sheet_model.specs.declared.instr.WithParam.{WithParam}
 use Rattle.stxpath_values.specs.Outcome.{and_then, each}
 use Rattle.stxpath_values.specs.declared.fault.EvalFault.{EvalFault}
-use Rattle.stxpath_values.specs.declared.value.Atom.{Atom}
 use Rattle.var_store.specs.Variables.{bound}
 use Rattle.var_store.specs.declared.bound.Bound.{Bound}
 use Rattle.template_machine.specs.Declaring.{hands}
@@ -16,12 +14,13 @@ use Rattle.template_machine.specs.Job.{Does, Given, Here, Self}
 use Rattle.template_machine.specs.Saying.{Gave, SeesAs, sight}
 use Rattle.template_machine.specs.Seen.{named_of}
 use Rattle.template_machine.specs.Shifting.{handed_value}
-use Rattle.template_machine.specs.Still.{aside_of, handed_bounds}
-use Rattle.template_machine.specs.Values.{atoms_of, got, setting}
+use Rattle.template_machine.specs.Still.{handed_bounds}
+use Rattle.template_machine.specs.Values.{got, setting}
 use Rattle.template_machine.specs.declared.program.Program.{Program}
 use Rattle.template_machine.specs.declared.run.Run.{Run}
 use Rattle.template_machine.specs.declared.stop.Stop.{Stop}
 use Rattle.template_machine.specs.declared.stop.Stop.TheVariants as stop
+use Rattle.template_machine.specs.Parameters.{named_values}
 use Rattle.template_machine.proofs.Aside.{named_more, none_named}
 use Rattle.template_machine.proofs.Itemized.{atoms_seen}
 
@@ -65,12 +64,6 @@ stops_each f at (stop.Fault fault) all rest x before is gave =
     (gave.0, (is ∙ ap (λ r. and_then (and_then r (λ y. and_then (each f rest) (λ ys. Ok (y ∷ ys)))) (λ more. Ok (before ++ more))) gave.1.0, gave.1.1))
 stops_each f at (stop.Spent place) all rest x before is gave = absurd gave
 stops_each f at stop.Memory all rest x before is gave = tt
-
--- values with the names of their parameters
-abbrev pub named_values : List WithParam → List (List Atom) → List Bound
-named_values [] values = []
-named_values (p ∷ ps) [] = []
-named_values (p ∷ ps) (v ∷ vs) = bound p.name v ∷ named_values ps vs
 
 got_then : {A B : Type 0} (at : Place) (r : Result A EvalFault) (f : A → Result B EvalFault) (go : B → Does) → got at (and_then r f) go ≡ got at r (λ x. got at (f x) go)
 got_then at (Ok x) f go = refl

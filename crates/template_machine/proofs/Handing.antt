@@ -60,8 +60,9 @@ module _ (p : Program) (stations : List Station) where
         c,
         (
           refl,
-          λ n m locals level e body. record {
+          λ whose n m locals level e body. record {
             there = subst (λ f. Goes stations (pc + 1) (behind f c)) same l.1.2;
+            own = body.own;
             in_loops = body.in_loops ∙ e;
             locals_fit = (locals, (waiting, (refl, sym many, alone p stations locals c.locals body.locals_fit)));
             asked = λ e. some;

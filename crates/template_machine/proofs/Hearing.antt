@@ -13,7 +13,7 @@ use Rattle.frame_stack.specs.Stack.{FrameStack}
 use Rattle.frame_stack.specs.declared.frame.Frame.{Frame}
 use Rattle.frame_stack.specs.declared.frame.Frame.TheVariants.{Attributes, Body, Call, Loop, Pass, Region, Skip, Source as Source_frame}
 use Rattle.node_stack.specs.Counts.{counted, none, raised}
-use Rattle.node_stack.specs.Path.{Element as Element_node, Node, Path, PathNode, can_have_children, current, entered, kind_of, last_of, with_child}
+use Rattle.node_stack.specs.Path.{Element as Element_node, Node, Path, PathNode, can_have_children, current, entered, is_attribute, kind_of, last_of, with_child}
 use Rattle.node_stack.specs.Stack.{path, path_node}
 use Rattle.node_stack.specs.Test.{passes}
 use Rattle.node_stack.specs.declared.parked.Parked.{Parked}
@@ -32,7 +32,7 @@ use Rattle.template_machine.specs.Listed.{AreInOrder, TakenAlike, TakesList}
 use Rattle.template_machine.specs.Lists.{rest_of}
 use Rattle.template_machine.specs.Meaning.{head}
 use Rattle.template_machine.specs.Moments.{HasTold}
-use Rattle.template_machine.specs.Ordinary.{HeadIsCounted, IsAlone}
+use Rattle.template_machine.specs.Ordinary.{AreUntouched, HeadIsCounted, IsAlone, is_on_attribute, spent_of}
 use Rattle.template_machine.specs.Programs.{IsProgramOf}
 use Rattle.template_machine.specs.Sources.{held_node}
 use Rattle.template_machine.specs.Steps.{fuel_begun, fuel_ended}
@@ -52,9 +52,11 @@ use Rattle.template_machine.specs.declared.source.Origin.TheVariants as origin
 use Rattle.template_machine.specs.declared.source.Source.{Source}
 use Rattle.template_machine.specs.declared.stop.Stop.{Stop}
 use Rattle.template_machine.specs.declared.stop.Stop.TheVariants as stop
+use Rattle.template_machine.specs.Well.{AreGone}
 use Rattle.var_store.specs.Copies.{Stored}
 use Rattle.template_machine.proofs.Listing.{counts_unseen, lists_alike}
 use Rattle.template_machine.proofs.Skipping.{Silent, skip_silent}
+use Rattle.template_machine.proofs.Untouched.{gone_not, skip_deeper, untouched_from, untouched_here, untouched_to}
 
 -- A child of the current node, the nodes from the current one on.
 
@@ -316,26 +318,45 @@ full_by p given units program full = full ∙ ap (λ (l : Limits). l.fuel) progr
 all_full : (units limit : ℕ) → units ≡ limit → units ≤ limit
 all_full units limit e = omega (arith, e)
 
-took_alone : (p : Program) (n : Node) (r s : Run) → IsAlone p r → TookHead p n r s → HeadIsCounted (nodes_of s.source) → IsAlone p s
-took_alone p n r s alone took counted = record {
+leaf_apart : (leaf : Leaf) → is_attribute (Some (leaf_node leaf)) ≡ false
+leaf_apart (tree.Chars offset text) = refl
+leaf_apart (tree.CData offset text) = refl
+leaf_apart (tree.Comment offset text) = refl
+leaf_apart (tree.Pi offset target text) = refl
+
+-- the children are gone of the bodies whose lists go on
+takes_gone : (fs : List Frame) → TakesList fs → AreGone fs → spent_of false fs ≡ Some false → ⊥
+takes_gone [] takes gone e = takes
+takes_gone (Attributes next asked ∷ fs) takes gone e = takes
+takes_gone (f ∷ fs) takes gone e = gone_not (f ∷ fs) gone e
+
+took_alone : (p : Program) (n : Node) (r s : Run) → IsAlone p r → TookHead p n r s → HeadIsCounted (nodes_of s.source) → AreUntouched (reverse r.frames.frames) (nodes_of s.source)
+    → IsAlone p s
+took_alone p n r s alone took counted untouched = record {
   counted = λ e. counted;
   origin = took.origin ∙ alone.origin;
   outer = ap (λ (x : Run). x.outer.items) took.rest ∙ alone.outer;
   aside = ap (λ (x : Run). x.aside.items) took.rest ∙ alone.aside;
   held = took.held ∙ alone.held;
   whole = λ e. absurd (let no : ahead.Here ≡ ahead.Ended = sym took.ahead ∙ e in cc);
+  untouched =
+      untouched_to (reverse r.frames.frames) (reverse s.frames.frames) (nodes_of s.source) (nodes_of s.source) (sym (ap (λ (x : Run). reverse x.frames.frames) took.rest)) refl untouched;
   fuel = all_full s.fuel p.limits.fuel took.fuel;
 }
 
 stayed_alone : (p : Program) (h : Ahead) (r s : Run) → IsAlone p r → StayedAt p h r s
-    → h ≢ ahead.Here → (h ≡ ahead.Ended → (depth : ℕ) → skipped_in (reverse s.frames.frames) ≡ Some depth → depth ≡ 0) → IsAlone p s
-stayed_alone p h r s alone stayed apart whole = record {
+    → h ≢ ahead.Here → (h ≡ ahead.Ended → (depth : ℕ) → skipped_in (reverse s.frames.frames) ≡ Some depth → depth ≡ 0)
+    → ((a : Bool) → spent_of a (reverse s.frames.frames) ≡ spent_of a (reverse r.frames.frames)) → IsAlone p s
+stayed_alone p h r s alone stayed apart whole same = record {
   counted = λ e. absurd (apart (sym stayed.ahead ∙ e));
   origin = stayed.origin ∙ alone.origin;
   outer = ap (λ (x : Run). x.outer.items) stayed.rest ∙ alone.outer;
   aside = ap (λ (x : Run). x.aside.items) stayed.rest ∙ alone.aside;
   held = ap (λ (x : Option Parked). option_map path_node x) stayed.held ∙ alone.held;
   whole = λ e. whole (sym stayed.ahead ∙ e);
+  untouched =
+      untouched_to (reverse s.frames.frames) (reverse s.frames.frames) (nodes_of r.source) (nodes_of s.source) refl (sym (ap (λ (x : NodeStack). reverse (path x).nodes) stayed.stack))
+      (untouched_from (reverse r.frames.frames) (reverse s.frames.frames) (nodes_of r.source) (λ a e. sym (same a) ∙ e) alone.untouched);
   fuel = all_full s.fuel p.limits.fuel stayed.fuel;
 }
 
@@ -347,7 +368,11 @@ module _ (p : Program) (r s : Run) (n : Node) (listens : Listens p r) (took : To
   path_now = ap (λ (q : Path). reverse q.nodes) took.path_is ∙ nodes_entered n (path r.source.stack).nodes there.0 there.1.0 there.1.1
 
   counted_now : HeadIsCounted (nodes_of s.source)
-  counted_now = subst HeadIsCounted (sym path_now) (λ t pass. ap (λ b. if b then raised (there.0.children.passing t) else there.0.children.passing t) pass)
+  counted_now = subst HeadIsCounted (sym path_now) ((λ t pass. ap (λ b. if b then raised (there.0.children.passing t) else there.0.children.passing t) pass), refl)
+
+  untouched_now : is_attribute (Some n) ≡ false → AreUntouched (reverse r.frames.frames) (nodes_of s.source)
+  untouched_now node =
+      untouched_here (reverse r.frames.frames) (nodes_of s.source) (ap is_on_attribute path_now ∙ node) (takes_gone (reverse r.frames.frames) listens.takes listens.gone)
 
   after_head : (given : Given) (program : IsProgramOf given.sheet given.limits p) (left : Left) (f : Future)
       → still.still given p s left f
@@ -366,7 +391,8 @@ module _ (p : Program) (r s : Run) (n : Node) (listens : Listens p r) (took : To
 pub leaf_heard : (p : Program) (r s : Run) (leaf : Leaf) → Listens p r → TookHead p (leaf_node leaf) r s → can_have_children (current (path r.source.stack)) ≡ true
     → HearsAll p (leaf_first leaf) r s
 leaf_heard p r s leaf listens took may = record {
-  alone = took_alone p (leaf_node leaf) r s listens.alone took (counted_now p r s (leaf_node leaf) listens took may);
+  alone = took_alone p (leaf_node leaf) r s listens.alone took (counted_now p r s (leaf_node leaf) listens took may)
+      (untouched_now p r s (leaf_node leaf) listens took may (leaf_apart leaf));
   does = λ given program left f.
       let t = there p r s (leaf_node leaf) listens took may in
       same_then (same_equal (flat_code given) (before_head p r s (leaf_node leaf) listens took may given left (leaf_first leaf f)))
@@ -378,7 +404,8 @@ leaf_heard p r s leaf listens took may = record {
 pub start_heard : (p : Program) (r s : Run) (e : Element) (first : First) → Listens p r → TookHead p (Element_node e.name e.attrs e.decls first) r s
     → can_have_children (current (path r.source.stack)) ≡ true → HearsAll p (start_first e first) r s
 start_heard p r s e first listens took may = record {
-  alone = took_alone p (Element_node e.name e.attrs e.decls first) r s listens.alone took (counted_now p r s (Element_node e.name e.attrs e.decls first) listens took may);
+  alone = took_alone p (Element_node e.name e.attrs e.decls first) r s listens.alone took (counted_now p r s (Element_node e.name e.attrs e.decls first) listens took may)
+      (untouched_now p r s (Element_node e.name e.attrs e.decls first) listens took may refl);
   does = λ given program left f.
       let n = Element_node e.name e.attrs e.decls first in
       let t = there p r s n listens took may in
@@ -415,7 +442,8 @@ module _ (p : Program) (r s : Run) (depth now : ℕ) (skips : Skips p depth r) (
       → lists_at given p ahead.Nothing (nodes_of r.source) held aside (Skip depth ∷ fs) st (heard f) ≡ lists_at given p ahead.Nothing (nodes_of r.source) held aside (Skip now ∷ fs) (refuelled given st) f)
       → HearsAll p heard r s
   skip_heard heard alike = record {
-    alone = stayed_alone p ahead.Nothing r s skips.alone stayed (λ e. cc) (λ e. absurd (let no : ahead.Nothing ≡ ahead.Ended = e in cc));
+    alone = stayed_alone p ahead.Nothing r s skips.alone stayed (λ e. cc) (λ e. absurd (let no : ahead.Nothing ≡ ahead.Ended = e in cc))
+        (λ a. ap (spent_of a) (to depth skipping.0 skipping.1) ∙ skip_deeper a now depth skipping.0 ∙ sym (ap (spent_of a) skipping.1));
     does = λ given program left f.
         same_equal (flat_code given)
         (still_lists given p r ahead.Nothing (nodes_of r.source) (Skip depth ∷ skipping.0) left (heard f) skips.doing skips.ahead refl skipping.1 refl
@@ -440,7 +468,8 @@ pub end_heard : (p : Program) (r s : Run) (offset : ℕ) → MayEnd p r → Stay
 end_heard p r s offset (inl listens) stayed frames_are = record {
   alone =
       stayed_alone p ahead.Ended r s listens.alone stayed (λ e. cc)
-      (λ e depth skipped. absurd (let no : None ≡ Some depth = sym (unskipped (reverse r.frames.frames) listens.takes) ∙ ap skipped_in (sym frames_are) ∙ skipped in cc));
+      (λ e depth skipped. absurd (let no : None ≡ Some depth = sym (unskipped (reverse r.frames.frames) listens.takes) ∙ ap skipped_in (sym frames_are) ∙ skipped in cc))
+      (λ a. ap (spent_of a) frames_are);
   does = λ given program left f.
       same_then
       (same_equal (flat_code given) (still_lists given p r ahead.Nothing (nodes_of r.source) (reverse r.frames.frames) left (end_first offset f) listens.doing listens.ahead refl refl
@@ -452,7 +481,8 @@ end_heard p r s offset (inl listens) stayed frames_are = record {
 end_heard p r s offset (inr skips) stayed frames_are = record {
   alone =
       stayed_alone p ahead.Ended r s skips.alone stayed (λ e. cc)
-      (λ e depth skipped. let same : Some 0 ≡ Some depth = sym skips.skipped ∙ ap skipped_in (sym frames_are) ∙ skipped in cc);
+      (λ e depth skipped. let same : Some 0 ≡ Some depth = sym skips.skipped ∙ ap skipped_in (sym frames_are) ∙ skipped in cc)
+      (λ a. ap (spent_of a) frames_are);
   does = λ given program left f.
       let at = skipped_frames (reverse r.frames.frames) 0 skips.skipped in
       same_equal (flat_code given)
@@ -565,7 +595,7 @@ module _ (given : Given) (p : Program) (s : Run) (spare : Kept) (left : Left) (f
 pub spare_heard : {A : Type 0} (p : Program) (heard : Future → Future) (result : Result A Stop) (r s : Run) (spare : Kept) → Hears p heard result r s
     → Hears p heard result r (record s { putting = record s.putting { spare = spare } })
 spare_heard p heard (Ok done) r s spare h = record {
-  alone = record { origin = h.alone.origin; outer = h.alone.outer; aside = h.alone.aside; held = h.alone.held; counted = h.alone.counted; whole = h.alone.whole; fuel = h.alone.fuel };
+  alone = record { origin = h.alone.origin; outer = h.alone.outer; aside = h.alone.aside; held = h.alone.held; counted = h.alone.counted; whole = h.alone.whole; untouched = h.alone.untouched; fuel = h.alone.fuel };
   does = λ given program left f. same_then (h.does given program left f) (same_equal (flat_code given) (still_spare given p s spare left f));
 }
 spare_heard p heard (Err (stop.Fault fault)) r s spare h = record { alone = tt; does = h.does }

@@ -24,6 +24,7 @@ use Rattle.template_machine.specs.declared.source.Source as sources
 use Rattle.template_machine.proofs.Nodes.{is_way}
 use Rattle.template_machine.proofs.Regions.{writing_way}
 use Rattle.template_machine.proofs.Ways.{way_here}
+use Rattle.template_machine.proofs.Headed.{list_parts}
 
 -- no source around the innermost, and no node beside its path
 abbrev pub NoOther : Standing → Type 0
@@ -69,7 +70,7 @@ module _ (p : Program) (stations : List Station) where
   in_order loops waits (Skip depth ∷ fs) s w h = in_order 0 true fs _ w.4 (skip_keeps s.aside s h.0 h)
   in_order loops waits (Pass base level spent ∷ fs) s w h = in_order 0 true fs _ w.6 (over_keeps level fs s h)
 
-  below_takes : (loops : ℕ) (fs : List Frame) (s : Standing) → AreWell p stations (suc loops) true fs s → TakesList fs
+  pub below_takes : (loops : ℕ) (fs : List Frame) (s : Standing) → AreWell p stations (suc loops) true fs s → TakesList fs
   below_takes loops [] s w = absurd (let no : suc loops ≡ 0 = w.0 in cc)
   below_takes loops (Loop turn ∷ fs) s w = below_takes (suc loops) fs s w
   below_takes loops (Attributes next asked ∷ fs) s w = absurd (let no : suc loops ≡ 0 = w.0 in cc)
@@ -140,4 +141,5 @@ listens_told p e r told alone unskipped = record {
   ahead = told.ahead;
   takes = takes_list_of p told.stations (reverse r.frames.frames) (standing_of r) (standing_of r).source.way told.before standing.Unknown told.well told.list unskipped told.fits;
   order = in_order p told.stations 0 true (reverse r.frames.frames) (standing_of r) told.well (alone_there p r alone);
+  gone = (list_parts (reverse r.frames.frames) (standing_of r).source.way told.before standing.Unknown told.list unskipped told.fits).1;
 }

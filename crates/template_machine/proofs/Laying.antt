@@ -1,5 +1,5 @@
 -- Operations with their stations, one piece behind another.
-use Rattle.std.proofs.Common.{◌≡◌, ℕ, ◌+◌, List, [], ◌∷◌, ◌++◌, length, Some, refl, sym, subst, arith, length-append}
+use Rattle.std.proofs.Common.{◌≡◌, ℕ, zero, suc, ◌+◌, List, [], ◌∷◌, ◌++◌, length, Some, refl, ap, sym, subst, ◌∙◌, arith, length-append}
 use Rattle.std.specs.List.{slice_get}
 use Rattle.instr_code.specs.declared.code.Code.{Code}
 use Rattle.instr_code.specs.declared.code.Op.{Op}
@@ -24,6 +24,23 @@ pub holds_second : (all : List Station) (p q : ℕ) (xs ys : List Station) → p
 holds_second all p q [] ys e h = holds_to all p q ys (omega (arith, e)) h
 holds_second all p q (x ∷ xs) ys e h = holds_second all (p + 1) q xs ys (omega (arith, e)) h.1
 
+-- they are of one body
+abbrev pub AreOwn : (body : ℕ) → List Station → Type 0
+AreOwn body [] = Unit {0}
+AreOwn body (x ∷ xs) = (x.context.body ≡ body) × AreOwn body xs
+
+pub own_append : (body : ℕ) (xs ys : List Station) → AreOwn body xs → AreOwn body ys → AreOwn body (xs ++ ys)
+own_append body [] ys h k = k
+own_append body (x ∷ xs) ys h k = (h.0, own_append body xs ys h.1 k)
+
+pub own_of : {a b : ℕ} (xs : List Station) → a ≡ b → AreOwn a xs → AreOwn b xs
+own_of xs e h = subst (λ n. AreOwn n xs) e h
+
+pub own_at : (body : ℕ) (xs : List Station) (k : ℕ) (x : Station) → AreOwn body xs → slice_get xs k ≡ Some x → x.context.body ≡ body
+own_at body [] k x h is = absurd (cc)
+own_at body (y ∷ xs) zero x h is = let same : y ≡ x = cc in ap (λ (z : Station). z.context.body) (sym same) ∙ h.0
+own_at body (y ∷ xs) (suc k) x h is = own_at body xs k x h.1 is
+
 module _ (code : Code) where
   -- each operation leads where its station says
   abbrev pub AreLed : (all : List Station) (place : ℕ) → List Op → List Station → Type 0
@@ -45,6 +62,9 @@ module _ (code : Code) where
     pub high : ℕ
     pub stations : List Station
     pub long : length stations ≡ length ops
+    -- all of it is of one body
+    pub own : AreOwn source.body stations
+    pub same : to.body ≡ source.body
     pub begins : (all : List Station) → A all → Holds all p stations → IsAt all (p + length ops) to low → IsAt all p source high
     pub leads : (all : List Station) → A all → Holds all p stations → IsAt all (p + length ops) to low → AreLed all p ops stations
 
@@ -54,6 +74,8 @@ module _ (code : Code) where
     high = x.high;
     stations = x.stations;
     long = x.long;
+    own = x.own;
+    same = x.same;
     begins = λ all b h at. x.begins all (f all b) h at;
     leads = λ all b h at. x.leads all (f all b) h at;
   }
@@ -63,17 +85,21 @@ module _ (code : Code) where
     high = low;
     stations = [];
     long = refl;
+    own = tt;
+    same = ap (λ (x : Context). x.body) (sym e);
     begins = λ all a h at. subst (λ x. IsAt all p x low) (sym e) (is_to all (p + 0) p d low (omega arith) at);
     leads = λ all a h at. tt;
   }
 
-  abbrev pub laid_op : (A : List Station → Type 0) (o : Op) (p : ℕ) (source to : Context) (low rank : ℕ)
+  abbrev pub laid_op : (A : List Station → Type 0) (o : Op) (p : ℕ) (source to : Context) (low rank : ℕ) → to.body ≡ source.body
       → ((all : List Station) → A all → IsAt all p source rank → IsAt all (p + 1) to low → Leads code all p source rank o)
       → Laid A (o ∷ []) p source to low
-  laid_op A o p source to low rank f = record {
+  laid_op A o p source to low rank same f = record {
     high = rank;
     stations = record { context = source; rank = rank } ∷ [];
     long = refl;
+    own = (refl, tt);
+    same = same;
     begins = λ all a h at. h.0;
     leads = λ all a h at. (f all a h.0 at, tt);
   }
@@ -93,6 +119,8 @@ module _ (code : Code) where
     high = x.high;
     stations = x.stations ++ y.stations;
     long = omega (arith, length-append x.stations y.stations, length-append a b, x.long, y.long);
+    own = own_append source.body x.stations y.stations x.own (own_of y.stations x.same y.own);
+    same = y.same ∙ x.same;
     begins = λ all given h at.
         let m = between A a b p q x.stations mid to low y e x.long all given h at in
         x.begins all given (holds_first all p x.stations y.stations h) m.2;

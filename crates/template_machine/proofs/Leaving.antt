@@ -1,11 +1,11 @@
 -- A node is over, and its list goes on.
-use Rattle.std.proofs.Common.{◌≡◌, ℕ, Bool, true, false, List, [], ◌∷◌, Some, refl, ap, sym, subst, ◌∙◌}
+use Rattle.std.proofs.Common.{◌≡◌, ℕ, Bool, true, false, List, [], ◌∷◌, Option, Some, None, refl, ap, sym, subst, ◌∙◌}
 use Rattle.std.specs.Prelude.{◌&&◌, not, MatchBool}
 use Rattle.std.proofs.lemmas.Bool.{false≢true}
 use Rattle.frame_stack.specs.declared.frame.Frame.{Frame}
 use Rattle.frame_stack.specs.declared.frame.Frame.TheVariants.{Body, Attributes, Skip}
 use Rattle.frame_stack.specs.declared.locals.Local.{Local}
-use Rattle.node_stack.specs.Path.{Node, Document, can_have_children, is_attribute}
+use Rattle.node_stack.specs.Path.{Node, Document, Element, can_have_children, is_attribute}
 use Rattle.template_machine.specs.Contexts.{Station}
 use Rattle.template_machine.specs.Standing.{Front, Known, Standing, node_over}
 use Rattle.template_machine.specs.Ways.{IsWay, Way, here, left}
@@ -54,12 +54,19 @@ no_attribute : (b : Bool) (A B : Type 0) → b ≡ false → MatchBool b A B →
 no_attribute true A B e h = absurd (false≢true (sym e))
 no_attribute false A B e h = h
 
+-- a node that has a list of nodes is no attribute
+list_node : (o : Option Node) → can_have_children o ≡ true → is_attribute o ≡ false
+list_node None has = refl
+list_node (Some Document) has = refl
+list_node (Some (Element name attrs decls first)) has = refl
+list_node (Some x) has = absurd (false≢true has)
+
 -- an attribute's list, or another
 pub leaves_fits : (fs : List Frame) (w : Way) (n : ℕ) (front : Front) → (fs ≡ [] → ⊥) → CanTake fs w → HasList (left w)
     → LeavesFront fs w n front → ListFits fs (left w) n front
 leaves_fits [] w n front some take has h = absurd (some refl)
 leaves_fits (Attributes next asked ∷ fs) w n front some take has h =
-    subst (λ b. MatchBool b (IsSettled fs (left w) n front) (IsFrontFor (left w) n front)) take h
+    (list_node (here (left w)) has, subst (λ b. MatchBool b (IsSettled fs (left w) n front) (IsFrontFor (left w) n front)) take h)
 leaves_fits (Skip depth ∷ fs) w n front some take has h = absurd take
 leaves_fits (f ∷ fs) w n front some take has h =
     (has, take.1, no_attribute (is_attribute (here w)) (IsSettled (f ∷ fs) (left w) n front) (IsFrontFor (left w) n front) take.0 h)

@@ -1,4 +1,4 @@
-pub mod Computing
+mod Computing
 pub mod Rows
 pub mod Weighing
 pub mod Fresh
@@ -24,10 +24,19 @@ pub mod Listing
 pub mod Hearing
 pub mod InOrder
 pub mod Behind
+pub mod Composed
+pub mod Attributed
+pub mod FromStart
 pub mod Onward
 pub mod Finished
 pub mod Returning
 pub mod PassedOn
+pub mod FirstPlace
+pub mod Binding
+pub mod Varying
+pub mod EntersBody
+pub mod HeadTaken
+pub mod PassedThrough
 pub mod FromLists
 pub mod Selected
 pub mod Embodied
@@ -48,7 +57,7 @@ pub mod Valued
 pub mod Handed
 pub mod Walked
 pub mod Inside
-pub mod Staying
+pub mod InTurn
 pub mod Patterned
 pub mod Stopping
 pub mod Arms
@@ -125,9 +134,14 @@ pub mod Copied
 pub mod Closes
 pub mod Tagging
 pub mod Opened
+pub mod Opening
 pub mod Telling
 pub mod Owned
 pub mod Named
+pub mod Naming
+pub mod Localized
+pub mod Instructed
+pub mod Processed
 pub mod Beside
 pub mod Within
 pub mod Deepened
@@ -163,3 +177,16 @@ pub mod Sectionless
 pub mod OlderTests
 pub mod OlderRun
 pub mod Written
+pub mod Spent
+pub mod AskedAgain
+pub mod PassedAgain
+pub mod Untouched
+pub mod Untaken
+pub mod Alone
+pub mod ForChildren
+pub mod ForItself
+pub mod NamedValues
+pub mod Commanded
+pub mod Operated
+pub mod CalledOn
+pub mod CalledBy

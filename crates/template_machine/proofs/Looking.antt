@@ -116,7 +116,7 @@ attribute_taken p r n w next g there same is source frames =
       head = refl;
       apart = refl;
       take = refl;
-      fits = g.list.fits;
+      fits = g.list.fits.1;
     } in
     record {
       steady =
@@ -133,7 +133,7 @@ attribute_taken p r n w next g there same is source frames =
     }
 
 -- Attributes are over, and the body waits.
-asks_level : (fs : List Frame) (asked : ℕ) → AsksBefore fs asked → IsSome (level_in fs)
+pub asks_level : (fs : List Frame) (asked : ℕ) → AsksBefore fs asked → IsSome (level_in fs)
 asks_level [] asked a = absurd a
 asks_level (Loop turn ∷ fs) asked a = asks_level fs asked a
 asks_level (Body template alternative pc locals level spent ∷ fs) asked a = refl

@@ -35,8 +35,8 @@ module _ (p : Program) (stations : List Station) where
   abbrev pub BodyIs : (loops : ℕ) → (waits : Bool) → List Frame → Context → Standing → Type 0
   BodyIs loops waits [] c s = ⊥
   BodyIs loops waits (Loop turn ∷ fs) c s = BodyIs (suc loops) waits fs c s
-  BodyIs loops waits (Body template alternative pc locals level spent ∷ fs) c s = IsBody p stations loops waits pc locals level c s
-  BodyIs loops waits (Call procedure pc locals level ∷ fs) c s = IsBody p stations loops waits pc locals level c s
+  BodyIs loops waits (Body template alternative pc locals level spent ∷ fs) c s = IsBody p stations template loops waits pc locals level c s
+  BodyIs loops waits (Call procedure pc locals level ∷ fs) c s = IsBody p stations (length p.sheet.templates + procedure) loops waits pc locals level c s
   BodyIs loops waits (f ∷ fs) c s = ⊥
 
   -- it has a context
@@ -60,7 +60,7 @@ module _ (p : Program) (stations : List Station) where
   moves g pc h m loops more waits waited (Body template alternative old locals level spent ∷ fs) s t some w f =
       let d = f w.0 w.1.1.0 in
       let is = m.template template alternative old locals level spent in
-      let body : IsBody p stations more waited (pc old) (h locals) level d.0 t = subst (λ (x : Frame). BodyIs more waited (x ∷ fs) d.0 t) is d.1.0 in
+      let body : IsBody p stations template more waited (pc old) (h locals) level d.0 t = subst (λ (x : Frame). BodyIs more waited (x ∷ fs) d.0 t) is d.1.0 in
       let moved : AreWell p stations more waited (Body template alternative (pc old) (h locals) level spent ∷ fs) t = (
         d.0,
         (
@@ -78,7 +78,7 @@ module _ (p : Program) (stations : List Station) where
   moves g pc h m loops more waits waited (Call procedure old locals level ∷ fs) s t some w f =
       let d = f w.0 w.1.1.0 in
       let is = m.procedure procedure old locals level in
-      let body : IsBody p stations more waited (pc old) (h locals) level d.0 t = subst (λ (x : Frame). BodyIs more waited (x ∷ fs) d.0 t) is d.1.0 in
+      let body : IsBody p stations (length p.sheet.templates + procedure) more waited (pc old) (h locals) level d.0 t = subst (λ (x : Frame). BodyIs more waited (x ∷ fs) d.0 t) is d.1.0 in
       let moved : AreWell p stations more waited (Call procedure (pc old) (h locals) level ∷ fs) t =
       (d.0, (w.1.0, (body, w.1.1.1, w.1.1.2, subst (AreWell p stations 0 false fs) (sym d.1.1) w.1.1.3))) in
       subst (λ (x : Frame). AreWell p stations more waited (x ∷ fs) t) (sym is) moved
@@ -89,8 +89,8 @@ module _ (p : Program) (stations : List Station) where
       → (R : ℕ → ℕ → Type 0) → ((n m : ℕ) → R n m → R (suc n) (suc m))
       → (loops more : ℕ) (waits waited : Bool) (fs : List Frame) (c d : Context) (s t : Standing) (pc : ℕ) → R loops more → pc_in fs ≡ Some pc
       → BodyIs loops waits fs c s
-      → ((n m : ℕ) (locals : List Local) (level : ℕ) → R n m → IsBody p stations n waits pc locals level c s
-      → IsBody p stations m waited (to pc) (h locals) level d t)
+      → ((whose n m : ℕ) (locals : List Local) (level : ℕ) → R n m → IsBody p stations whose n waits pc locals level c s
+      → IsBody p stations whose m waited (to pc) (h locals) level d t)
       → BodyIs more waited (on_body g fs) d t
   body_moves g to h m R up loops more waits waited [] c d s t pc r at b f = absurd b
   body_moves g to h m R up loops more waits waited (Loop turn ∷ fs) c d s t pc r at b f =
@@ -98,13 +98,13 @@ module _ (p : Program) (stations : List Station) where
   body_moves g to h m R up loops more waits waited (Body template alternative old locals level spent ∷ fs) c d s t pc r at b f =
       let same : old ≡ pc = cc in
       subst (λ (x : Frame). BodyIs more waited (x ∷ fs) d t) (sym (m.template template alternative old locals level spent))
-      (subst (λ n. IsBody p stations more waited (to n) (h locals) level d t) (sym same)
-      (f loops more locals level r (subst (λ n. IsBody p stations loops waits n locals level c s) same b)))
+      (subst (λ n. IsBody p stations template more waited (to n) (h locals) level d t) (sym same)
+      (f template loops more locals level r (subst (λ n. IsBody p stations template loops waits n locals level c s) same b)))
   body_moves g to h m R up loops more waits waited (Call procedure old locals level ∷ fs) c d s t pc r at b f =
       let same : old ≡ pc = cc in
       subst (λ (x : Frame). BodyIs more waited (x ∷ fs) d t) (sym (m.procedure procedure old locals level))
-      (subst (λ n. IsBody p stations more waited (to n) (h locals) level d t) (sym same)
-      (f loops more locals level r (subst (λ n. IsBody p stations loops waits n locals level c s) same b)))
+      (subst (λ n. IsBody p stations (length p.sheet.templates + procedure) more waited (to n) (h locals) level d t) (sym same)
+      (f (length p.sheet.templates + procedure) loops more locals level r (subst (λ n. IsBody p stations (length p.sheet.templates + procedure) loops waits n locals level c s) same b)))
   body_moves g to h m R up loops more waits waited (f ∷ fs) c d s t pc r at b k = absurd b
 
   -- an innermost body has an operation
@@ -130,7 +130,8 @@ module _ (p : Program) (stations : List Station) where
       → (R : ℕ → ℕ → Type 0) → ((n m : ℕ) → R n m → R (suc n) (suc m))
       → (loops more : ℕ) (waits waited : Bool) (fs : List Frame) (s : Standing) (pc : ℕ) → R loops more → pc_in fs ≡ Some pc → AreWell p stations loops waits fs s
       → ((c : Context) → Goes stations pc c → (d : Context) × ((d.writing ≡ c.writing)
-      × ((n m : ℕ) (locals : List Local) (level : ℕ) → R n m → IsBody p stations n waits pc locals level c s → IsBody p stations m waited (to pc) (h locals) level d s)))
+      × ((whose n m : ℕ) (locals : List Local) (level : ℕ) → R n m → IsBody p stations whose n waits pc locals level c s
+      → IsBody p stations whose m waited (to pc) (h locals) level d s)))
       → AreWell p stations more waited (on_body g fs) s
   steps g to h m R up loops more waits waited fs s pc r at w f =
       moves g to h m loops more waits waited fs s s (some_level fs pc at) w
@@ -146,8 +147,9 @@ module _ (p : Program) (stations : List Station) where
         c,
         (
           refl,
-          λ n m locals level e b. record {
+          λ whose n m locals level e b. record {
             there = go c g;
+            own = b.own;
             in_loops = b.in_loops ∙ e;
             locals_fit = b.locals_fit;
             asked = λ e. absurd (false≢true e);
@@ -206,8 +208,9 @@ module _ (p : Program) (stations : List Station) where
         (
           body_moves (λ f. with_locals (take len) (with_pc (pc + 1) f)) (λ o. pc + 1) (take len) (moves_locals (pc + 1) (take len)) (λ n m. n ≡ m) (λ n m e. ap suc e)
               0 0 false false fs c o.0 s s pc refl at b
-              (λ n m locals level e body. record {
+              (λ whose n m locals level e body. record {
                 there = (o.1.1.2.0, o.1.1.2.1.0);
+                own = sym (ap (λ (x : Context). x.body) o.1.1.0) ∙ body.own;
                 in_loops = sym (ap (λ (x : Context). x.loops) o.1.1.0) ∙ body.in_loops ∙ e;
                 locals_fit =
                     by_themselves (take len locals) o.0.locals
@@ -310,14 +313,15 @@ module _ (p : Program) (stations : List Station) where
         (
           body_moves p stations (with_locals (take len)) (λ o. o) (take len) (moves_only (take len)) (λ n m. n ≡ m) (λ n m e. ap suc e)
               0 0 true false fs c c s s pc refl at b
-              (λ n m locals level e body.
+              (λ whose n m locals level e body.
               let v = body.locals_fit in
-              let own : take len locals ≡ v.0 =
+              let alone_now : take len locals ≡ v.0 =
               ap (λ k. take k locals) (long c b ∙ sym (are_long p stations v.0 c.locals v.1.1.2)) ∙ ap (take (length v.0)) v.1.1.0 ∙ take-append_seam v.0 v.1.0 in
               record {
                 there = body.there;
+                own = body.own;
                 in_loops = body.in_loops ∙ e;
-                locals_fit = by_themselves p stations (take len locals) c.locals (subst (λ l. AreOf l c.locals) (sym own) v.1.1.2);
+                locals_fit = by_themselves p stations (take len locals) c.locals (subst (λ l. AreOf l c.locals) (sym alone_now) v.1.1.2);
                 asked = λ e. absurd (false≢true e);
                 level_is = body.level_is;
                 writes = body.writes;

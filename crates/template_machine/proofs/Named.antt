@@ -32,7 +32,7 @@ use Rattle.sheet_model.specs.declared.sheet.Sheet.{Sheet}
 use Rattle.sheet_model.specs.declared.sheet.Template.{Template}
 use Rattle.stx_base.specs.declared.name.Name.{Name}
 use Rattle.template_machine.specs.Finding.{base_of, buffer_in, buffer_seen, is_named, procedure_in, procedure_seen}
-use Rattle.template_machine.specs.Programs.{AreLinked, groups_of, instr_of, link_of, named_in}
+use Rattle.template_machine.specs.Programs.{AreLinked, IsOf, groups_of, instr_of, link_of, named_in}
 use Rattle.template_machine.specs.Variables.{first_some}
 use Rattle.template_machine.specs.Well.{IsSteady}
 use Rattle.template_machine.specs.Working.{HasBase, HasBuffer, HasProcedure}
@@ -41,6 +41,7 @@ use Rattle.template_machine.specs.declared.program.Program.{Program}
 use Rattle.template_machine.specs.declared.run.Run.{Run}
 use Rattle.template_machine.proofs.Bodiless.{found_too}
 use Rattle.template_machine.proofs.Evaluable.{all_at}
+use Rattle.template_machine.proofs.LaidOut.{laid_out}
 use Rattle.template_machine.proofs.Numbering.{in_either}
 use Rattle.template_machine.proofs.Owned.{of_first, of_second, owned_at, owner}
 use Rattle.template_machine.proofs.Telling.{Told, all_told, body_told, named_told}
@@ -128,7 +129,10 @@ bare_buffer i = ap buffer_named (out-roll-Instr (bare_layer (out-Instr i))) ∙ 
 
 -- What is known of the instruction of an operation.
 record Linked (s : Sheet) (links : List Link) (k : ℕ) (i : Instr) : Type 0 where
+  body : ℕ
   group : ℕ
+  at : slice_get (groups_of (without_bodies s)) body ≡ Some group
+  of_body : IsOf (code_of s) body k
   within : group < length s.groups
   link : slice_get links k ≡ Some (link_of (without_bodies s) group i)
   procedure : (name : Name) → procedure_named (out-Instr i) ≡ Some name → IsFound s group (ProcedureNamed name)
@@ -148,7 +152,10 @@ linked s links h are place k o i is for there =
     let told = all_at (Told P) (all_of w.list) w.number j (all_told P (body_nesting w.list) w.list g.told) own in
     let names = named_told P j told in
     record {
+      body = w.body;
       group = g.group;
+      at = g.at;
+      of_body = owner s place k o w is for;
       within = g.within;
       link = are w.body g.group k g.at (owner s place k o w is for) i there;
       procedure = λ name e. names.0 name (sym (bare_procedure j) ∙ ap (λ x. procedure_named (out-Instr x)) m.1.1 ∙ e);
@@ -273,6 +280,9 @@ base_within s (Some name) g h = by (position (λ (x : Group). is_named name x.na
 
 -- Of a run.
 
+one_of : {A : Type 0} {x y : A} → Some x ≡ Some y → x ≡ y
+one_of e = cc
+
 module _ (p : Program) (r : Run) (steady : IsSteady p r) where
   abbrev sheet : Sheet
   sheet = steady.sheet
@@ -298,6 +308,25 @@ module _ (p : Program) (r : Run) (steady : IsSteady p r) where
       ap (λ o. unwrap_or (option_or (option_and_then (procedure_seen t l.group) o) (option_and_then (buffer_seen t l.group) (buffer_named x))) 0) named
       ∙ ap (λ o. unwrap_or (option_or o (option_and_then (buffer_seen t l.group) (buffer_named x))) 0) f.1.0 in
       (link_of t l.group i, (l.link, subst (λ (y : Sheet). (link_of t l.group i).named < length y.procedures) (sym steady.program.sheet_is) (omega (arith, same, f.1.1))))
+
+  -- the procedure that an instruction of a body names is seen from the body's group
+  pub procedure_linked : (place k : ℕ) (o : Op) (i : Instr) (name : Name) → slice_get p.code.ops place ≡ Some o → instr_of o ≡ Some k
+      → slice_get p.code.instrs k ≡ Some i → procedure_named (out-Instr i) ≡ Some name → (body group : ℕ) → slice_get (groups_of p.sheet) body ≡ Some group → IsOf p.code body k
+      → (link : Link) → slice_get p.links k ≡ Some link → procedure_seen p.sheet group name ≡ Some link.named
+  procedure_linked place k o i name is for there named body group grouped own link linked =
+      let l = of_program place k o i is for there in
+      let t = without_bodies sheet in
+      let x = out-Instr i in
+      let f = procedure_found t l.group name (found_too sheet l.group (ProcedureNamed name) (l.procedure name named)) in
+      let same : unwrap_or (named_in t l.group x) 0 ≡ f.0 =
+      ap (λ o. unwrap_or (option_or (option_and_then (procedure_seen t l.group) o) (option_and_then (buffer_seen t l.group) (buffer_named x))) 0) named
+      ∙ ap (λ o. unwrap_or (option_or o (option_and_then (buffer_seen t l.group) (buffer_named x))) 0) f.1.0 in
+      let bodies : body ≡ l.body = (laid_out sheet).apart body l.body k (subst (λ (c : Code). IsOf c body k) steady.program.code_is own) l.of_body in
+      let groups : group ≡ l.group =
+      one_of (sym grouped ∙ ap (λ (y : Sheet). slice_get (groups_of y) body) steady.program.sheet_is ∙ ap (slice_get (groups_of t)) bodies ∙ l.at) in
+      let link_is : link ≡ link_of t l.group i = one_of (sym linked ∙ l.link) in
+      ap (λ (y : Sheet). procedure_seen y group name) steady.program.sheet_is ∙ ap (λ g. procedure_seen t g name) groups ∙ f.1.0
+      ∙ ap (λ n. Some n) (sym (ap (λ (y : Link). y.named) link_is ∙ same))
 
   pub named_buffer : (place k : ℕ) (o : Op) (i : Instr) (name : Name) → slice_get p.code.ops place ≡ Some o → instr_of o ≡ Some k
       → slice_get p.code.instrs k ≡ Some i → buffer_named (out-Instr i) ≡ Some name → HasBuffer p k

@@ -99,7 +99,7 @@ module _ {S : Type 0} (output : S → Target) (told : S → S → List Said → 
     said = [];
     tells = nothing out;
     alone = alone;
-    does = λ given new program limit f. same_equal (flat_code given) refl;
+    does = λ given new program params limit f. same_equal (flat_code given) refl;
   }
 
   -- where nothing is to be done yet
@@ -108,7 +108,7 @@ module _ {S : Type 0} (output : S → Target) (told : S → S → List Said → 
     said = [];
     tells = nothing out;
     alone = λ e. alone;
-    does = λ given new program limit f. same_equal (flat_code given) refl;
+    does = λ given new program params limit f. same_equal (flat_code given) refl;
   }
 
   -- or any more
@@ -118,7 +118,7 @@ module _ {S : Type 0} (output : S → Target) (told : S → S → List Said → 
     said = [];
     tells = tells;
     alone = λ e. absurd (over e);
-    does = λ given new program limit f.
+    does = λ given new program params limit f.
         subst (λ x. Turned given t x [] (still.still given p s (output last).left f)) (sym (still_over given p r (output out).left f none))
         (ends given program (still.still given p s (output last).left f));
   }
@@ -129,9 +129,9 @@ module _ {S : Type 0} (output : S → Target) (told : S → S → List Said → 
       said = comes.said ++ steps.said;
       tells = further out mid now comes.said steps.said comes.tells steps.tells;
       alone = steps.alone;
-      does = λ given new program limit f.
-          same_then (comes.does given new program limit f)
-          (same_then (same_says comes.said (steps.does given new program (limit_is output told leaves given out mid comes.said comes.tells limit) f))
+      does = λ given new program params limit f.
+          same_then (comes.does given new program params limit f)
+          (same_then (same_says comes.said (steps.does given new program params (limit_is output told leaves given out mid comes.said comes.tells limit) f))
           (same_equal (flat_code given) (sym (says_says comes.said steps.said (still.still given p c (output now).left f)))));
     }
 
@@ -141,9 +141,9 @@ module _ {S : Type 0} (output : S → Target) (told : S → S → List Said → 
       said = comes.said ++ steps.said;
       tells = further out mid now comes.said steps.said comes.tells steps.tells;
       alone = λ e. steps.alone;
-      does = λ given new program limit f.
+      does = λ given new program params limit f.
           turned_behind given p turn.More (still.still given p a (output out).left f) (still.still given p b (output mid).left f) comes.said steps.said (still.still given p c (output now).left f)
-          (comes.does given new program limit f) (steps.does given new program (limit_is output told leaves given out mid comes.said comes.tells limit) f);
+          (comes.does given new program params limit f) (steps.does given new program params (limit_is output told leaves given out mid comes.said comes.tells limit) f);
     }
 
     pub goes_wants : (t : Turn) (d : Run) (name : List ℕ) → t ≡ turn.WantDocument name → StepsOn output told p (Ok step.Want) b c mid now → GoesOnTo output told p t a d out now
@@ -151,10 +151,10 @@ module _ {S : Type 0} (output : S → Target) (told : S → S → List Said → 
       said = comes.said ++ steps.said;
       tells = further out mid now comes.said steps.said comes.tells steps.tells;
       alone = λ e. absurd (let no : turn.WantDocument name ≡ turn.More = sym is ∙ e in cc);
-      does = λ given new program limit f.
+      does = λ given new program params limit f.
           subst (λ u. Turned given u (still.still given p a (output out).left f) (comes.said ++ steps.said) (still.still given p d (output now).left f)) (sym is)
           (turned_behind given p (turn.WantDocument name) (still.still given p a (output out).left f) (still.still given p b (output mid).left f) comes.said steps.said (still.still given p d (output now).left f)
-          (comes.does given new program limit f) (still.still given p c (output now).left f, steps.does given new program (limit_is output told leaves given out mid comes.said comes.tells limit) f));
+          (comes.does given new program params limit f) (still.still given p c (output now).left f, steps.does given new program params (limit_is output told leaves given out mid comes.said comes.tells limit) f));
     }
 
     -- one that stops
@@ -163,10 +163,10 @@ module _ {S : Type 0} (output : S → Target) (told : S → S → List Said → 
       said = comes.said ++ steps.said;
       tells = further out mid now comes.said steps.said comes.tells steps.tells;
       alone = λ e. absurd (stop_more s (sym is ∙ e));
-      does = λ given new program limit f.
+      does = λ given new program params limit f.
           subst (λ u. Turned given u (still.still given p a (output out).left f) (comes.said ++ steps.said) (still.still given p c (output now).left f)) (sym is)
           (turned_behind given p (turn_of s) (still.still given p a (output out).left f) (still.still given p b (output mid).left f) comes.said steps.said (still.still given p c (output now).left f)
-          (comes.does given new program limit f) (stops_turned given p s _ steps.said _ _ (steps.does given new program (limit_is output told leaves given out mid comes.said comes.tells limit) f)));
+          (comes.does given new program params limit f) (stops_turned given p s _ steps.said _ _ (steps.does given new program params (limit_is output told leaves given out mid comes.said comes.tells limit) f)));
     }
 
     -- and one after which it is over
@@ -176,10 +176,10 @@ module _ {S : Type 0} (output : S → Target) (told : S → S → List Said → 
       said = comes.said ++ steps.said;
       tells = further out mid last comes.said steps.said comes.tells (subst (λ l. told mid last l) (append-nil steps.said) (further mid now last steps.said [] steps.tells tells));
       alone = λ e. absurd (over e);
-      does = λ given new program limit f.
-          let more = steps.does given new program (limit_is output told leaves given out mid comes.said comes.tells limit) f in
+      does = λ given new program params limit f.
+          let more = steps.does given new program params (limit_is output told leaves given out mid comes.said comes.tells limit) f in
           turned_behind given p t (still.still given p a (output out).left f) (still.still given p b (output mid).left f) comes.said steps.said (still.still given p d (output last).left f)
-          (comes.does given new program limit f)
+          (comes.does given new program params limit f)
           (subst (λ l. Turned given t (still.still given p b (output mid).left f) l (still.still given p d (output last).left f)) (append-nil steps.said)
           (turned_behind given p t (still.still given p b (output mid).left f) (Halt (ending_of given (output now).left)) steps.said [] (still.still given p d (output last).left f)
           (same_then more (same_says steps.said (same_equal (flat_code given) (still_over given p c (output now).left f (steps.over refl))))) (ends given program (still.still given p d (output last).left f))));

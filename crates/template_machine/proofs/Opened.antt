@@ -75,7 +75,7 @@ verdict_goes (Err stop.Memory) x said b go held failed e =
 pub fuel_and_put : (r s : Run) → s ≡ record r { fuel = s.fuel } → s ≡ record r { putting = s.putting; fuel = s.fuel }
 fuel_and_put r s e = e ∙ sym (ap (λ (n : Run). record r { putting = n.putting; fuel = s.fuel }) e)
 
-only_those : (r mid new : Run) (units : ℕ) → new ≡ record mid { frames = new.frames } → mid ≡ record r { putting = mid.putting; fuel = units }
+pub only_those : (r mid new : Run) (units : ℕ) → new ≡ record mid { frames = new.frames } → mid ≡ record r { putting = mid.putting; fuel = units }
     → new ≡ record r { frames = new.frames; store = new.store; putting = new.putting; fuel = new.fuel }
 only_those r mid new units frames_alone puts_alone =
     let e = frames_alone ∙ ap (λ (m : Run). record m { frames = new.frames }) puts_alone in
@@ -83,7 +83,7 @@ only_those r mid new units frames_alone puts_alone =
 
 module _ {S : Type 0} (output : S → Target) (told : S → S → List Said → Type 0) (p : Program) where
   -- what an operation does that begins it
-  opens_is : (given : Given) (n to pc : ℕ) (i : Instr) (w : Working) → slice_get (code_of given.sheet).instrs n ≡ Some i
+  pub opens_is : (given : Given) (n to pc : ℕ) (i : Instr) (w : Working) → slice_get (code_of given.sheet).instrs n ≡ Some i
       → still.operates given p (op.Open n to) pc w
       ≡ decided (spent (place (out-Instr i)) w.here (λ a. opens_by given (out-Instr i) w a)) (go_on (steps_of given) (pc + 1)) (go_on (steps_of given) to)
   opens_is given n to pc i w is =

@@ -100,7 +100,7 @@ module _ (given : Given) (p : Program) where
       (sym (ap (λ (x : Run). ends_with (parts_behind (kinds_in given base) (first_node c.nodes)) (group_at given base) st (behind (is_again level gs) gs (scene_now given p x) f)) rest))))
 
 -- what was said is said first
-proceeds_on : (given : Given) (p : Program) (result : Result Step Stop) (x y : Flat_does) (said : List Said) (follows : Flat_does) → Same (flat_code given) x (says said y)
+pub proceeds_on : (given : Given) (p : Program) (result : Result Step Stop) (x y : Flat_does) (said : List Said) (follows : Flat_does) → Same (flat_code given) x (says said y)
     → Proceeds given p result y [] follows → Proceeds given p result x said follows
 proceeds_on given p (Ok done) x y said follows first goes = same_then first (same_says said goes)
 proceeds_on given p (Err (stop.Fault fault)) x y said follows first goes = same_then first (same_says said goes)
@@ -121,7 +121,7 @@ module _ {S : Type 0} (output : S → Target) (told : S → S → List Said → 
     tells = puts_so.tells;
     alone = moves.alone;
     over = moves.over;
-    does = λ given new program limit f.
+    does = λ given new program params limit f.
         let left = (output out).left in
         let left_now = (output mid).left in
         let st = still.state_of given p r left in
@@ -181,7 +181,7 @@ module _ {S : Type 0} (output : S → Target) (told : S → S → List Said → 
         ∙ behind_node given p m left f (ap (λ (x : Run). x.source.ahead) rest ∙ unknown) takes) moves
 
 -- where a part isn't put, or memory is wanting
-stops_first : (given : Given) (p : Program) (e : Stop) (x : Flat_does) (y : Does) (go : Does) (k : Here → Flat_does) (said : List Said) (follows : Flat_does) → Same (flat_code given) x (lifted y k)
+pub stops_first : (given : Given) (p : Program) (e : Stop) (x : Flat_does) (y : Does) (go : Does) (k : Here → Flat_does) (said : List Said) (follows : Flat_does) → Same (flat_code given) x (lifted y k)
     → GoesAs {A = Unit {0}} (Err e) y said go → Proceeds given p {A = Step} (Err e) x said follows
 stops_first given p (stop.Fault fault) x y go k said follows first put =
     same_then first (same_equal (flat_code given) (ap (λ z. lifted z k) put ∙ lifted_says said (Halt (Faulted fault)) k))
@@ -199,7 +199,7 @@ module _ {S : Type 0} (output : S → Target) (told : S → S → List Said → 
     tells = puts_so.tells;
     alone = tt;
     over = λ x. absurd (cc);
-    does = λ given new program limit f.
+    does = λ given new program params limit f.
         let st = still.state_of given p r (output out).left in
         let group : slice_get given.sheet.groups base ≡ Some g = ap (λ (s : Sheet). slice_get s.groups base) (sym program.sheet_is) ∙ is in
         let node : first_node (scene_now given p r).nodes ≡ n = ap (λ h. first_node (still.path_before given p h (nodes_of r.source))) unknown ∙ first in

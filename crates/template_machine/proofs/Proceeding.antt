@@ -32,7 +32,7 @@ use Rattle.template_machine.specs.Job.{Does, Given, Here, State, single, with_st
 use Rattle.template_machine.specs.Lists.{rest_of}
 use Rattle.template_machine.specs.Moments.{IsAtOp}
 use Rattle.template_machine.specs.Programs.{IsProgramOf}
-use Rattle.template_machine.specs.Saying.{Acts, GivesText, GoesAs, IsShown, Passes, Proceeds, SeesAs, ShownNext, Steps}
+use Rattle.template_machine.specs.Saying.{Acts, GivesText, GoesAs, Passes, Proceeds, SeesAs, Steps}
 use Rattle.template_machine.specs.Steps.{one_less}
 use Rattle.template_machine.specs.Still as still
 use Rattle.template_machine.specs.Still.{Runs, Scene, below_loops, first_node}
@@ -222,13 +222,6 @@ module _ (given : Given) (p : Program) where
 
 some_same : {A : Type 0} {x y : A} → Some x ≡ Some y → x ≡ y
 some_same e = cc
-
--- the next operation is the one that is found
-pub shown_next : (p : Program) (r : Run) (t : ShownNext p r) (pc : ℕ) (found o : Op) → pc_in (reverse r.frames.frames) ≡ Some pc → slice_get p.code.ops pc ≡ Some found → found ≡ o
-    → IsShown p o
-shown_next p r t pc found o at is so =
-    let same : t.pc ≡ pc = some_same (sym t.at ∙ at) in
-    subst (IsShown p) (some_same (sym t.is ∙ ap (slice_get p.code.ops) same ∙ is) ∙ so) t.shown
 
 pub on_ok_by : {A B P Q : Type 0} (y : Result A B) → OnOk y P → (P → Q) → OnOk y Q
 on_ok_by (Ok done) h go = go h

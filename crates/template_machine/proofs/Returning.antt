@@ -28,7 +28,7 @@ use Rattle.template_machine.specs.Job.{Given, Here, Main, State, single}
 use Rattle.template_machine.specs.Lists.{rest_of}
 use Rattle.template_machine.specs.Made.{LeavesScope}
 use Rattle.template_machine.specs.Moments.{IsAtOp}
-use Rattle.template_machine.specs.Ordinary.{HeadIsCounted, IsAlone}
+use Rattle.template_machine.specs.Ordinary.{AreUntouched, HeadIsCounted, IsAlone}
 use Rattle.template_machine.specs.Passing.{finish}
 use Rattle.template_machine.specs.Programs.{IsProgramOf}
 use Rattle.template_machine.specs.Seen.{named_of}
@@ -51,6 +51,8 @@ use Rattle.var_store.specs.declared.bound.Bound.{Bound}
 use Rattle.template_machine.proofs.Ended.{TemplateFinds}
 use Rattle.template_machine.proofs.Finished.{moves_by}
 use Rattle.template_machine.proofs.Stilled.{goes_alike}
+use Rattle.template_machine.proofs.Untouched.{untouched_to}
+use Rattle.template_machine.proofs.Untaken.{left_untouched}
 
 module _ (given : Given) (p : Program) where
   returns_over : (template alternative pc : ℕ) (locals : List Local) (level : ℕ) (spent : Bool) (gs : List Frame) (c : Scene) (f : Future) (a : Here)
@@ -210,13 +212,27 @@ pub unskipped_below : (p : Program) (r m : Run) (stations : List Station) (templ
     → skipped_in (reverse m.frames.frames) ≡ None
 unskipped_below p r m stations template level spent f after = ap skipped_in after ∙ frames_kind f.frames (standing_of r).source.way level f.take
 
-pub alone_left : (p : Program) (r m : Run) → m ≡ record r { frames = m.frames; store = m.store; putting = m.putting } → skipped_in (reverse m.frames.frames) ≡ None → IsAlone p r → IsAlone p m
-alone_left p r m rest unskipped alone = record {
+-- or no child is counted of a node whose children aren't gone
+pub untouched_below : (p : Program) (r m : Run) (stations : List Station) (template level : ℕ) (spent : Bool) → (f : TemplateFinds p r stations template level spent) → reverse m.frames.frames ≡ f.frames
+    → IsAlone p r → AreUntouched (reverse m.frames.frames) (still.nodes_of r.source)
+untouched_below p r m stations template level spent f after alone =
+    let b = f.body in
+    let x = Body template b.0 b.1.0 b.1.1.0 level spent in
+    let ns = still.nodes_of r.source in
+    untouched_to f.frames (reverse m.frames.frames) ns ns (sym after) refl
+    (left_untouched r template b.0 b.1.0 level spent b.1.1.0 f.frames f.take f.spent_is
+    (untouched_to (reverse r.frames.frames) (x ∷ f.frames) ns ns (f.on_top ∙ ap (λ y. y ∷ f.frames) b.1.1.1) refl alone.untouched))
+
+pub alone_left : (p : Program) (r m : Run) → m ≡ record r { frames = m.frames; store = m.store; putting = m.putting } → skipped_in (reverse m.frames.frames) ≡ None
+    → AreUntouched (reverse m.frames.frames) (still.nodes_of r.source) → IsAlone p r → IsAlone p m
+alone_left p r m rest unskipped untouched alone = record {
   origin = ap (λ (x : Run). x.source.origin) rest ∙ alone.origin;
   outer = ap (λ (x : Run). x.outer.items) rest ∙ alone.outer;
   aside = ap (λ (x : Run). x.aside.items) rest ∙ alone.aside;
   held = ap (λ (x : Run). held_node x.source) rest ∙ alone.held;
   counted = λ e. subst HeadIsCounted (sym (ap (λ (x : Run). still.nodes_of x.source) rest)) (alone.counted (sym (ap (λ (x : Run). x.source.ahead) rest) ∙ e));
   whole = λ e depth skipped. absurd (let no : None ≡ Some depth = sym unskipped ∙ skipped in cc);
+  untouched =
+      untouched_to (reverse m.frames.frames) (reverse m.frames.frames) (still.nodes_of r.source) (still.nodes_of m.source) refl (sym (ap (λ (x : Run). still.nodes_of x.source) rest)) untouched;
   fuel = subst (λ u. u ≤ p.limits.fuel) (sym (ap (λ (x : Run). x.fuel) rest)) alone.fuel;
 }

@@ -108,12 +108,12 @@ text_is (c ∷ cs) some = refl
 
 -- where parts go
 
-to_buffer : (given : Given) (id : ℕ) (l : List ℕ) (at : Place) (p : Part) (st : State) (go : State → Does) → first_target l ≡ Some id
+pub to_buffer : (given : Given) (id : ℕ) (l : List ℕ) (at : Place) (p : Part) (st : State) (go : State → Does) → first_target l ≡ Some id
     → put_to given l at p st go ≡ put_in id at p st go
 to_buffer given id [] at p st go e = absurd (cc)
 to_buffer given id (x ∷ l) at p st go e = let same : x ≡ id = cc in ap (λ n. put_in n at p st go) same
 
-to_output : (given : Given) (l : List ℕ) (at : Place) (p : Part) (st : State) (go : State → Does) → first_target l ≡ None
+pub to_output : (given : Given) (l : List ℕ) (at : Place) (p : Part) (st : State) (go : State → Does) → first_target l ≡ None
     → put_to given l at p st go ≡ unless_fault (writing.fault given.limits.elements st.result p) at (Say (Put p) (go (put_out p st)))
 to_output given [] at p st go e = refl
 to_output given (x ∷ l) at p st go e = absurd (cc)
@@ -568,7 +568,7 @@ module _ {S : Type 0} (output : S → Target) (told : S → S → List Said → 
   }
 
   -- another answer where all is well
-  goes_alike : {Q R A B : Type 0} (r : Result A Stop) (b : B) (x y : Course Q R Said Ending) (said : List Said) → GoesAs r x said y → GoesAs (answered r b) x said y
+  pub goes_alike : {Q R A B : Type 0} (r : Result A Stop) (b : B) (x y : Course Q R Said Ending) (said : List Said) → GoesAs r x said y → GoesAs (answered r b) x said y
   goes_alike (Ok done) b x y said h = h
   goes_alike (Err (stop.Fault f)) b x y said h = h
   goes_alike (Err (stop.Spent at)) b x y said h = h

@@ -5,9 +5,11 @@ use Rattle.stx_base.proofs.Course.{funext}
 use Rattle.stx_base.specs.declared.limits.Limits.{Limits}
 use Rattle.stx_base.specs.declared.name.Name.{Name}
 use Rattle.stx_base.specs.declared.node.NodeTest.TheVariants as test
-use Rattle.group_scope.specs.Choice.{all_from, alternatives_from, category, chosen, fitting, is_free, rank_of, seen_by, settings}
+use Rattle.group_scope.specs.Choice.{all_from, alternatives_from, category, chosen, chosen_of, fitting, is_free, rank_of, seen_by, settings}
 use Rattle.group_scope.specs.Rank.{best_of}
+use Rattle.std.specs.Prelude.{option_map}
 use Rattle.group_scope.specs.declared.rank.Category.{Category}
+use Rattle.group_scope.specs.declared.rank.Chosen.{Chosen}
 use Rattle.group_scope.specs.declared.rank.Rank.{Rank}
 use Rattle.instr_code.specs.Bare.{template_without_body, without_bodies}
 use Rattle.node_stack.specs.Path.{PathNode}
@@ -21,6 +23,8 @@ use Rattle.stxpath_eval.specs.Setting.{Setting}
 use Rattle.stxpath_syntax.specs.declared.expr.Alternative.{Alternative}
 use Rattle.stxpath_values.specs.declared.value.Atom.{Atom}
 use Rattle.template_machine.specs.Alike.{along_path}
+use Rattle.var_store.specs.Copies.{Stored}
+use Rattle.template_machine.specs.Choosing.{ChoosesAs}
 use Rattle.template_machine.specs.Job.{Given}
 use Rattle.template_machine.specs.Passing.{choice}
 use Rattle.template_machine.specs.Programs.{IsProgramOf}
@@ -85,3 +89,13 @@ module _ (given : Given) (p : Program) (program : IsProgramOf given.sheet given.
       ∙ ap (λ g. chosen p.sheet base active g) (funext settings_are)
       ∙ ap (λ (s : Sheet). chosen s base active (pattern_setting given (trail_of (nodes_of r.source)) (still.state_of given p r left))) program.sheet_is
       ∙ chosen_bare given.sheet base active (pattern_setting given (trail_of (nodes_of r.source)) (still.state_of given p r left))
+
+-- So a machine chooses.
+pub chooses_by : (p : Program) (r : Run) (base : ℕ) (active : List ℕ) (choice_now : Option Chosen) (store : Stored) (groups : List Group) → store ≡ r.store → groups ≡ p.sheet.groups
+    → choice_now ≡ option_map chosen_of (chosen p.sheet base active (settings (λ group name. seen_in (around groups group) store name) p.limits (path r.source.stack)))
+    → ChoosesAs p r base active choice_now
+chooses_by p r base active choice_now store groups stored grouped is given program left =
+    is
+    ∙ ap (λ st. option_map chosen_of (chosen p.sheet base active (settings (λ group name. seen_in (around groups group) st name) p.limits (path r.source.stack)))) stored
+    ∙ ap (λ gs. option_map chosen_of (chosen p.sheet base active (settings (λ group name. seen_in (around gs group) r.store name) p.limits (path r.source.stack)))) grouped
+    ∙ ap (option_map chosen_of) (chosen_as given p program r left base active)

@@ -69,7 +69,7 @@ group_moves s n (Source buffer next asked ∷ fs) = refl
 group_moves s n (Skip depth ∷ fs) = refl
 group_moves s n (Pass base level spent ∷ fs) = refl
 
-test_moves : (s : Sheet) (n : ℕ) (fs : List Frame) → test_in s (on_body (with_pc n) fs) ≡ test_in s fs
+pub test_moves : (s : Sheet) (n : ℕ) (fs : List Frame) → test_in s (on_body (with_pc n) fs) ≡ test_in s fs
 test_moves s n [] = refl
 test_moves s n (Loop turn ∷ fs) = test_moves s n fs
 test_moves s n (Body template alternative pc locals level spent ∷ fs) = refl
@@ -139,7 +139,7 @@ last_by (y ∷ []) (suc m) x e is = absurd (omega (arith, e))
 last_by (y ∷ z ∷ xs) zero x e is = absurd (omega (arith, e))
 last_by (y ∷ z ∷ xs) (suc m) x e is = last_by (z ∷ xs) m x (omega (arith, e)) is
 
-last_there : (xs : List PathNode) (x : PathNode) → slice_get xs (length xs - 1) ≡ Some x → option_map (λ (y : PathNode). y.node) (last_of xs) ≡ Some x.node
+pub last_there : (xs : List PathNode) (x : PathNode) → slice_get xs (length xs - 1) ≡ Some x → option_map (λ (y : PathNode). y.node) (last_of xs) ≡ Some x.node
 last_there [] x is = absurd (cc)
 last_there (y ∷ xs) x is = last_by (y ∷ xs) (length (y ∷ xs) - 1) x (omega arith) is
 
@@ -152,62 +152,70 @@ front ahead.Ended nodes given p e = refl
 abbrev trailed : List PathNode → Path
 trailed xs = path_of (map (λ (x : PathNode). stand x.node x.earlier) (reverse xs))
 
+module _ (given : Given) (p : Program) (r : Run)
+    (fits : (x : PathNode) → slice_get (path r.source.stack).nodes (length (path r.source.stack).nodes - 1) ≡ Some x
+    → passes (unwrap_or (test_in p.sheet (reverse r.frames.frames)) test.Document) (kind_of x.node) ≡ true)
+    (apart : r.source.ahead ≢ ahead.Here) (of_sheet : IsProgramOf given.sheet given.limits p) (turns : List ℕ) (b : Frame) (fs : List Frame) (pc : ℕ) (before : reverse r.frames.frames ≡ below_loops turns (b ∷ fs)) (at_pc : pc_of b ≡ Some pc) (a : Here) (store : a.state.variables ≡ r.store) where
+  abbrev body_self : Self
+  body_self = still.self_of given p (unwrap_or (level_of b) 0) b fs (still.scene_by given p r.source.ahead r)
+
+  abbrev nodes : List PathNode
+  nodes = (path r.source.stack).nodes
+
+  abbrev made : List Group → (group : ℕ) → Stored → Limits → Path → (place : ℕ) → NodeTest → Setting
+  made groups group st limits way place t = record {
+    vars = λ name. option_or (local_of name (locals_of b)) (seen_in (around groups group) st name);
+    limits = limits;
+    path = way;
+    place = place;
+    test = t;
+  }
+
+  long : length (map (λ (x : PathNode). stand x.node x.earlier) (reverse nodes)) ≡ length nodes
+  long = length-map (reverse nodes) (λ (x : PathNode). stand x.node x.earlier) ∙ length-reverse nodes
+
+  groups_are : given.sheet.groups ≡ p.sheet.groups
+  groups_are = sym (ap (λ (s : Sheet). s.groups) of_sheet.sheet_is)
+
+  group_is : unwrap_or (group_of p.sheet b) 0 ≡ unwrap_or (option_and_then (group_of p.sheet) (frame_in (reverse r.frames.frames))) 0
+  group_is = sym (ap (λ l. unwrap_or (option_and_then (group_of p.sheet) (frame_in l)) 0) before ∙ ap (λ x. unwrap_or (option_and_then (group_of p.sheet) x) 0) (frame_below turns b fs pc at_pc))
+
+  test_is : unwrap_or (test_in p.sheet (b ∷ fs)) test.Document ≡ unwrap_or (test_in p.sheet (reverse r.frames.frames)) test.Document
+  test_is = ap (λ (x : Option NodeTest). unwrap_or x test.Document) (sym (test_below_loops p.sheet turns b fs) ∙ ap (test_in p.sheet) (sym before))
+
+  locals_are : locals_of b ≡ option_map_or locals_of (frame_in (reverse r.frames.frames)) []
+  locals_are = sym (ap (λ l. option_map_or locals_of (frame_in l) []) before ∙ ap (λ x. option_map_or locals_of x []) (frame_below turns b fs pc at_pc))
+
+  nodes_are : still.path_before given p r.source.ahead (still.nodes_of r.source) ≡ reverse nodes
+  nodes_are = front r.source.ahead (reverse nodes) given p apart
+
+  setting_is : setting given body_self (record a { locals = named_of (locals_of b) }) ≡ along_path (trailed nodes) (sight p r)
+  setting_is =
+      ap (λ l. made given.sheet.groups (unwrap_or (group_of p.sheet b) 0) a.state.variables given.limits (path_of (map (λ (x : PathNode). stand x.node x.earlier) l)) (length (map (λ (x : PathNode). stand x.node x.earlier) l) - 1) (unwrap_or (test_in p.sheet (b ∷ fs)) test.Document)) nodes_are
+      ∙ ap (λ n. made given.sheet.groups (unwrap_or (group_of p.sheet b) 0) a.state.variables given.limits (trailed nodes) (n - 1) (unwrap_or (test_in p.sheet (b ∷ fs)) test.Document)) long
+      ∙ ap (λ gs. made gs (unwrap_or (group_of p.sheet b) 0) a.state.variables given.limits (trailed nodes) (length nodes - 1) (unwrap_or (test_in p.sheet (b ∷ fs)) test.Document)) groups_are
+      ∙ ap (λ n. made p.sheet.groups n a.state.variables given.limits (trailed nodes) (length nodes - 1) (unwrap_or (test_in p.sheet (b ∷ fs)) test.Document)) group_is
+      ∙ ap (λ st. made p.sheet.groups (unwrap_or (option_and_then (group_of p.sheet) (frame_in (reverse r.frames.frames))) 0) st given.limits (trailed nodes) (length nodes - 1) (unwrap_or (test_in p.sheet (b ∷ fs)) test.Document)) store
+      ∙ ap (λ l. made p.sheet.groups (unwrap_or (option_and_then (group_of p.sheet) (frame_in (reverse r.frames.frames))) 0) r.store l (trailed nodes) (length nodes - 1) (unwrap_or (test_in p.sheet (b ∷ fs)) test.Document)) (sym of_sheet.limits_are)
+      ∙ ap (λ t. made p.sheet.groups (unwrap_or (option_and_then (group_of p.sheet) (frame_in (reverse r.frames.frames))) 0) r.store p.limits (trailed nodes) (length nodes - 1) t) test_is
+      ∙ ap (λ ls. record (along_path (trailed nodes) (sight p r)) { vars = λ name. option_or (local_of name ls) (seen_in (around p.sheet.groups (unwrap_or (option_and_then (group_of p.sheet) (frame_in (reverse r.frames.frames))) 0)) r.store name) }) locals_are
+
+  pub sees_so : SeesAs given p r body_self (record a { locals = named_of (locals_of b) })
+  sees_so = record { way = trailed nodes; alike = trails_look_alike (sight p r) fits; is = setting_is }
+
+-- the current node passes the test by which positions count
+pub fits_there : (p : Program) (r : Run) (running : Running) (o : Op) → IsAtOp p r running o → (x : PathNode) → slice_get (path r.source.stack).nodes (length (path r.source.stack).nodes - 1) ≡ Some x
+    → passes (unwrap_or (test_in p.sheet (reverse r.frames.frames)) test.Document) (kind_of x.node) ≡ true
+fits_there p r running o at x is =
+    let b = body_goes p r at.well at.doing in
+    let t = test_there p at.well.stations 0 false (reverse r.frames.frames) (standing_of r) b.body b.well in
+    let now : here (way_of (path r.source.stack)) ≡ Some x.node = way_here (path r.source.stack) ∙ last_there (path r.source.stack).nodes x is in
+    ap (λ (u : Option NodeTest). passes (unwrap_or u test.Document) (kind_of x.node)) t.1.0 ∙ t.1.1 x.node now
+
 module _ (given : Given) (p : Program) (r : Run) (running : Running) (o : Op) (at : IsAtOp p r running o) where
-  fits : (x : PathNode) → slice_get (path r.source.stack).nodes (length (path r.source.stack).nodes - 1) ≡ Some x
-      → passes (unwrap_or (test_in p.sheet (reverse r.frames.frames)) test.Document) (kind_of x.node) ≡ true
-  fits x is =
-      let b = body_goes p r at.well at.doing in
-      let t = test_there p at.well.stations 0 false (reverse r.frames.frames) (standing_of r) b.body b.well in
-      let now : here (way_of (path r.source.stack)) ≡ Some x.node = way_here (path r.source.stack) ∙ last_there (path r.source.stack).nodes x is in
-      ap (λ (u : Option NodeTest). passes (unwrap_or u test.Document) (kind_of x.node)) t.1.0 ∙ t.1.1 x.node now
-
-  module _ (of_sheet : IsProgramOf given.sheet given.limits p) (turns : List ℕ) (b : Frame) (fs : List Frame) (pc : ℕ) (before : reverse r.frames.frames ≡ below_loops turns (b ∷ fs)) (at_pc : pc_of b ≡ Some pc) (a : Here) (store : a.state.variables ≡ r.store) where
-    abbrev body_self : Self
-    body_self = still.self_of given p (unwrap_or (level_of b) 0) b fs (still.scene_by given p r.source.ahead r)
-
-    abbrev nodes : List PathNode
-    nodes = (path r.source.stack).nodes
-
-    abbrev made : List Group → (group : ℕ) → Stored → Limits → Path → (place : ℕ) → NodeTest → Setting
-    made groups group st limits way place t = record {
-      vars = λ name. option_or (local_of name (locals_of b)) (seen_in (around groups group) st name);
-      limits = limits;
-      path = way;
-      place = place;
-      test = t;
-    }
-
-    long : length (map (λ (x : PathNode). stand x.node x.earlier) (reverse nodes)) ≡ length nodes
-    long = length-map (reverse nodes) (λ (x : PathNode). stand x.node x.earlier) ∙ length-reverse nodes
-
-    groups_are : given.sheet.groups ≡ p.sheet.groups
-    groups_are = sym (ap (λ (s : Sheet). s.groups) of_sheet.sheet_is)
-
-    group_is : unwrap_or (group_of p.sheet b) 0 ≡ unwrap_or (option_and_then (group_of p.sheet) (frame_in (reverse r.frames.frames))) 0
-    group_is = sym (ap (λ l. unwrap_or (option_and_then (group_of p.sheet) (frame_in l)) 0) before ∙ ap (λ x. unwrap_or (option_and_then (group_of p.sheet) x) 0) (frame_below turns b fs pc at_pc))
-
-    test_is : unwrap_or (test_in p.sheet (b ∷ fs)) test.Document ≡ unwrap_or (test_in p.sheet (reverse r.frames.frames)) test.Document
-    test_is = ap (λ (x : Option NodeTest). unwrap_or x test.Document) (sym (test_below_loops p.sheet turns b fs) ∙ ap (test_in p.sheet) (sym before))
-
-    locals_are : locals_of b ≡ option_map_or locals_of (frame_in (reverse r.frames.frames)) []
-    locals_are = sym (ap (λ l. option_map_or locals_of (frame_in l) []) before ∙ ap (λ x. option_map_or locals_of x []) (frame_below turns b fs pc at_pc))
-
-    nodes_are : still.path_before given p r.source.ahead (still.nodes_of r.source) ≡ reverse nodes
-    nodes_are = front r.source.ahead (reverse nodes) given p (at.well.apart at.doing)
-
-    setting_is : setting given body_self (record a { locals = named_of (locals_of b) }) ≡ along_path (trailed nodes) (sight p r)
-    setting_is =
-        ap (λ l. made given.sheet.groups (unwrap_or (group_of p.sheet b) 0) a.state.variables given.limits (path_of (map (λ (x : PathNode). stand x.node x.earlier) l)) (length (map (λ (x : PathNode). stand x.node x.earlier) l) - 1) (unwrap_or (test_in p.sheet (b ∷ fs)) test.Document)) nodes_are
-        ∙ ap (λ n. made given.sheet.groups (unwrap_or (group_of p.sheet b) 0) a.state.variables given.limits (trailed nodes) (n - 1) (unwrap_or (test_in p.sheet (b ∷ fs)) test.Document)) long
-        ∙ ap (λ gs. made gs (unwrap_or (group_of p.sheet b) 0) a.state.variables given.limits (trailed nodes) (length nodes - 1) (unwrap_or (test_in p.sheet (b ∷ fs)) test.Document)) groups_are
-        ∙ ap (λ n. made p.sheet.groups n a.state.variables given.limits (trailed nodes) (length nodes - 1) (unwrap_or (test_in p.sheet (b ∷ fs)) test.Document)) group_is
-        ∙ ap (λ st. made p.sheet.groups (unwrap_or (option_and_then (group_of p.sheet) (frame_in (reverse r.frames.frames))) 0) st given.limits (trailed nodes) (length nodes - 1) (unwrap_or (test_in p.sheet (b ∷ fs)) test.Document)) store
-        ∙ ap (λ l. made p.sheet.groups (unwrap_or (option_and_then (group_of p.sheet) (frame_in (reverse r.frames.frames))) 0) r.store l (trailed nodes) (length nodes - 1) (unwrap_or (test_in p.sheet (b ∷ fs)) test.Document)) (sym of_sheet.limits_are)
-        ∙ ap (λ t. made p.sheet.groups (unwrap_or (option_and_then (group_of p.sheet) (frame_in (reverse r.frames.frames))) 0) r.store p.limits (trailed nodes) (length nodes - 1) t) test_is
-        ∙ ap (λ ls. record (along_path (trailed nodes) (sight p r)) { vars = λ name. option_or (local_of name ls) (seen_in (around p.sheet.groups (unwrap_or (option_and_then (group_of p.sheet) (frame_in (reverse r.frames.frames))) 0)) r.store name) }) locals_are
-
-    pub sees_as : SeesAs given p r body_self (record a { locals = named_of (locals_of b) })
-    sees_as = record { way = trailed nodes; alike = trails_look_alike (sight p r) fits; is = setting_is }
+  pub sees_as : (of_sheet : IsProgramOf given.sheet given.limits p) (turns : List ℕ) (b : Frame) (fs : List Frame) (pc : ℕ) → reverse r.frames.frames ≡ below_loops turns (b ∷ fs) → pc_of b ≡ Some pc → (a : Here) → a.state.variables ≡ r.store
+      → SeesAs given p r (still.self_of given p (unwrap_or (level_of b) 0) b fs (still.scene_by given p r.source.ahead r)) (record a { locals = named_of (locals_of b) })
+  sees_as of_sheet turns b fs pc before at_pc a store = sees_so given p r (fits_there p r running o at) (at.well.apart at.doing) of_sheet turns b fs pc before at_pc a store
 
 -- the setting of a body, by its place among the frames
 pub sight_is : (p : Program) (r : Run) (body : ℕ) (locals : List Local) (group : ℕ) (t : NodeTest) → body_in (reverse r.frames.frames) ≡ Some body

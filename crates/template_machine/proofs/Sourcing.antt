@@ -10,7 +10,7 @@ use Rattle.node_stack.specs.Stack.{path, path_node}
 use Rattle.node_stack.specs.declared.parked.Parked.{Parked}
 use Rattle.template_machine.specs.Lists.{rest_of}
 use Rattle.template_machine.specs.Scopes.{Scopes}
-use Rattle.template_machine.specs.Sources.{HasScope, around_node, held_node, within_node}
+use Rattle.template_machine.specs.Sources.{HasScope, around_node, held_node, scopes_on, within_node}
 use Rattle.template_machine.specs.Sections.{HoldsSection, IsHeldWell}
 use Rattle.template_machine.specs.Standing.{Front, front_of, known_of, room_of, stream_of}
 use Rattle.template_machine.specs.Ways.{Way, entered, first_in, here, left, open_on, way_of}
@@ -69,24 +69,40 @@ open_here w x is = by_nodes w.limit w.nodes is
         subst (λ z. open_on (record { limit = limit; nodes = y ∷ ys }) ≡ counted_node z + open_on (record { limit = limit; nodes = ys })) same
         (open_more y (record { limit = limit; nodes = ys }))
 
-around_long : (x : Node) (scopes : Scopes) (n : ℕ) → length scopes ≡ counted_node x + n + 1 → length (around_node (Some x) scopes) ≡ n + 1
-around_long (Element name attrs decls first) [] n e = absurd (omega (arith, e))
-around_long (Element name attrs decls first) (y ∷ ys) n e = omega (arith, e)
-around_long x scopes n e = omega (arith, e)
+around_within : (x : Node) (scopes : Scopes) → around_node (Some x) (within_node x scopes) ≡ scopes
+around_within (Element name attrs decls first) scopes = refl
+around_within paths.Document scopes = refl
+around_within (paths.Chars text) scopes = refl
+around_within (paths.CData text) scopes = refl
+around_within (paths.Comment text) scopes = refl
+around_within (paths.Pi target text) scopes = refl
+around_within (paths.Attribute a) scopes = refl
+
+-- the bindings around the current node
+scopes_around : (nodes : List Node) (x : Node) → first_in nodes ≡ Some x → around_node (Some x) (scopes_on nodes) ≡ scopes_on (rest_of nodes)
+scopes_around [] x e = absurd (cc)
+scopes_around (y ∷ ys) x e =
+    let same : x ≡ y = cc in ap (λ z. around_node (Some z) (within_node y (scopes_on ys))) same ∙ around_within y (scopes_on ys)
 
 within_long : (x : Node) (scopes : Scopes) (n : ℕ) → length scopes ≡ n + 1 → length (within_node x scopes) ≡ counted_node x + n + 1
 within_long (Element name attrs decls first) scopes n e = omega (arith, e)
 within_long x scopes n e = omega (arith, e)
 
+scopes_long : (limit : ℕ) (nodes : List Node) → length (scopes_on nodes) ≡ open_on (record { limit = limit; nodes = nodes }) + 1
+scopes_long limit [] = refl
+scopes_long limit (x ∷ nodes) =
+    let inner : Way = record { limit = limit; nodes = nodes } in
+    within_long x (scopes_on nodes) (open_on inner) (scopes_long limit nodes) ∙ ap (λ m. m + 1) (sym (open_more x inner))
+
 -- A source by its way.
 pub source_by : (n : Source) (w : Way) → way_of (path n.stack) ≡ w → (n.ahead ≡ ahead.Held → IsHeldWell n.held) → open_on w ≤ w.limit → w.limit + 1 < 2 ^ 32
-    → n.begun ≤ w.limit + 1 → length n.bindings ≡ open_on w + 1 → All HoldsSection w.nodes → IsSourceWell n
+    → n.begun ≤ w.limit + 1 → n.bindings ≡ scopes_on w.nodes → All HoldsSection w.nodes → IsSourceWell n
 source_by n w is held room small counted scopes sections = record {
   held = held;
   room = subst (λ (v : Way). open_on v ≤ v.limit) (sym is) room;
   small = subst (λ (v : Way). v.limit + 1 < 2 ^ 32) (sym is) small;
   counted = subst (λ (v : Way). n.begun ≤ v.limit + 1) (sym is) counted;
-  scopes = subst (λ (v : Way). length n.bindings ≡ open_on v + 1) (sym is) scopes;
+  scopes = subst (λ (v : Way). n.bindings ≡ scopes_on v.nodes) (sym is) scopes;
   sections = subst (λ (v : Way). All HoldsSection v.nodes) (sym is) sections;
 }
 
@@ -98,7 +114,7 @@ pub has_scope : (s : Source) (x : Node) → IsSourceWell s → current (path s.s
 has_scope s x w is e =
     let elem : is_element x ≡ true = sym (ap (λ o. option_map_or is_element o false) is) ∙ e in
     let many = in_element (current (path s.stack)) x is elem (way_of (path s.stack)) (way_here (path s.stack)) in
-    omega (arith, many, w.scopes)
+    omega (arith, many, ap length w.scopes, scopes_long (way_of (path s.stack)).limit (way_of (path s.stack)).nodes)
 
 in_element_by : (o : Option Node) (s : Source) → current (path s.stack) ≡ o → IsSourceWell s → HasScope s
 in_element_by None s is w e = absurd (false≢true (sym (ap (λ k. option_map_or is_element k false) is) ∙ e))
@@ -125,7 +141,7 @@ source_left s n x w is gone scopes held begun =
     let way : way_of (path n.stack) ≡ left v = ap way_of gone ∙ way_left (path s.stack) in
     let more = open_here v x (way_here (path s.stack) ∙ is) in
     source_by n (left v) way held (omega (arith, more, w.room)) w.small (subst (λ b. b ≤ v.limit + 1) (sym begun) w.counted)
-    (ap length scopes ∙ ap (λ o. length (around_node o s.bindings)) is ∙ around_long x s.bindings (open_on (left v)) (w.scopes ∙ ap (λ m. m + 1) more))
+    (scopes ∙ ap (λ o. around_node o s.bindings) is ∙ ap (around_node (Some x)) w.scopes ∙ scopes_around v.nodes x (way_here (path s.stack) ∙ is))
     (behind_first HoldsSection v.nodes w.sections)
 
 -- A node becomes the current one.
@@ -135,14 +151,14 @@ pub source_entered : (s n : Source) (x : Node) → IsSourceWell s → way_of (pa
 source_entered s n x w way scopes held room begun section =
     let v = way_of (path s.stack) in
     source_by n (entered x v) way held room w.small begun
-    (ap length scopes ∙ within_long x s.bindings (open_on v) w.scopes ∙ ap (λ m. m + 1) (sym (open_more x v)))
+    (scopes ∙ ap (within_node x) w.scopes)
     (All-cons HoldsSection x v.nodes section w.sections)
 
 -- Other things about it change.
 pub source_stays : (s n : Source) → IsSourceWell s → path n.stack ≡ path s.stack → n.bindings ≡ s.bindings → (n.ahead ≡ ahead.Held → IsHeldWell n.held)
     → n.begun ≤ (way_of (path s.stack)).limit + 1 → IsSourceWell n
 source_stays s n w same scopes held begun =
-    source_by n (way_of (path s.stack)) (ap way_of same) held w.room w.small begun (ap length scopes ∙ w.scopes) w.sections
+    source_by n (way_of (path s.stack)) (ap way_of same) held w.room w.small begun (scopes ∙ w.scopes) w.sections
 
 -- its stream, and what is known of its list
 pub stream_parts : (s : Source) (o : Origin) (w : Way) → s.origin ≡ o → way_of (path s.stack) ≡ w → stream_of s ≡ record { origin = o; way = w }

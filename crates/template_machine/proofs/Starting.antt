@@ -67,18 +67,20 @@ bare_stations s =
     let h = has_stations s in
     record {
       each = h.each;
+      own = h.own;
       leads = h.leads;
       templates = λ n t is.
           let x = mapped_back template_without_body s.templates n t is in
           let g = h.templates n x.0 x.1.0 in
-          (g.0, (g.1.0, subst (λ (y : Template). Goes (stations_of s) g.0 (begun y.params)) x.1.1 g.1.1));
+          (g.0, (g.1.0, subst (λ (y : Template). Goes (stations_of s) g.0 (begun n y.params)) x.1.1 g.1.1));
       procedures = λ n q is.
           let x = mapped_back procedure_without_body s.procedures n q is in
           let g = h.procedures n x.0 x.1.0 in (
             g.0,
             (
               ap (λ k. slice_get (code_of s).starts (k + n)) (length-map s.templates template_without_body) ∙ g.1.0,
-              subst (λ (y : Procedure). Goes (stations_of s) g.0 (begun y.params)) x.1.1 g.1.1,
+              subst (λ k. Goes (stations_of s) g.0 (begun (k + n) q.params)) (sym (length-map s.templates template_without_body))
+                  (subst (λ (y : Procedure). Goes (stations_of s) g.0 (begun (length s.templates + n) y.params)) x.1.1 g.1.1),
             ),
           );
     }
@@ -216,4 +218,4 @@ stores_head p r t o h =
 
 -- the root group asks for it
 pub first_asker : (p : Program) (r : Run) → IsSteady p r → (fs : List Frame) → fs ≡ [] → IsAsker p asker.Root fs
-first_asker p r s fs is = record { base = has_root p r s; on = tt }
+first_asker p r s fs is = record { base = has_root p r s; on = is }

@@ -157,7 +157,7 @@ module _ (sheet : Sheet) where
   laid_dropped zero m p c d [] low is long named = laid_nothing code Any p c d low (is ∙ sym (with_none d))
   laid_dropped zero m p c d (k ∷ ks) low is long named = absurd (omega (arith, long))
   laid_dropped (suc n) m p c d gone low is long named =
-      laid_op code Any (op.Drop (suc n)) p c d low (suc low) (λ all a here at. (d, (gone, (is, long, (low, (at, omega arith)), named))))
+      laid_op code Any (op.Drop (suc n)) p c d low (suc low) (sym (ap (λ (x : Context). x.body) is)) (λ all a here at. (d, (gone, (is, long, (low, (at, omega arith)), named))))
 
   laid_list : (n own : ℕ) (list : List Instr) (m p : ℕ) (c d : Context) (ks : List Kind) (low : ℕ) → LaidTo n → body_nesting list ≤ n
       → Numbered (instructions sheet) list m → c ≡ with_kinds ks d → length ks ≡ own → AreNamed code ks
@@ -274,6 +274,8 @@ module _ (sheet : Sheet) where
         stations =
             record { context = c; rank = 0 } ∷ record { context = c; rank = suc both.high } ∷ record { context = c; rank = suc low } ∷ both.stations;
         long = omega (arith, both.long);
+        own = (refl, (refl, (refl, both.own)));
+        same = refl;
         begins = λ all a h at. h.0;
         leads = λ all a h at.
             let out : IsAt all (p + 2) c (suc low) = is_to all (p + 1 + 1) (p + 2) c (suc low) (omega arith) h.1.1.0 in
@@ -302,7 +304,7 @@ module _ (sheet : Sheet) where
       let d = in_loop c in
       let run : Laid code Any (b.ops number (p + 1 + 1)) (p + 1 + 1) d d (suc (suc low)) =
       laid_inner n body number (p + 1 + 1) d (suc (suc low)) to deep (to_number (instructions sheet) body (m + 1) number (omega arith) numbered) in
-      laid_loop code (op.Begin m) (op.Test m 0 (p + b.size + 3)) p (p + b.size + 3) c d d low (b.ops number (p + 1 + 1)) run
+      laid_loop code (op.Begin m) (op.Test m 0 (p + b.size + 3)) p (p + b.size + 3) c d d low (b.ops number (p + 1 + 1)) refl run
       (omega (arith, list_long 0 body number (p + 1 + 1)))
       (λ all at. (Repeats, (has, (suc low, at))))
       (λ all here out. (Repeats, (has, (c, (refl, (run.high, here), (low, (out, omega arith)))))))
@@ -318,7 +320,7 @@ module _ (sheet : Sheet) where
       let run : Laid code Any (b.ops number (p + 1 + 1)) (p + 1 + 1) e d (suc (suc low)) =
       laid_list n 1 body number (p + 1 + 1) e d (Named name ∷ []) (suc (suc low)) to deep
       (to_number (instructions sheet) body (m + 1) number (omega arith) numbered) refl refl ((m, inr has), tt) in
-      laid_loop code (op.Begin m) (op.Turn m (p + b.size + 3)) p (p + b.size + 3) c d e low (b.ops number (p + 1 + 1)) run
+      laid_loop code (op.Begin m) (op.Turn m (p + b.size + 3)) p (p + b.size + 3) c d e low (b.ops number (p + 1 + 1)) refl run
       (omega (arith, list_long 1 body number (p + 1 + 1)))
       (λ all at. (Walks name, (has, (suc low, at))))
       (λ all here out. (Walks name, (has, (c, (refl, (run.high, here), (low, (out, omega arith)))))))

@@ -154,7 +154,7 @@ module _ (given : Given) (p : Program) where
       (subst (λ n. still.operates given p o n w ≡ says more (go_on (steps_of given) to v)) same does)
   rest_steps b fs pc to o locals turns turns_now more c f a now at is does = absurd (cc)
 
-  goes_on_alike : (spent : Bool) (n : Node) (above : List PathNode) (f : Future) (k h : Future → Here → Flat_does) (st now : State) (more : List Said)
+  pub goes_on_alike : (spent : Bool) (n : Node) (above : List PathNode) (f : Future) (k h : Future → Here → Flat_does) (st now : State) (more : List Said)
       → ((g : Future) (a : Here) → a.state ≡ st → Same (flat_code given) (k g a) (says more (h g (record a { state = now }))))
       → Same (flat_code given) (still.goes_on_at given p spent n above f k st) (says more (still.goes_on_at given p spent n above f h now))
   goes_on_alike spent n above f k h st now more e = by (is_attribute (Some n)) (spent || not (still.has_kids n))

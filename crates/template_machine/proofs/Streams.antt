@@ -40,4 +40,4 @@ module _ (p : Program) (stations : List Station) where
   -- Attributes are over.
   pub attributes_end : (fs : List Frame) (s : Standing) (next asked : ℕ) (known : Known) → IsSome (level_in fs) → ListGoesOn p stations (Attributes next asked ∷ fs) s known
       → BodyWaits p stations fs s known
-  attributes_end fs s next asked known some l = record { body = some; well = l.well.3; fits = l.fits }
+  attributes_end fs s next asked known some l = record { body = some; well = l.well.3; fits = l.fits.1 }

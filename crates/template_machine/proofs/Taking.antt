@@ -209,7 +209,7 @@ binds_long vs a b x =
     ap (λ (r : Run). length r.frames.frames) x.rest ∙ changed_length (with_locals (λ ls. ls ++ x.locals)) (length a.frames.frames - 1) a.frames.frames
 
 -- a frame below the top is as it was
-other_place : (g : Frame → Frame) (n m : ℕ) (xs : List Frame) → m < n → slice_get (changed g n xs) m ≡ slice_get xs m
+pub other_place : (g : Frame → Frame) (n m : ℕ) (xs : List Frame) → m < n → slice_get (changed g n xs) m ≡ slice_get xs m
 other_place g n m [] less = refl
 other_place g zero m (x ∷ xs) less = absurd (omega arith)
 other_place g (suc n) zero (x ∷ xs) less = ap (λ l. slice_get l 0) (changed_behind g n x xs)

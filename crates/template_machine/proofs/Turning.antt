@@ -1,11 +1,13 @@
 -- How a run goes on behind an event.
-use Rattle.std.proofs.Common.{◌≡◌, ◌≢◌, ℕ, List, sym, subst}
+use Rattle.std.proofs.Common.{◌≡◌, ◌≢◌, ℕ, List, refl, sym, subst}
+use Rattle.template_machine.specs.Giving.{AsksForNone}
 use Rattle.template_machine.specs.Stops.{turn_of}
 use Rattle.template_machine.specs.Well.{IsWaiting}
 use Rattle.template_machine.specs.declared.program.Program.{Program}
 use Rattle.template_machine.specs.declared.run.Run.{Run}
 use Rattle.template_machine.specs.declared.stop.Stop.{Stop}
 use Rattle.template_machine.specs.declared.stop.Stop.TheVariants as stop
+use Rattle.template_machine.specs.declared.turn.Turn.{Turn}
 use Rattle.template_machine.specs.declared.turn.Turn.TheVariants as turn
 use Rattle.template_machine.proofs.Fueled.{wanting}
 use Rattle.template_machine.specs.Between.{GoesOn}
@@ -55,3 +57,12 @@ stop_goes stop.Memory = λ h. h
 -- the name of the document that is wanted is told
 pub wanted_waits : (p : Program) (r t : Run) (name : List ℕ) → t ≡ record r { wanted = name } → IsWaiting p r → IsWaiting p t
 wanted_waits p r t name is w = subst (IsWaiting p) (sym is) (wanting p r name w)
+
+-- what asks for no document by any name asks for none
+pub asks_for_none : (t : Turn) → ((name : List ℕ) → t ≢ turn.WantDocument name) → AsksForNone t
+asks_for_none turn.More none = tt
+asks_for_none (turn.WantDocument name) none = none name refl
+asks_for_none turn.Ended none = tt
+asks_for_none (turn.Stopped fault) none = tt
+asks_for_none (turn.Spent at) none = tt
+asks_for_none turn.Memory none = tt

@@ -1,6 +1,6 @@
 -- Variables of a body that are declared, and variables that are set.
-use Rattle.std.proofs.Common.{◌≡◌, ◌≢◌, ℕ, zero, suc, ◌+◌, ◌<◌, Bool, true, false, cond, not, if◌then◌else◌, List, [], ◌∷◌, ◌++◌, length, map, Option, Some, None, ◌⊎◌, inl, inr, Result, Ok, Err, reverse, is_some, refl, ap, sym, subst, ◌∙◌, arith}
-use Rattle.std.specs.Prelude.{IsSome, OnOk, OnErr, find, slice_get, unwrap_or}
+use Rattle.std.proofs.Common.{◌≡◌, ◌≢◌, ℕ, zero, suc, ◌+◌, ◌<◌, Bool, true, false, cond, not, if◌then◌else◌, List, [], ◌∷◌, ◌++◌, length, Option, Some, None, ◌⊎◌, inl, inr, Result, Ok, Err, reverse, is_some, refl, ap, sym, subst, ◌∙◌, arith}
+use Rattle.std.specs.Prelude.{IsSome, OnOk, OnErr, slice_get, unwrap_or}
 use Rattle.std.specs.List.{position_or_len}
 use Rattle.std.specs.Option.{option_and_then, option_map, option_map_or, option_or}
 use Rattle.std.proofs.lemmas.Bool.{false≢true}
@@ -23,7 +23,7 @@ use Rattle.sheet_model.specs.Groups.{around}
 use Rattle.sheet_model.specs.Parts.{place}
 use Rattle.sheet_model.specs.declared.instr.Instr.{Instr}
 use Rattle.sheet_model.specs.declared.instr.Instr.TheOpen.{Instr-F}
-use Rattle.sheet_model.specs.declared.instr.Instr.TheViews.{out-Instr, roll-Instr}
+use Rattle.sheet_model.specs.declared.instr.Instr.TheViews.{out-Instr}
 use Rattle.sheet_model.specs.declared.instr.When.{When}
 use Rattle.sheet_model.specs.declared.sheet.Sheet.{Sheet}
 use Rattle.stxpath_syntax.specs.declared.expr.Expr.{Expr}
@@ -40,7 +40,6 @@ use Rattle.template_machine.specs.Ending.{Faulted, Said}
 use Rattle.template_machine.specs.Fuel.{spend}
 use Rattle.template_machine.specs.Job.{Does, Given, Here, Self, State, with_state}
 use Rattle.template_machine.specs.Moments.{IsAtOp}
-use Rattle.template_machine.specs.Programs.{IsProgramOf}
 use Rattle.template_machine.specs.Saying.{Acts, Carries, Gave, GivesText, GivesValue, GoesAs, Passes, SeesAs, Steps, sight}
 use Rattle.template_machine.specs.Seen.{bounds_of, local_of, named_of, place_of}
 use Rattle.template_machine.specs.Shifting.{HasLocals, Sets, StandsAt, assign_at, local_at, with_more}
@@ -66,7 +65,6 @@ use Rattle.template_machine.proofs.Proceeding.{below, done_in, goes_in, on_ok_by
 use Rattle.template_machine.proofs.Shifting.{has_locals, leaves_on, left_with, own_aside, own_frame, own_locals}
 use Rattle.template_machine.proofs.Sighting.{sees_behind}
 use Rattle.template_machine.proofs.Sighted.{texts_see_nodes}
-use Rattle.template_machine.proofs.Spelled.{out_is}
 use Rattle.template_machine.proofs.Unseen.{named_seen, seen_nowhere, uncalled}
 use Rattle.template_machine.proofs.Unseen as unseen
 
@@ -471,10 +469,6 @@ pub no_value : {P : Type 0} (x : Instr-F Instr When) → working.puts x ≡ true
 no_value (Instr-F.Assign name select at) puts value = absurd (false≢true puts)
 no_value (Instr-F.Local name select at) puts value = absurd (false≢true puts)
 no_value x puts value = absurd value
-
-pub only_shown : {P : Type 0} (i j : Instr) (x : Instr-F Instr When) → roll-Instr x ≡ j → i ≡ j → (GivesText x → ⊥) → (GivesValue x → ⊥) → GivesText (out-Instr i) ⊎ GivesValue (out-Instr i) → P
-only_shown i j x rolls is no_text none (inl gives) = absurd (no_text (subst GivesText (out_is i j x rolls is) gives))
-only_shown i j x rolls is no_text none (inr gives) = absurd (none (subst GivesValue (out_is i j x rolls is) gives))
 
 module _ {S : Type 0} (output : S → Target) (told : S → S → List Said → Type 0) (nothing : (s : S) → told s s []) (p : Program) where
   -- a unit is spent, and then a text or a value is given

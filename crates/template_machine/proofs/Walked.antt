@@ -52,9 +52,10 @@ use Rattle.template_machine.specs.declared.run.Run.{Run}
 use Rattle.template_machine.specs.declared.run.Running.{Running}
 use Rattle.template_machine.specs.declared.stop.Stop.{Stop}
 use Rattle.template_machine.specs.declared.stop.Stop.TheVariants as stop
+use Rattle.template_machine.specs.Parameters.{named_values}
 use Rattle.template_machine.proofs.Deciding.{all_rest, stopped}
 use Rattle.template_machine.proofs.Fueled.{at_spent}
-use Rattle.template_machine.proofs.Handed.{each_length, handed_seen, hands_each, named_values, taken_back}
+use Rattle.template_machine.proofs.Handed.{each_length, handed_seen, hands_each, taken_back}
 use Rattle.template_machine.proofs.Proceeding.{done_in, goes_in, on_ok_by, unit_spent}
 use Rattle.template_machine.proofs.Shifting.{leaves_on, left_so, left_with, own_aside, own_frame, own_locals}
 

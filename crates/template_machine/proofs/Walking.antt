@@ -47,8 +47,9 @@ module _ (p : Program) (stations : List Station) where
         d,
         (
           refl,
-          λ n m locals level e body. record {
+          λ whose n m locals level e body. record {
             there = b;
+            own = body.own;
             in_loops = ap suc body.in_loops ∙ sym e;
             locals_fit =
                 by_themselves p stations (locals ++ x ∷ []) d.locals
@@ -81,8 +82,9 @@ module _ (p : Program) (stations : List Station) where
         d,
         (
           refl,
-          λ n m locals level e body. record {
+          λ whose n m locals level e body. record {
             there = a.1.1;
+            own = body.own;
             in_loops = body.in_loops ∙ e;
             locals_fit =
                 by_themselves p stations (locals ++ x ∷ []) d.locals
@@ -110,8 +112,9 @@ module _ (p : Program) (stations : List Station) where
         (
           body_moves p stations (λ f. with_pc to (with_locals (take len) f)) (λ o. to) (take len) (moves_back to (take len)) (λ n m. n ≡ suc m) (λ n m e. ap suc e)
               1 0 false false fs c o s s pc refl at b
-              (λ n m locals level e body. record {
+              (λ whose n m locals level e body. record {
                 there = (a.1.2.0, a.1.2.1.0);
+                own = sym (ap (λ (x : Context). x.body) a.1.0) ∙ body.own;
                 in_loops = omega (arith, body.in_loops, e, ap (λ (x : Context). x.loops) a.1.0);
                 locals_fit =
                     by_themselves p stations (take len locals) o.locals

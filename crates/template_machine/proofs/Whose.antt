@@ -33,7 +33,7 @@ use Rattle.template_machine.specs.declared.program.Program.{Program}
 use Rattle.template_machine.proofs.InOrder.{NoOther, in_order, over_keeps, scope_keeps, skip_keeps, writing_keeps}
 use Rattle.template_machine.proofs.Regions.{scope_way, writing_way}
 
-same_number : (n : ℕ) → (n == n) ≡ true
+pub same_number : (n : ℕ) → (n == n) ≡ true
 same_number n = grind arith
 
 -- Frames below a node that no body of its own asked for.
@@ -62,7 +62,7 @@ module _ (given : Given) (p : Program) where
   conditions_below level (Skip depth ∷ fs) order = conditions_below level fs order
   conditions_below level (Pass base own spent ∷ fs) order = conditions_below level fs order
 
-  test_by : (o : Option Alternative) → unwrap_or (option_map test_of o) test.Document ≡ option_map_or test_of o test.Document
+  pub test_by : (o : Option Alternative) → unwrap_or (option_map test_of o) test.Document ≡ option_map_or test_of o test.Document
   test_by None = refl
   test_by (Some a) = refl
 

@@ -42,7 +42,7 @@ begun_way depth = way_of (document_alone depth)
 pub fresh_well : (n : Source) (depth : ℕ) (o : Origin) → Stands n (document_alone depth) ([] ∷ []) ahead.Nothing None o → n.begun ≡ 1 → depth + 1 < 2 ^ 32 → IsSourceWell n
 fresh_well n depth o stands begun small =
     source_by n (begun_way depth) (ap way_of stands.path_is) (λ e. absurd (not_held n.ahead stands.ahead_is e)) (omega arith) (omega (arith, small)) (omega (arith, begun))
-    (ap length stands.scopes_are)
+    stands.scopes_are
     (All-cons HoldsSection Document [] tt (All-nil HoldsSection))
   where
     not_held : (a : Ahead) → a ≡ ahead.Nothing → a ≡ ahead.Held → ⊥

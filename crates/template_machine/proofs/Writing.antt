@@ -272,8 +272,9 @@ module _ (p : Program) (stations : List Station) where
         (
           body_moves p stations (with_pc (pc + 1)) (λ o. pc + 1) (λ l. l) (moves_pc (pc + 1)) (λ n m. n ≡ m) (λ n m e. ap suc e)
               0 0 false false fs c d s t pc refl at b
-              (λ k m locals level e body. record {
+              (λ whose k m locals level e body. record {
                 there = subst (λ f. Goes stations (pc + 1) (within f n c)) same l.1.2;
+                own = body.own;
                 in_loops = body.in_loops ∙ e;
                 locals_fit = body.locals_fit;
                 asked = λ e. absurd (false≢true e);
@@ -302,8 +303,9 @@ module _ (p : Program) (stations : List Station) where
         (
           body_moves p stations (with_pc (pc + 1)) (λ o. pc + 1) (λ l. l) (moves_pc (pc + 1)) (λ n m. n ≡ m) (λ n m e. ap suc e)
               0 0 false false fs c o s t pc refl at b
-              (λ k m locals level e body. record {
+              (λ whose k m locals level e body. record {
                 there = (falls.0, falls.1.0);
+                own = sym (ap (λ (x : Context). x.body) was) ∙ body.own;
                 in_loops = sym (ap (λ (x : Context). x.loops) was) ∙ body.in_loops ∙ e;
                 locals_fit = subst (λ (x : Context). WaitBehind 0 locals x.locals) was body.locals_fit;
                 asked = λ e. absurd (false≢true e);

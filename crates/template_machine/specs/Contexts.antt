@@ -13,6 +13,7 @@ use Rattle.sheet_model.specs.declared.sheet.Procedure.{Procedure}
 use Rattle.sheet_model.specs.declared.sheet.Sheet.{Sheet}
 use Rattle.sheet_model.specs.declared.sheet.Template.{Template}
 use Rattle.sheet_model.specs.declared.sheet.Variable.{Variable}
+use Rattle.template_machine.specs.Programs.{IsWithin}
 
 -- Contexts.
 
@@ -22,9 +23,10 @@ pub data Kind : Type 0 where
   Items : Kind
   Tag : Kind
 
--- the locals at a place of a body, the oldest first, how many loops are open around it, and the numbers of the instructions around it
--- that write buffers, the innermost first
+-- the number of the body whose code a place is of, its locals there, the oldest first, how many loops are open around it, and the numbers
+-- of the instructions around it that write buffers, the innermost first
 pub record Context : Type 0 where
+  pub body : ℕ
   pub locals : List Kind
   pub loops : ℕ
   pub writing : List ℕ
@@ -40,8 +42,8 @@ abbrev pub in_loop : Context → Context
 in_loop c = record c { loops = suc c.loops }
 
 -- where a body begins that has these parameters
-abbrev pub begun : List Variable → Context
-begun params = record { locals = map (λ v. Named v.name) params; loops = 0; writing = [] }
+abbrev pub begun : (body : ℕ) → List Variable → Context
+begun body params = record { body = body; locals = map (λ v. Named v.name) params; loops = 0; writing = [] }
 
 -- Instructions, by what they are to the places around them.
 
@@ -170,12 +172,14 @@ module _ (code : Code) (stations : List Station) where
   -- each operation has a station, and each body begins with its parameters
   pub record HasStations (sheet : Sheet) : Type 0 where
     pub each : length stations ≡ length code.ops
+    -- each place is of the code of its body
+    pub own : (place : ℕ) (c : Context) (r : ℕ) → IsAt stations place c r → IsWithin code c.body place
     pub leads :
         (place : ℕ) (o : Op) (c : Context) (r : ℕ) → slice_get code.ops place ≡ Some o → IsAt stations place c r
         → Leads place c r o
     pub templates :
         (n : ℕ) (t : Template) → slice_get sheet.templates n ≡ Some t
-        → (start : ℕ) × ((slice_get code.starts n ≡ Some start) × Goes stations start (begun t.params))
+        → (start : ℕ) × ((slice_get code.starts n ≡ Some start) × Goes stations start (begun n t.params))
     pub procedures :
         (n : ℕ) (p : Procedure) → slice_get sheet.procedures n ≡ Some p
-        → (start : ℕ) × ((slice_get code.starts (length sheet.templates + n) ≡ Some start) × Goes stations start (begun p.params))
+        → (start : ℕ) × ((slice_get code.starts (length sheet.templates + n) ≡ Some start) × Goes stations start (begun (length sheet.templates + n) p.params))

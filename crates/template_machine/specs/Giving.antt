@@ -1,14 +1,14 @@
 -- What a machine gives on what is still to come of the main document.
-use Rattle.std.specs.Prelude.{◌≡◌, ◌≤◌, List, [], ◌∷◌, length, map}
+use Rattle.std.specs.Prelude.{◌≡◌, ◌≤◌, List, [], ◌∷◌, length}
 use Rattle.result_writer.specs.Target.{Left, Target, nothing}
 use Rattle.stx_base.specs.Course.{Halt, Ret, Same, says}
-use Rattle.stxpath_values.specs.declared.value.Atom.TheVariants as atom
 use Rattle.var_store.specs.declared.bound.Bound.{Bound}
 use Rattle.xml_events.specs.Document.{inner}
 use Rattle.xml_events.specs.Telling.{followed}
 use Rattle.xml_events.specs.Tree.{Begun, Cut, End, Forest, Future, Nested, Waiting, Why}
 use Rattle.xml_events.specs.declared.event.Event.{Event}
 use Rattle.template_machine.specs.Between.{IsAsking, IsOf, documents_of}
+use Rattle.template_machine.specs.Commands.{all_given}
 use Rattle.template_machine.specs.Ending.{Done, Faulted, Said, Spent}
 use Rattle.template_machine.specs.Fuel.{unready}
 use Rattle.template_machine.specs.Job.{Given, Main}
@@ -18,7 +18,6 @@ use Rattle.template_machine.specs.Outcome.{AreNew}
 use Rattle.template_machine.specs.Still.{still}
 use Rattle.template_machine.specs.Stepwise.{Flat_does, begun, flat_code, lifted}
 use Rattle.template_machine.specs.declared.machine.Machine.{Machine}
-use Rattle.template_machine.specs.declared.turn.Param.{Param}
 use Rattle.template_machine.specs.declared.turn.Turn.{Turn}
 use Rattle.template_machine.specs.declared.turn.Turn.TheVariants as turn
 
@@ -32,11 +31,8 @@ pub record RunsInOrder (m : Machine) : Type 0 where
   pub alone : IsAlone m.program m.run
 
 -- what the command gives it for the parameters of the root group
-abbrev pub given_by : Param → Bound
-given_by p = record { name = record { uri = []; local = p.name; prefix = [] }; value = atom.Chars p.value ∷ [] }
-
 abbrev pub params_of : Machine → List Bound
-params_of m = map given_by m.run.params
+params_of m = all_given m.program
 
 -- what it still does on what is to come, where this is left of the output
 abbrev pub rest : Given → Machine → Left → Future → Flat_does
@@ -68,7 +64,7 @@ pub record TakesEvent {S : Type 0} (output : S → Target) (told : S → S → L
   pub tells : told out out_now said
   pub order : t ≡ turn.More → RunsInOrder new
   pub goes :
-      (given : Given) → AreNew given → IsOf given.sheet given.limits old → (output out).limit ≡ given.limits.elements → (f : Future)
+      (given : Given) → AreNew given → IsOf given.sheet given.limits old → given.params ≡ params_of old → (output out).limit ≡ given.limits.elements → (f : Future)
       → Turned given t (rest given old (output out).left (followed e f)) said (rest given new (output out_now).left f)
 
 -- A machine begins: whatever the document is, what a run of the sheet does on it is what it says now, and then what it still does on it.
@@ -80,6 +76,11 @@ pub record BeginsDocument {S : Type 0} (output : S → Target) (told : S → S �
       (given : Given) → AreNew given → IsOf given.sheet given.limits old → given.params ≡ params_of old → (output out).limit ≡ given.limits.elements
       → (output out).left ≡ nothing → (tree : Forest)
       → Turned given t (whole given tree) said (rest given new (output out_now).left (document_of tree))
+
+-- an answer asks for no document
+abbrev pub AsksForNone : Turn → Type 0
+AsksForNone (turn.WantDocument name) = ⊥
+AsksForNone t = Unit {0}
 
 -- a list goes no further from here, or its first node isn't ready
 abbrev pub StopsAt : Why → Forest → Type 0

@@ -11,6 +11,7 @@ use Rattle.template_machine.specs.Ordinary.{IsAlone}
 use Rattle.template_machine.specs.Programs.{IsProgramOf}
 use Rattle.template_machine.specs.Saying.{Proceeds}
 use Rattle.template_machine.specs.Still.{still}
+use Rattle.template_machine.specs.Well.{AreGone}
 use Rattle.template_machine.specs.declared.program.Program.{Program}
 use Rattle.template_machine.specs.declared.run.Doing.TheVariants as doing
 use Rattle.template_machine.specs.declared.run.Run.{Run}
@@ -24,6 +25,7 @@ pub record Listens (p : Program) (r : Run) : Type 0 where
   pub ahead : r.source.ahead ≡ ahead.Nothing
   pub takes : TakesList (reverse r.frames.frames)
   pub order : AreInOrder (reverse r.frames.frames)
+  pub gone : AreGone (reverse r.frames.frames)
 
 -- A run hears this: what it did on that, and then on what is to come, it does on what is to come.
 pub record Hears {A : Type 0} (p : Program) (heard : Future → Future) (result : Result A Stop) (old new : Run) : Type 0 where

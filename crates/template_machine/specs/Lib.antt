@@ -32,6 +32,7 @@ pub mod Naming
 pub mod Scopes
 pub mod Sources
 pub mod Programs
+pub mod Commands
 pub mod Ways
 pub mod Contexts
 pub mod Bodies
@@ -42,6 +43,7 @@ pub mod Deep
 pub mod Sections
 pub mod Well
 pub mod Still
+pub mod Choosing
 pub mod GoingOn
 pub mod Moments
 pub mod Puts
@@ -56,6 +58,7 @@ pub mod Made
 pub mod Working
 pub mod Asking
 pub mod Starting
+pub mod Starts
 pub mod Closing
 pub mod Between
 pub mod Ordinary
@@ -66,5 +69,9 @@ pub mod Behind
 pub mod Onward
 pub mod Work
 pub mod Called
+pub mod Parameters
+pub mod Varying
+pub mod Entering
 pub mod Shifting
 pub mod Placed
+pub mod Reached

@@ -12,6 +12,7 @@ use Rattle.template_machine.specs.Bodies.{body_in, pc_in, skipped_in, takes_even
 use Rattle.template_machine.specs.Contexts.{Choice, Choices, Form, HasForm, HasStations, Station}
 use Rattle.template_machine.specs.Documents.{documents}
 use Rattle.template_machine.specs.Lists.{rest_of}
+use Rattle.template_machine.specs.Ordinary.{IsOrdinary}
 use Rattle.template_machine.specs.Sections.{HoldStill, HoldsSection}
 use Rattle.template_machine.specs.Standing.{shelf_of, Over, Unknown, known_now, node_over, standing_of, waits_from_here, with_way}
 use Rattle.template_machine.specs.Ways.{entered, first_in, here, left, way_of, lists_on}
@@ -191,11 +192,11 @@ GoesOrWaits step.Wait r = (r.source.ahead ≡ ahead.Nothing) × (takes_events (r
 GoesOrWaits step.Want r = ⊥
 GoesOrWaits step.Over r = ⊥
 
--- what holds behind a step
+-- What holds behind a step. A sheet that takes the nodes of the main document alone wants no other.
 abbrev pub Follows : Program → Step → Run → Type 0
 Follows p step.More r = IsWell p r
 Follows p step.Wait r = WantsEvent p r
-Follows p step.Want r = IsWaiting p r
+Follows p step.Want r = IsWaiting p r × (IsOrdinary p.code → ⊥)
 Follows p step.Over r = documents r ≡ []
 
 -- A run whose innermost body is at an operation.

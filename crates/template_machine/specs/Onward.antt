@@ -5,6 +5,7 @@ use Rattle.stx_base.specs.Course.{Halt, Same, says}
 use Rattle.xml_events.specs.Tree.{Forest, Future}
 use Rattle.template_machine.specs.Behind.{StepsFrom}
 use Rattle.template_machine.specs.Between.{IsOf}
+use Rattle.template_machine.specs.Commands.{HasParams}
 use Rattle.template_machine.specs.Ending.{Said}
 use Rattle.template_machine.specs.Giving.{Turned, document_of, params_of, whole}
 use Rattle.template_machine.specs.Job.{Given}
@@ -34,7 +35,7 @@ pub record ComesTo {S : Type 0} (output : S → Target) (told : S → S → List
   pub tells : told out out_now said
   pub alone : IsAlone p new
   pub does :
-      (given : Given) → AreNew given → IsProgramOf given.sheet given.limits p → (output out).limit ≡ given.limits.elements → (f : Future)
+      (given : Given) → AreNew given → IsProgramOf given.sheet given.limits p → HasParams p given → (output out).limit ≡ given.limits.elements → (f : Future)
       → Same (flat_code given) (still given p old (output out).left f) (says said (still given p new (output out_now).left f))
 
 -- It goes on until it answers.
@@ -43,7 +44,7 @@ pub record GoesOnTo {S : Type 0} (output : S → Target) (told : S → S → Lis
   pub tells : told out out_now said
   pub alone : t ≡ turn.More → IsAlone p new
   pub does :
-      (given : Given) → AreNew given → IsProgramOf given.sheet given.limits p → (output out).limit ≡ given.limits.elements → (f : Future)
+      (given : Given) → AreNew given → IsProgramOf given.sheet given.limits p → HasParams p given → (output out).limit ≡ given.limits.elements → (f : Future)
       → Turned given t (still given p old (output out).left f) said (still given p new (output out_now).left f)
 
 -- the output ends, where parts leave this of it

@@ -1,5 +1,6 @@
 -- What a method does that begins an instruction round a list.
-use Rattle.std.specs.Prelude.{◌≡◌, ℕ, List, [], Result, Some, reverse}
+use Rattle.std.specs.Prelude.{◌≡◌, ℕ, Bool, IfOk, List, [], Option, Result, Some, reverse}
+use Rattle.stx_base.specs.declared.name.Name.{Name}
 use Rattle.stx_base.specs.declared.fault.Place.{Place}
 use Rattle.frame_stack.specs.declared.locals.Local.{Local}
 use Rattle.stxpath_values.specs.declared.value.Atom.{Atom}
@@ -9,12 +10,17 @@ use Rattle.node_stack.specs.Stack.{path}
 use Rattle.result_writer.specs.Target.{Target}
 use Rattle.sheet_model.specs.declared.instr.Instr.{Instr}
 use Rattle.sheet_model.specs.declared.instr.Instr.TheOpen.{Instr-F}
+use Rattle.sheet_model.specs.declared.instr.LiteralAttr.{LiteralAttr}
 use Rattle.sheet_model.specs.declared.instr.When.{When}
+use Rattle.stxpath_syntax.specs.declared.expr.Pattern.{Pattern}
+use Rattle.template_machine.specs.Acting.{has_list}
 use Rattle.template_machine.specs.Bodies.{on_body}
 use Rattle.template_machine.specs.Ending.{Said}
 use Rattle.template_machine.specs.Job.{Given, Here, with_state}
 use Rattle.template_machine.specs.Saying.{GoesAs, Puts, SeesAs}
+use Rattle.template_machine.specs.Scopes.{in_force}
 use Rattle.template_machine.specs.Shifting.{with_more}
+use Rattle.template_machine.specs.Starts.{copy_start}
 use Rattle.template_machine.specs.Still.{state_of}
 use Rattle.template_machine.specs.Stepwise.{Flat_does, Outcome, Working, copy_end, opens_by, stands_at}
 use Rattle.template_machine.specs.declared.program.Program.{Program}
@@ -48,3 +54,13 @@ pub record EndsCopy {S A : Type 0} (output : S → Target) (told : S → S → L
   pub node : Node
   pub there : current (path old.source.stack) ≡ Some node
   pub puts : Puts output told at (copy_end node) result old.putting new.putting out out_now
+
+abbrev pub literal_at : Name → List LiteralAttr → (body : List Instr) → Place → Instr-F Instr When
+literal_at name attrs body at = Instr-F.Literal name attrs body at
+
+-- What a copy of the current node puts before the list inside is put, and the answer is whether that is run.
+pub record BeginsCopy {S : Type 0} (output : S → Target) (told : S → S → List Said → Type 0) (attributes : Option Pattern) (at : Place) (result : Result Bool Stop) (old new : Run) (out out_now : S) : Type 0 where
+  pub node : Node
+  pub there : current (path old.source.stack) ≡ Some node
+  pub puts : Puts output told at (copy_start (in_force old.source.bindings) attributes node) result old.putting new.putting out out_now
+  pub inside : IfOk result (λ inside. inside ≡ has_list node)

@@ -59,6 +59,13 @@ groups_of s = map (λ (t : Template). t.group) s.templates ++ map (λ (p : Proce
 abbrev pub end_of : Code → (body : ℕ) → ℕ
 end_of code body = unwrap_or (slice_get code.starts (suc body)) (length code.ops)
 
+-- a place is of a body's code
+pub record IsWithin (code : Code) (body place : ℕ) : Type 0 where
+  pub start : ℕ
+  pub starts : slice_get code.starts body ≡ Some start
+  pub behind : start ≤ place
+  pub before : place < end_of code body
+
 -- an operation at a place of a body's code
 pub record IsIn (code : Code) (body place : ℕ) (o : Op) : Type 0 where
   pub start : ℕ

@@ -1,5 +1,5 @@
 -- What methods do of what is to be done, and what they tell a sink.
-use Rattle.std.specs.Prelude.{◌≡◌, ◌⊎◌, ℕ, ◌+◌, ◌-◌, List, [], ◌∷◌, Option, true, OnOk, Result, Some, Ok, Err, length, reverse, slice_get, unwrap_or}
+use Rattle.std.specs.Prelude.{◌≡◌, ℕ, ◌+◌, ◌-◌, List, [], ◌∷◌, Option, true, OnOk, Result, Ok, Err, length, reverse, unwrap_or}
 use Rattle.std.specs.Option.{option_and_then, option_map_or, option_or}
 use Rattle.stx_base.specs.Course.{Course, Halt, Ret, Same, says}
 use Rattle.stx_base.specs.declared.fault.Place.{Place}
@@ -10,8 +10,6 @@ use Rattle.stx_base.specs.declared.node.NodeTest.TheVariants as test
 use Rattle.frame_stack.specs.Change.{locals_of, with_pc}
 use Rattle.frame_stack.specs.declared.frame.Frame.{Frame}
 use Rattle.frame_stack.specs.declared.frame.Frame.TheVariants.{Loop}
-use Rattle.instr_code.specs.declared.code.Op.{Op}
-use Rattle.instr_code.specs.declared.code.Op.TheVariants as op
 use Rattle.node_stack.specs.Path.{Path}
 use Rattle.node_stack.specs.Stack.{path}
 use Rattle.result_writer.specs.Target.{Left, Target}
@@ -19,7 +17,6 @@ use Rattle.sheet_model.specs.Groups.{around}
 use Rattle.sheet_model.specs.declared.instr.Content.{Content}
 use Rattle.sheet_model.specs.declared.instr.Instr.{Instr}
 use Rattle.sheet_model.specs.declared.instr.Instr.TheOpen.{Instr-F}
-use Rattle.sheet_model.specs.declared.instr.Instr.TheViews.{out-Instr}
 use Rattle.sheet_model.specs.declared.instr.When.{When}
 use Rattle.stxpath_eval.specs.Setting.{Setting}
 use Rattle.stxpath_syntax.specs.declared.expr.Avt.{Avt}
@@ -28,8 +25,7 @@ use Rattle.stxpath_values.specs.declared.fault.EvalFault.{EvalFault}
 use Rattle.xml_events.specs.Tree.{Future}
 use Rattle.template_machine.specs.Acting.{acts, named}
 use Rattle.template_machine.specs.Alike.{LooksLike, along_path}
-use Rattle.template_machine.specs.Bodies.{frame_in, on_body, pc_in}
-use Rattle.template_machine.specs.Called.{DeclaresNames}
+use Rattle.template_machine.specs.Bodies.{frame_in, on_body}
 use Rattle.template_machine.specs.Ending.{Ending, Faulted, Said, Spent, code_of}
 use Rattle.template_machine.specs.Job.{Does, Given, Here, Self, State, with_state}
 use Rattle.template_machine.specs.Programs.{IsProgramOf}
@@ -42,7 +38,6 @@ use Rattle.template_machine.specs.Values.{setting}
 use Rattle.template_machine.specs.Variables.{seen_in}
 use Rattle.template_machine.specs.declared.program.Program.{Program}
 use Rattle.template_machine.specs.declared.putting.Putting.{Putting}
-use Rattle.template_machine.specs.declared.run.Doing.TheVariants as doing
 use Rattle.template_machine.specs.declared.run.Run.{Run}
 use Rattle.template_machine.specs.declared.stop.Stop.{Stop}
 use Rattle.template_machine.specs.declared.stop.Stop.TheVariants as stop
@@ -194,6 +189,8 @@ pub record Passes {A : Type 0} (pc : ℕ) (result : Result A Stop) (old new : Ru
 -- An instruction round a list of which it is said how it begins, and how it ends.
 
 abbrev pub OpensShown : Instr-F Instr When → Type 0
+OpensShown (Instr-F.Literal name attrs body at) = Unit {0}
+OpensShown (Instr-F.Copy attributes body at) = Unit {0}
 OpensShown (Instr-F.Element name namespace scope body at) = Unit {0}
 OpensShown x = ⊥
 
@@ -202,25 +199,3 @@ ClosesShown (Instr-F.Literal name attrs body at) = Unit {0}
 ClosesShown (Instr-F.Copy attributes body at) = Unit {0}
 ClosesShown (Instr-F.Element name namespace scope body at) = Unit {0}
 ClosesShown x = ⊥
-
--- An operation of which it is said what it does.
-abbrev pub IsShown : Program → Op → Type 0
-IsShown p (op.Do number) = (i : Instr) → slice_get p.code.instrs number ≡ Some i → GivesText (out-Instr i) ⊎ GivesValue (out-Instr i)
-IsShown p (op.Begin number) = Unit {0}
-IsShown p (op.Test number arm to) = Unit {0}
-IsShown p (op.Turn number to) = Unit {0}
-IsShown p (op.Jump to) = Unit {0}
-IsShown p (op.Drop count) = Unit {0}
-IsShown p (op.Open number to) = (i : Instr) → slice_get p.code.instrs number ≡ Some i → OpensShown (out-Instr i)
-IsShown p (op.Close number) = (i : Instr) → slice_get p.code.instrs number ≡ Some i → ClosesShown (out-Instr i)
-IsShown p x = ⊥
-
--- The next operation is such a one.
-pub record ShownNext (p : Program) (r : Run) : Type 0 where
-  pub doing : r.doing ≡ doing.Body
-  pub pc : ℕ
-  pub op : Op
-  pub at : pc_in (reverse r.frames.frames) ≡ Some pc
-  pub is : slice_get p.code.ops pc ≡ Some op
-  pub shown : IsShown p op
-  pub names : DeclaresNames p

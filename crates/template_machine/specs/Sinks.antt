@@ -1,8 +1,8 @@
 -- What a sink is told.
-use Rattle.std.specs.Prelude.{◌≡◌, List, [], ◌∷◌, None, Result, IfErr, OnErr, OnOk}
+use Rattle.std.specs.Prelude.{◌≡◌, List, [], ◌∷◌, ◌++◌, None, Result, IfErr, OnErr, OnOk, map}
 use Rattle.stx_base.specs.declared.part.Part.{Part}
 use Rattle.result_writer.specs.Target as writing
-use Rattle.result_writer.specs.Target.{IsCause, Target, behind}
+use Rattle.result_writer.specs.Target.{IsCause, Target, behind, first_fault, left_by}
 use Rattle.result_writer.specs.declared.fault.WriteStop.{WriteStop}
 use Rattle.template_machine.specs.Ending.{Note, Open, Put, Said}
 
@@ -20,3 +20,16 @@ pub record Takes {S A : Type 0} (output : S → Target) (told : S → S → List
   pub refused : IfErr result (IsCause (writing.fault (output old).limit (output old).left part))
   pub said : OnOk result (told old new (Put part ∷ []))
   pub unsaid : OnErr result (told old new [])
+
+abbrev pub all_put : List Part → List Said
+all_put = map (λ p. Put p)
+
+-- Parts are told to a sink one after another, up to the first that it doesn't take: those before it are taken.
+pub record TakesInTurn {S A : Type 0} (output : S → Target) (told : S → S → List Said → Type 0) (parts : List Part) (result : Result A WriteStop) (old new : S) : Type 0 where
+  pub taken : List Part
+  pub rest : List Part
+  pub whole : parts ≡ taken ++ rest
+  pub allowed : first_fault (output old).limit (output old).left taken ≡ None
+  pub said : told old new (all_put taken)
+  pub all : OnOk result (rest ≡ [])
+  pub refused : IfErr result (λ stop. (p : Part) × ((ps : List Part) × ((rest ≡ p ∷ ps) × IsCause (writing.fault (output old).limit (left_by (output old).left taken) p) stop)))

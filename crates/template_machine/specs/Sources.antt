@@ -1,5 +1,5 @@
 -- What becomes of a source.
-use Rattle.std.specs.Prelude.{◌≡◌, ◌<◌, Bool, true, false, List, ◌∷◌, Option, Some, None, length, option_map}
+use Rattle.std.specs.Prelude.{◌≡◌, ◌<◌, Bool, true, false, List, [], ◌∷◌, Option, Some, None, length, option_map}
 use Rattle.std.specs.Option.{option_map_or}
 use Rattle.stx_base.specs.declared.name.Binding.{Binding}
 use Rattle.node_stack.specs.Path.{Node, Element, Path, PathNode, current, depth, is_element, last_of, parked, resumed}
@@ -32,6 +32,11 @@ within_node n = within_declared (declared_in n)
 abbrev pub around_node : Option Node → Scopes → Scopes
 around_node (Some (Element name attrs decls first)) scopes = rest_of scopes
 around_node n scopes = scopes
+
+-- those of each open element of nodes from the current one outwards, the innermost first, and last of the document node, where none are
+abbrev pub scopes_on : List Node → Scopes
+scopes_on [] = [] ∷ []
+scopes_on (n ∷ nodes) = within_node n (scopes_on nodes)
 
 -- each open element has its bindings
 abbrev pub HasScope : Source → Type 0

@@ -29,6 +29,7 @@ use Rattle.template_machine.specs.Contexts.{Context, Goes, HasStations, Items, K
 use Rattle.template_machine.specs.Deep.{AreAllDeep}
 use Rattle.template_machine.specs.Programs.{IsProgramOf, instr_at}
 use Rattle.template_machine.specs.Sections.{AllHoldSections, HoldsSection, IsHeldWell, WaitsWell}
+use Rattle.template_machine.specs.Sources.{scopes_on}
 use Rattle.template_machine.specs.Standing.{Free, Front, Known, Outer, Over, Read, Room, Shelf, Standing, Unknown, Usage, Waits, Written, known_now, node_over, on_shelf, read_closed, region_over, rooms_of, scope_over, shelf_at, skip_over, source_over, standing_of, writing_over, written_closed}
 use Rattle.template_machine.specs.Ways.{Way, entered, first_in, here, left, lists_on, number_of, open_on, way_of}
 use Rattle.template_machine.specs.declared.program.Link.{Link}
@@ -143,11 +144,11 @@ SkipFront depth w n Unknown = lists_on w + depth ≡ n
 SkipFront depth w n Over = lists_on (left w) ≡ n
 SkipFront depth w n (Waits x) = ⊥
 
--- what a list that goes on knows of its front: a list of attributes, of nodes that are skipped, or of nodes that are taken; those of a
--- body's node are gone for it
+-- what a list that goes on knows of its front: a list of attributes, which an attribute hasn't, of nodes that are skipped, or of nodes
+-- that are taken; those of a body's node are gone for it
 abbrev pub ListFits : List Frame → Way → (begun : ℕ) → Front → Type 0
 ListFits [] w n front = ⊥
-ListFits (Attributes next asked ∷ fs) w n front = IsSettled fs w n front
+ListFits (Attributes next asked ∷ fs) w n front = (is_attribute (here w) ≡ false) × IsSettled fs w n front
 ListFits (Skip depth ∷ fs) w n front = SkipFront depth w n front
 ListFits (f ∷ fs) w n front = HasList w × AreGone (f ∷ fs) × IsFrontFor w n front
 
@@ -256,9 +257,10 @@ module _ (p : Program) where
     pub own_copies : t.new_scope ≡ true → CanTakeOff t.group s
 
 module _ (p : Program) (stations : List Station) where
-  -- A body at a place, of which so many loops are open; it waits for an instruction, or goes on.
-  pub record IsBody (loops : ℕ) (waits : Bool) (pc : ℕ) (locals : List Local) (level : ℕ) (c : Context) (s : Standing) : Type 0 where
+  -- The body of a number at a place of its code, of which so many loops are open; it waits for an instruction, or goes on.
+  pub record IsBody (body loops : ℕ) (waits : Bool) (pc : ℕ) (locals : List Local) (level : ℕ) (c : Context) (s : Standing) : Type 0 where
     pub there : Goes stations pc c
+    pub own : c.body ≡ body
     pub in_loops : c.loops ≡ loops
     pub locals_fit : WaitBehind (waiting_at p waits pc) locals c.locals
     pub asked : waits ≡ true → IsSome (instr_before p pc)
@@ -275,14 +277,14 @@ module _ (p : Program) (stations : List Station) where
   AreWell loops waits (Loop turn ∷ fs) s = AreWell (suc loops) waits fs s
   AreWell loops waits (Body template alternative pc locals level spent ∷ fs) s =
       (c : Context) × ((t : Template)
-      × (IsBody loops waits pc locals level c s
+      × (IsBody template loops waits pc locals level c s
       × IsTemplate p template alternative t (writing_over (buffers_of p c.writing) s)
       × (is_again level fs ≡ false → CanTake fs (writing_over (buffers_of p c.writing) s).source.way)
       × (is_again level fs ≡ true → spent_in fs ≡ Some spent)
       × AreWell 0 true fs (over level fs (scope_over t.new_scope t.group (writing_over (buffers_of p c.writing) s)))))
   AreWell loops waits (Call procedure pc locals level ∷ fs) s =
       (c : Context) × ((q : Procedure)
-      × (IsBody loops waits pc locals level c s
+      × (IsBody (length p.sheet.templates + procedure) loops waits pc locals level c s
       × (slice_get p.sheet.procedures procedure ≡ Some q)
       × (level_in fs ≡ Some level)
       × AreWell 0 false fs (writing_over (buffers_of p c.writing) s)))
@@ -336,14 +338,14 @@ module _ (p : Program) (stations : List Station) where
     pub unknown : known.front ≡ Unknown
     pub end : can_end (here s.source.way) ≡ true
 
--- A source: a head that is held is there, no more elements are open than may be, and each has its bindings; the texts of CDATA sections may
--- be ones.
+-- A source: a head that is held is there, no more elements are open than may be, and in each its bindings are in force; the texts of CDATA
+-- sections may be ones.
 pub record IsSourceWell (s : sources.Source) : Type 0 where
   pub held : s.ahead ≡ ahead.Held → IsHeldWell s.held
   pub room : open_on (way_of (path s.stack)) ≤ (way_of (path s.stack)).limit
   pub small : (way_of (path s.stack)).limit + 1 < 2 ^ 32
   pub counted : s.begun ≤ (way_of (path s.stack)).limit + 1
-  pub scopes : length s.bindings ≡ open_on (way_of (path s.stack)) + 1
+  pub scopes : s.bindings ≡ scopes_on (way_of (path s.stack)).nodes
   pub sections : All HoldsSection (way_of (path s.stack)).nodes
 
 -- so of one around the innermost, in which no head is the current node

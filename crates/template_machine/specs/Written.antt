@@ -1,6 +1,6 @@
 -- What the output of a run has of what it was told.
 use Rattle.std.specs.Prelude.{◌≡◌, ℕ, List, [], ◌∷◌, ◌++◌, encode_utf8_all}
-use Rattle.result_writer.specs.Target.{Left, next, settles}
+use Rattle.result_writer.specs.Target.{Left, Target, next, settles}
 use Rattle.template_machine.specs.Ending.{Note, Open, Put, Said}
 use Rattle.template_machine.specs.Sinks.{behind_all}
 use Rattle.template_machine.specs.declared.output.Output.{Output}
@@ -18,6 +18,16 @@ lines_of [] = []
 lines_of (Put p ∷ said) = lines_of said
 lines_of (Note text ∷ said) = encode_utf8_all text ++ 10 ∷ lines_of said
 lines_of (Open name ∷ said) = lines_of said
+
+-- what the parts that were put leave of an output, and what it has settled of them, and of messages, that wasn't taken yet
+abbrev pub target_of : Output → Target
+target_of out = out.writer
+
+abbrev pub bytes_of : Output → List ℕ
+bytes_of out = out.bytes.items
+
+abbrev pub notes_of : Output → List ℕ
+notes_of out = out.notes.items
 
 -- an output as it becomes by this
 pub record Wrote (old new : Output) (said : List Said) : Type 0 where

@@ -1,12 +1,15 @@
 -- An output is told one thing after another.
-use Rattle.std.proofs.Common.{◌≡◌, ℕ, List, [], ◌∷◌, ◌++◌, Result, Ok, Err, None, refl, ap, sym, ◌∙◌, append-nil, append_assoc}
-use Rattle.std.specs.Prelude.{IfErr, IsErrAnd, MatchResult, OnErr, OnOk, encode_utf8_all}
+use Rattle.std.proofs.Common.{◌≡◌, ℕ, List, [], ◌∷◌, ◌++◌, Result, Ok, Err, None, refl, ap, sym, subst, ◌∙◌, append-nil, append_assoc}
+use Rattle.std.specs.Prelude.{IfErr, IsErrAnd, MatchResult, OnErr, OnOk, encode_utf8_all, map}
+use Rattle.stx_base.specs.declared.name.Attr.{Attr}
 use Rattle.stx_base.specs.declared.part.Part.{Part}
 use Rattle.result_writer.specs.Target as writing
-use Rattle.result_writer.specs.Target.{IsCause, Left, Target, behind, next, settles}
+use Rattle.result_writer.specs.Target.{IsCause, Left, PutsInTurn, Target, behind, left_by, next, settles}
 use Rattle.result_writer.specs.declared.fault.WriteStop.{WriteStop}
 use Rattle.template_machine.specs.Ending.{Note, Open, Put, Said}
-use Rattle.template_machine.specs.Sinks.{Takes, behind_all}
+use Rattle.template_machine.specs.Lists.{rest_of}
+use Rattle.template_machine.specs.Putting.{attribute_part}
+use Rattle.template_machine.specs.Sinks.{Takes, TakesInTurn, all_put, behind_all}
 use Rattle.template_machine.specs.Written.{Wrote, lines_of, settled_by}
 use Rattle.template_machine.specs.declared.output.Output.{Output}
 
@@ -16,7 +19,7 @@ behind_on t (Put p ∷ m) n = behind_on (behind t p) m n
 behind_on t (Note text ∷ m) n = behind_on t m n
 behind_on t (Open name ∷ m) n = behind_on t m n
 
-settled_on : (t : Target) (m n : List Said) → settled_by t.left (m ++ n) ≡ settled_by t.left m ++ settled_by (behind_all t m).left n
+pub settled_on : (t : Target) (m n : List Said) → settled_by t.left (m ++ n) ≡ settled_by t.left m ++ settled_by (behind_all t m).left n
 settled_on t [] n = refl
 settled_on t (Put p ∷ m) n =
     ap (λ l. settles t.left p ++ l) (settled_on (behind t p) m n)
@@ -24,7 +27,7 @@ settled_on t (Put p ∷ m) n =
 settled_on t (Note text ∷ m) n = settled_on t m n
 settled_on t (Open name ∷ m) n = settled_on t m n
 
-lines_on : (m n : List Said) → lines_of (m ++ n) ≡ lines_of m ++ lines_of n
+pub lines_on : (m n : List Said) → lines_of (m ++ n) ≡ lines_of m ++ lines_of n
 lines_on [] n = refl
 lines_on (Put p ∷ m) n = lines_on m n
 lines_on (Note text ∷ m) n = ap (λ l. encode_utf8_all text ++ 10 ∷ l) (lines_on m n) ∙ sym (append_assoc (encode_utf8_all text) (10 ∷ lines_of m) (lines_of n))
@@ -66,6 +69,51 @@ wrote_part a b p (Err stop) taken fault ok err written unwritten notes = record 
   refused = fault;
   said = tt;
   unsaid = record { writer = err; bytes = unwritten ∙ sym (append-nil a.bytes.items); notes = notes ∙ sym (append-nil a.notes.items) };
+}
+
+-- Attributes settle nothing, and leave the scope of the last start as it was.
+
+abbrev first_or : Part → List Part → Part
+first_or other [] = other
+first_or other (p ∷ ps) = p
+
+abbrev IsNone : List Part → Type 0
+IsNone [] = Unit {0}
+IsNone (p ∷ ps) = ⊥
+
+attributes_behind : (t : Target) (attrs : List Attr) (taken rest : List Part) → map attribute_part attrs ≡ taken ++ rest
+    → behind_all t (all_put taken) ≡ record t { left = left_by t.left taken }
+attributes_behind t attrs [] rest e = refl
+attributes_behind t [] (p ∷ ps) rest e = absurd (subst IsNone e tt)
+attributes_behind t (a ∷ attrs) (p ∷ ps) rest e =
+    subst (λ q. behind_all t (all_put (q ∷ ps)) ≡ record t { left = left_by t.left (q ∷ ps) }) (ap (first_or p) e)
+    (attributes_behind (behind t (attribute_part a)) attrs ps rest (ap rest_of e))
+
+attributes_settle : (l : Left) (attrs : List Attr) (taken rest : List Part) → map attribute_part attrs ≡ taken ++ rest → settled_by l (all_put taken) ≡ []
+attributes_settle l attrs [] rest e = refl
+attributes_settle l [] (p ∷ ps) rest e = absurd (subst IsNone e tt)
+attributes_settle l (a ∷ attrs) (p ∷ ps) rest e =
+    subst (λ q. settled_by l (all_put (q ∷ ps)) ≡ []) (ap (first_or p) e) (attributes_settle (next l (attribute_part a)) attrs ps rest (ap rest_of e))
+
+no_lines : (ps : List Part) → lines_of (all_put ps) ≡ []
+no_lines [] = refl
+no_lines (p ∷ ps) = no_lines ps
+
+-- attributes that a writer takes up to one that it refuses
+pub wrote_in_turn : {A : Type 0} (a : Output) (w : Target) (attrs : List Attr) (r : Result A WriteStop) (b : Output) → b.writer ≡ w → b.bytes ≡ a.bytes → b.notes ≡ a.notes
+    → PutsInTurn (map attribute_part attrs) r a.writer w → TakesInTurn (λ (o : Output). o.writer) Wrote (map attribute_part attrs) r a b
+wrote_in_turn a w attrs r b writer bytes notes q = record {
+  taken = q.taken;
+  rest = q.rest;
+  whole = q.whole;
+  allowed = q.allowed;
+  said = record {
+    writer = writer ∙ q.left ∙ sym (attributes_behind a.writer attrs q.taken q.rest q.whole);
+    bytes = ap (λ v. v.items) bytes ∙ sym (append-nil a.bytes.items) ∙ ap (λ l. a.bytes.items ++ l) (sym (attributes_settle a.writer.left attrs q.taken q.rest q.whole));
+    notes = ap (λ v. v.items) notes ∙ sym (append-nil a.notes.items) ∙ ap (λ l. a.notes.items ++ l) (sym (no_lines q.taken));
+  };
+  all = q.all;
+  refused = q.refused;
 }
 
 pub always_ok : {A E P : Type 0} (r : Result A E) → P → OnOk r P

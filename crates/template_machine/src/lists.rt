@@ -1,6 +1,6 @@
 //! Open lists: heads, ends, and nodes that are skipped.
 
-ghost use Rattle.std.specs.Prelude.{◌≡◌, ◌+◌, ◌-◌, ◌<◌, ◌≤◌, IfOk, IsSome, None, Some, Ok, true, length, reverse, slice_set, List as Items, ◌∷◌, ℕ, OnOk};
+ghost use Rattle.std.specs.Prelude.{◌≡◌, ◌+◌, ◌-◌, ◌<◌, ◌≤◌, IfOk, IsSome, None, Some, Ok, true, false, length, reverse, slice_set, List as Items, ◌∷◌, ℕ, OnOk};
 ghost use Rattle.stx_base.specs.declared.node.First.{First as Child};
 ghost use Rattle.frame_stack.specs.declared.frame.Frame.{Frame as Waiting};
 ghost use Rattle.frame_stack.specs.declared.frame.Frame.TheVariants.{Skip};
@@ -9,11 +9,13 @@ ghost use Rattle.node_stack.specs.Path.{Element, can_end, current, is_attribute}
 ghost use Rattle.node_stack.specs.Stack.{path};
 ghost use Rattle.xml_events.specs.Telling.{followed};
 ghost use Rattle.xml_events.specs.Tree.{Element as Told_element, Leaf as Told_leaf};
-ghost use Rattle.template_machine.specs.Behind.{DocumentIsLast, MovesFrom, StepsFrom, list_done, node_done};
+ghost use Rattle.template_machine.specs.Behind.{DocumentIsLast, IsInList, MovesFrom, StepsFrom, head_taken, list_done, node_done};
 ghost use Rattle.template_machine.specs.Bodies as bodies;
 ghost use Rattle.template_machine.specs.Closing.{is_slot};
 ghost use Rattle.template_machine.specs.Documents.{documents};
+ghost use Rattle.template_machine.specs.Entering.{IsUncounted};
 ghost use Rattle.template_machine.specs.Heard.{Hears, HearsAll, Listens, MayEnd, Skips, end_first, leaf_first, start_first};
+ghost use Rattle.template_machine.specs.Onward.{StepsOn};
 ghost use Rattle.template_machine.specs.Ordinary.{IsAlone};
 ghost use Rattle.template_machine.specs.Standing.{standing_of};
 ghost use Rattle.template_machine.specs.Steps.{fuel_ended};
@@ -252,6 +254,7 @@ impl Run {
         requires list { self.old.doing ≡ Doing.List }
         ensures stands { IfOk result (λ step. Follows program.now step self.new) }
         ensures works { IfOk result (λ step. Falls program.now self.old step self.new) }
+        ensures steps { IsAlone program.now self.old → StepsOn S.output S.told program.now result self.old self.new out.old out.new }
     {
         match next_attribute_of(&self.frames) {
             Some(next) => self.next_attribute(program, next, out),
@@ -267,6 +270,7 @@ impl Run {
         requires events { bodies.takes_events (reverse self.old.frames.frames) ≡ true }
         ensures stands { IfOk result (λ step. Follows program.now step self.new) }
         ensures works { IfOk result (λ step. Falls program.now self.old step self.new) }
+        ensures steps { IsAlone program.now self.old → StepsOn S.output S.told program.now result self.old self.new out.old out.new }
     {
         match self.source.ahead {
             Ahead::Nothing => self.want(program),
@@ -366,6 +370,7 @@ impl Run {
         ensures stands { IfOk result (λ step. Follows program.now step self.new) }
         ensures asks { IfOk result AsksNone }
         ensures works { OnOk result (Begins 5 self.old self.new) }
+        ensures takes { IsAlone program.now self.old → IsUncounted self.old → StepsFrom S.output S.told program.now (λ given left f. head_taken given program.now self.old left f) result self.new out.old out.new }
     {
         let over = self.head_ends_region(program)?;
         if over {
@@ -381,7 +386,8 @@ impl Run {
     #[inline(always)]
     fn head_ends_region(&self, program: &Program) -> Result<bool, Stop>
         requires { HeadIsLooked program.now self.now }
-        ensures { IfOk result (λ over. over ≡ true → StandOnRegion (reverse self.now.frames.frames)) }
+        ensures region { IfOk result (λ over. over ≡ true → StandOnRegion (reverse self.now.frames.frames)) }
+        ensures apart { IsAlone program.now self.now → result ≡ Ok false }
     {
         match self.frames.top() {
             Some(Frame::Region { .. }) => self.ends_region(program),
@@ -429,6 +435,7 @@ impl Run {
         ensures stands { IfOk result (λ step. Follows program.now step self.new) }
         ensures asks { IfOk result AsksNone }
         ensures works { OnOk result (Begins 0 self.old self.new) }
+        ensures steps { IsAlone program.now self.old → ((depth : ℕ) → bodies.skipped_in (reverse self.old.frames.frames) ≡ Some depth → depth ≡ 0) → StepsFrom S.output S.told program.now (λ given left f. list_done given program.now self.old left f) result self.new out.old out.new }
     {
         match self.frames.top() {
             Some(Frame::Region { .. }) => {
@@ -512,7 +519,7 @@ impl Run {
         ensures stands { IfOk result (λ step. Follows program.now step self.new) }
         ensures asks { IfOk result AsksNone }
         ensures works { OnOk result (Begins 2 self.old self.new) }
-        ensures moves { IsAlone program.now self.old → DocumentIsLast self.old → MovesFrom program.now (λ given left f. node_done given program.now self.old left f) result self.new }
+        ensures moves { IsAlone program.now self.old → DocumentIsLast self.old → IsInList self.old → MovesFrom program.now (λ given left f. node_done given program.now self.old left f) result self.new }
     {
         match self.source.stack.current() {
             NodeView::Attribute(_) => Ok(self.leave_attribute(program)),
@@ -545,7 +552,7 @@ impl Run {
         ensures stands { Follows program.now result self.new }
         ensures asks { AsksNone result }
         ensures works { Begins 2 self.old self.new }
-        ensures moves { IsAlone program.now self.old → MovesFrom program.now (λ given left f. node_done given program.now self.old left f) (Ok result) self.new }
+        ensures moves { IsAlone program.now self.old → IsInList self.old → MovesFrom program.now (λ given left f. node_done given program.now self.old left f) (Ok result) self.new }
     {
         let change = self.source.close(&mut self.putting.spare);
         self.putting.see(change);
@@ -565,6 +572,7 @@ impl Run {
         requires next { bodies.next_in (reverse self.old.frames.frames) ≡ Some next }
         ensures stands { IfOk result (λ step. Follows program.now step self.new) }
         ensures works { IfOk result (λ step. Falls program.now self.old step self.new) }
+        ensures steps { IsAlone program.now self.old → StepsOn S.output S.told program.now result self.old self.new out.old out.new }
     {
         let top = self.frames.count() - 1;
         if next < self.source.attributes() {

@@ -7,9 +7,11 @@ ghost use Rattle.sheet_model.specs.declared.sheet.Sheet.{Sheet as Sheets};
 ghost use Rattle.stx_base.specs.declared.limits.Limits.{Limits as Limit};
 ghost use Rattle.xml_events.specs.Tree.{Future};
 ghost use Rattle.template_machine.specs.Between.{Burns, Continues, GoesOn, IsAbsent, IsAsking, IsAskingForDocument, IsNew, IsOf, behind, depth_of, documents_of, fuel_at, fuel_limit_of, fuel_of, mains_behind, mains_of, spare_of};
-ghost use Rattle.template_machine.specs.Giving.{HasOrdinarySheet, RunsInOrder, given_by, params_of, rest};
+ghost use Rattle.template_machine.specs.Commands.{given_by};
+ghost use Rattle.template_machine.specs.Giving.{AsksForNone, BeginsDocument, HasOrdinarySheet, RunsInOrder, TakesEvent, params_of, rest};
 ghost use Rattle.template_machine.specs.Job.{Given};
 ghost use Rattle.template_machine.specs.Moments.{Follows};
+ghost use Rattle.template_machine.specs.Onward.{StartsWith};
 ghost use Rattle.template_machine.specs.Work.{AsksNone, means_of};
 
 use crate::program::Program;
@@ -47,8 +49,8 @@ impl Machine {
         ensures fuel_limit { IfOk result (λ m. fuel_limit_of m ≡ limits.fuel) }
         ensures params { IfOk result (λ m. params_of m ≡ map given_by params) }
     {
-        let program = Program::new(alloc, sheet, limits)?;
-        let run = Run::new(alloc, &program, params)?;
+        let program = Program::new(alloc, sheet, limits, params)?;
+        let run = Run::new(alloc, &program)?;
         Ok(Machine { program, run })
     }
 
@@ -64,6 +66,11 @@ impl Machine {
         ensures fuel { Burns result (fuel_of self.old) (fuel_of self.new) }
         ensures fuel_limit { fuel_limit_of self.new ≡ fuel_limit_of self.old }
         ensures of { (sheet : Sheets) (limits : Limit) → IsOf sheet limits self.old → IsOf sheet limits self.new }
+        // Where the sheet takes the nodes of the main document alone, each list in order: what it still does on that document, whatever
+        // it is. It asks for no other.
+        ensures gives { HasOrdinarySheet self.old → BeginsDocument S.output S.told result self.old self.new out.old out.new }
+        ensures alone { HasOrdinarySheet self.old → AsksForNone result }
+        ensures params { params_of self.new ≡ params_of self.old }
     {
         match self.begin(out) {
             Ok(step) => self.run.go_on_behind(&self.program, step, out),
@@ -78,6 +85,7 @@ impl Machine {
         ensures asks { IfOk result AsksNone }
         ensures means { OnOk result (means_of self.new.run ≡ means_of self.old.run) }
         ensures program { self.new.program ≡ self.old.program }
+        ensures starts { StartsWith S.output S.told self.old result self.new.run out.old out.new }
     {
         self.run.make_all(&self.program)?;
         self.run.take(&self.program, Asker::Root, out)
@@ -97,6 +105,9 @@ impl Machine {
         ensures fuel { Burns result (fuel_at (mains_of self.old) (fuel_limit_of self.old) (fuel_of self.old)) (fuel_of self.new) }
         ensures fuel_limit { fuel_limit_of self.new ≡ fuel_limit_of self.old }
         ensures of { (sheet : Sheets) (limits : Limit) → IsOf sheet limits self.old → IsOf sheet limits self.new }
+        ensures gives { RunsInOrder self.old → TakesEvent S.output S.told event result self.old self.new out.old out.new }
+        ensures alone { RunsInOrder self.old → AsksForNone result }
+        ensures params { params_of self.new ≡ params_of self.old }
     {
         self.run.source.count(&event);
         match self.run.arrive(&self.program, event) {
@@ -116,6 +127,7 @@ impl Machine {
         ensures mains { GoesOn result → mains_of self.new ≡ false ∷ mains_of self.old }
         ensures fuel { Burns result (fuel_of self.old) (fuel_of self.new) }
         ensures fuel_limit { fuel_limit_of self.new ≡ fuel_limit_of self.old }
+        ensures params { params_of self.new ≡ params_of self.old }
     {
         match self.run.begin_document(&self.program) {
             Ok(()) => self.run.go_on_behind(&self.program, Step::More, out),
@@ -145,6 +157,7 @@ impl Machine {
         ensures fuel_limit { fuel_limit_of self.new ≡ fuel_limit_of self.old }
         ensures of { (sheet : Sheets) (limits : Limit) → IsOf sheet limits self.old → IsOf sheet limits self.new }
         ensures order { (HasOrdinarySheet self.old → HasOrdinarySheet self.new) × (RunsInOrder self.old → RunsInOrder self.new) }
+        ensures params { params_of self.new ≡ params_of self.old }
         ensures rest { (given : Given) (left : Left) (f : Future) → rest given self.old left f ≡ rest given self.new left f }
     {
         mem::swap(&mut self.run.putting.spare, spare);

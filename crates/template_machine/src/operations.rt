@@ -3,9 +3,10 @@
 ghost use Rattle.std.specs.Prelude.{◌≡◌, ◌+◌, IfOk, Some, slice_get, ◌^◌, OnOk};
 ghost use Rattle.frame_stack.specs.Change.{with_pc};
 ghost use Rattle.sheet_model.specs.declared.instr.Instr.TheViews.{out-Instr};
-ghost use Rattle.template_machine.specs.Called.{DeclaresNames};
 ghost use Rattle.template_machine.specs.Moments.{Follows, IsAtOp};
-ghost use Rattle.template_machine.specs.Saying.{Acts, GivesText, GivesValue, IsShown, Passes, ShownNext, Steps};
+ghost use Rattle.template_machine.specs.Onward.{StepsOn};
+ghost use Rattle.template_machine.specs.Ordinary.{IsAlone, IsOrdinary};
+ghost use Rattle.template_machine.specs.Saying.{Acts, GivesText, GivesValue, Passes};
 ghost use Rattle.template_machine.specs.Shifting.{Sets};
 ghost use Rattle.template_machine.specs.Well.{IsWell};
 ghost use Rattle.template_machine.specs.Work.{Begins, Falls};
@@ -25,7 +26,7 @@ impl Run {
         requires body { self.old.doing ≡ Doing.Body }
         ensures stands { IfOk result (λ step. Follows program.now step self.new) }
         ensures works { IfOk result (λ step. Falls program.now self.old step self.new) }
-        ensures goes { ShownNext program.now self.old → Steps S.output S.told program.now result self.old self.new out.old out.new }
+        ensures steps { IsAlone program.now self.old → IsOrdinary program.now.code → StepsOn S.output S.told program.now result self.old self.new out.old out.new }
     {
         let running = self.running();
         match program.op(running.pc) {
@@ -64,7 +65,7 @@ impl Run {
         requires { IsAtOp program.now self.old running (Op.Do number) }
         ensures stands { IfOk result (λ step. Follows program.now step self.new) }
         ensures works { IfOk result (λ step. Falls program.now self.old step self.new) }
-        ensures goes { DeclaresNames program.now → IsShown program.now (Op.Do number) → Steps S.output S.told program.now result self.old self.new out.old out.new }
+        ensures steps { IsAlone program.now self.old → IsOrdinary program.now.code → StepsOn S.output S.told program.now result self.old self.new out.old out.new }
     {
         let instr = program.instr(number);
         let at = place_of(instr);
@@ -103,8 +104,9 @@ impl Run {
         ensures works { OnOk result (Begins (2 ^ 68) self.old self.new) }
         ensures acts { GivesText (out-Instr instr.now) → Acts S.output S.told program.now (out-Instr instr.now) result self.old self.new out.old out.new }
         ensures passes { GivesText (out-Instr instr.now) → Passes running.pc result self.old self.new }
-        ensures sets { DeclaresNames program.now → GivesValue (out-Instr instr.now) → Sets program.now (out-Instr instr.now) (with_pc (running.pc + 1)) result self.old self.new }
+        ensures sets { GivesValue (out-Instr instr.now) → Sets program.now (out-Instr instr.now) (with_pc (running.pc + 1)) result self.old self.new }
         ensures same { GivesValue (out-Instr instr.now) → out.new ≡ out.old }
+        ensures more { IfOk result (λ step. step ≡ Step.More) }
     {
         let spot = Spot {
             body: running.body,

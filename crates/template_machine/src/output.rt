@@ -1,5 +1,9 @@
 //! The output of a run as bytes.
 
+ghost use Rattle.std.specs.Prelude.{◌≡◌, []};
+ghost use Rattle.result_writer.specs.Target.{fresh};
+ghost use Rattle.template_machine.specs.Written.{bytes_of, notes_of, target_of};
+
 use crate::sink::Sink;
 use result_writer::{ResultFault, WriteStop, Writer};
 use std::alloc::Global;
@@ -16,7 +20,11 @@ pub struct Output {
 
 impl Output {
     /// None yet, of a run in whose output at most `limit` elements may be open at once. Allocates nothing.
-    pub fn new(alloc: Global, limit: u32) -> Output {
+    pub fn new(alloc: Global, limit: u32) -> Output
+        ensures target { target_of result ≡ fresh limit }
+        ensures bytes { bytes_of result ≡ [] }
+        ensures notes { notes_of result ≡ [] }
+    {
         Output {
             writer: Writer::new(alloc, limit),
             bytes: Vec::new(alloc),
@@ -25,7 +33,14 @@ impl Output {
     }
 
     /// Exchanges what was taken so far for other bytes and messages. Allocates nothing.
-    pub fn exchange(&mut self, bytes: &mut Vec<u8>, notes: &mut Vec<u8>) {
+    pub fn exchange(&mut self, bytes: &mut Vec<u8>, notes: &mut Vec<u8>)
+        ensures bytes { bytes.new.items ≡ bytes_of self.old }
+        ensures notes { notes.new.items ≡ notes_of self.old }
+        ensures own_bytes { bytes_of self.new ≡ bytes.old.items }
+        ensures own_notes { notes_of self.new ≡ notes.old.items }
+        // What the parts leave stays.
+        ensures target { target_of self.new ≡ target_of self.old }
+    {
         mem::swap(&mut self.bytes, bytes);
         mem::swap(&mut self.notes, notes);
     }
@@ -55,6 +70,11 @@ impl Sink for Output {
     }
 
     #[inline(always)]
+    fn is_last_scope(&self, scope: &List<Binding>) -> bool {
+        self.writer.is_last_scope(scope)
+    }
+
+    #[inline(always)]
     fn start_again(&mut self, name: Name, spare: &mut Spare) -> Result<(), WriteStop> {
         self.writer.put_start_again(name, spare, &mut self.bytes)
     }
@@ -65,15 +85,7 @@ impl Sink for Output {
 
     #[inline(always)]
     fn attributes(&mut self, attrs: List<Attr>) -> Result<(), WriteStop> {
-        if self.writer.takes_at_once(attrs.as_slice()) {
-            self.writer.put_attributes(attrs)?;
-            return Ok(());
-        }
-        for attr in attrs.into_vec() {
-            let Attr { name, value } = attr;
-            self.writer.put_attribute(name, value)?;
-        }
-        Ok(())
+        self.writer.put_attributes_in_turn(attrs)
     }
 
     #[inline(always)]

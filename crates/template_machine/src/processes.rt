@@ -4,10 +4,14 @@ ghost use Rattle.std.specs.Prelude.{◌≡◌, ◌<◌, ◌∷◌, Some, false, 
 ghost use Rattle.node_stack.specs.Path.{can_end, current};
 ghost use Rattle.node_stack.specs.Stack.{path};
 ghost use Rattle.sheet_model.specs.declared.instr.Instr.{Instr as Instruction};
+ghost use Rattle.sheet_model.specs.declared.instr.Instr.TheViews.{out-Instr};
+ghost use Rattle.template_machine.specs.Behind.{MovesFrom, StepsFrom, instr_acts};
 ghost use Rattle.template_machine.specs.Contexts.{HasForm, Single};
 ghost use Rattle.template_machine.specs.Documents.{documents};
 ghost use Rattle.template_machine.specs.Evaluating.{TemplateCanBeEvaluated};
 ghost use Rattle.template_machine.specs.Moments.{Follows, IsAtOp};
+ghost use Rattle.template_machine.specs.Ordinary.{IsAlone, IsOrdinary};
+ghost use Rattle.template_machine.specs.Reached.{AsksForAttributes, AsksForChildren, AsksForItself};
 ghost use Rattle.template_machine.specs.Shifting.{Hands};
 ghost use Rattle.template_machine.specs.Well.{IsWaiting, IsWell};
 ghost use Rattle.template_machine.specs.Work.{Begins};
@@ -75,6 +79,7 @@ impl Run {
         requires form { HasForm program.now.code number Single }
         ensures stands { IfOk result (λ step. Follows program.now step self.new) }
         ensures works { OnOk result (Begins (2 ^ 68) self.old self.new) }
+        ensures moves { (instr : Instruction) → slice_get program.now.code.instrs number ≡ Some instr → AsksForChildren at (out-Instr instr) → IsAlone program.now self.old → MovesFrom program.now (λ given left f. instr_acts given program.now instr running.pc self.old left f) result self.new }
     {
         self.hand(program, running, number, at)?;
         if !self.source.has_list() {
@@ -101,6 +106,7 @@ impl Run {
         requires form { HasForm program.now.code number Single }
         ensures stands { IfOk result (λ step. Follows program.now step self.new) }
         ensures works { OnOk result (Begins (2 ^ 68) self.old self.new) }
+        ensures moves { (instr : Instruction) → slice_get program.now.code.instrs number ≡ Some instr → AsksForAttributes at (out-Instr instr) → IsAlone program.now self.old → MovesFrom program.now (λ given left f. instr_acts given program.now instr running.pc self.old left f) result self.new }
     {
         self.hand(program, running, number, at)?;
         if !self.source.is_element() {
@@ -111,7 +117,7 @@ impl Run {
             next: 0,
             asked: running.pc,
         };
-        self.push(frame, at)?;
+        self.push(program, frame, at)?;
         self.doing = Doing::List;
         Ok(Step::More)
     }
@@ -129,6 +135,7 @@ impl Run {
         requires form { HasForm program.now.code number Single }
         ensures stands { IfOk result (λ step. Follows program.now step self.new) }
         ensures works { OnOk result (Begins (2 ^ 68) self.old self.new) }
+        ensures steps { (instr : Instruction) → slice_get program.now.code.instrs number ≡ Some instr → AsksForItself at (out-Instr instr) → IsAlone program.now self.old → StepsFrom S.output S.told program.now (λ given left f. instr_acts given program.now instr running.pc self.old left f) result self.new out.old out.new }
     {
         self.hand(program, running, number, at)?;
         let spot = Spot {
@@ -162,6 +169,7 @@ impl Run {
         }
         let level = level_at(&self.frames, running.body);
         self.push(
+            program,
             Frame::Region {
                 asked: running.pc,
                 level,
@@ -199,6 +207,7 @@ impl Run {
         let level = level_at(&self.frames, running.body);
         spend_children(&mut self.frames, level);
         self.push(
+            program,
             Frame::Region {
                 asked: running.pc,
                 level,
@@ -206,7 +215,7 @@ impl Run {
             at,
         )?;
         self.aside.push(None)?;
-        self.push(Frame::Skip { depth: 0 }, at)?;
+        self.push(program, Frame::Skip { depth: 0 }, at)?;
         self.doing = Doing::List;
         Ok(Step::More)
     }
@@ -234,7 +243,7 @@ impl Run {
             next: 0,
             asked: running.pc,
         };
-        self.push(frame, at)?;
+        self.push(program, frame, at)?;
         self.enter_source(program.buffer_depth, Origin::Buffer { id, at })?;
         self.doing = Doing::List;
         Ok(Step::More)
@@ -261,6 +270,7 @@ impl Run {
         requires op { IsAtOp program.now self.old running (Op.Do number) }
         requires form { HasForm program.now.code number Single }
         requires href { TemplateCanBeEvaluated href.now }
+        requires sheet { IsOrdinary program.now.code → ⊥ }
         ensures stands { IfOk result (λ step. Follows program.now step self.new) }
         ensures works { OnOk result (Begins (2 ^ 68) self.old self.new) }
     {
@@ -285,7 +295,7 @@ impl Run {
             next: 0,
             asked,
         };
-        self.push(frame, at)?;
+        self.push(program, frame, at)?;
         self.enter_source(program.limits.depth, Origin::Document { at })?;
         self.doing = Doing::List;
         Ok(())

@@ -13,6 +13,7 @@ ghost use Rattle.template_machine.specs.Programs.{AreLinked, IsLaidOut, IsLinked
 ghost use Rattle.template_machine.specs.Seen.{ParentsStandBefore};
 
 use crate::finding::{buffer_seen, group_named, procedure_seen};
+use crate::turn::Param;
 use group_scope::Scope;
 use instr_code::{Code, Compiled, Op, compile};
 use sheet_model::{Group, Instr, Sheet, WithParam};
@@ -42,12 +43,20 @@ pub struct Program {
     /// How many elements of a buffer may be open at once.
     pub buffer_depth: u32,
     pub test_of_root: NodeTest,
+    /// What the command gives for the parameters of the root group.
+    pub params: List<Param>,
 }
 
 impl Program {
-    pub fn new(alloc: Global, sheet: Sheet, limits: Limits) -> Result<Program, Memory>
+    pub fn new(
+        alloc: Global,
+        sheet: Sheet,
+        limits: Limits,
+        params: List<Param>,
+    ) -> Result<Program, Memory>
         requires { IsSound sheet }
-        ensures { IfOk result (IsProgramOf sheet limits) }
+        ensures program { IfOk result (IsProgramOf sheet limits) }
+        ensures params { IfOk result (λ p. p.params ≡ params) }
     {
         let compiled = compile(alloc, sheet)?;
         let scope = Scope::build(alloc, &compiled.sheet)?;
@@ -62,6 +71,7 @@ impl Program {
             limits,
             buffer_depth,
             test_of_root: NodeTest::Document,
+            params,
         })
     }
 

@@ -1,8 +1,9 @@
 //! Instructions that put parts, and those around lists.
 
-ghost use Rattle.std.specs.Prelude.{◌≡◌, ◌∷◌, ◌+◌, [], true, All, IfOk, IsTrue, OnOk, None, Some, List as Items, reverse, slice_get};
+ghost use Rattle.std.specs.Prelude.{◌≡◌, ◌∷◌, ◌+◌, [], true, All, IfOk, IsTrue, OnOk, None, Some, List as Items, if◌then◌else◌, reverse, slice_get};
 ghost use Rattle.std.specs.Option.{ForSome};
 ghost use Rattle.frame_stack.specs.Change.{with_pc};
+ghost use Rattle.instr_code.specs.Steps.{Holds};
 ghost use Rattle.sheet_model.specs.Parts.{place};
 ghost use Rattle.sheet_model.specs.declared.instr.Instr.{Instr as Instruction};
 ghost use Rattle.sheet_model.specs.declared.instr.Instr.TheViews.{out-Instr};
@@ -10,13 +11,15 @@ ghost use Rattle.stxpath_syntax.specs.Shape.{CanBeEvaluated};
 ghost use Rattle.stxpath_syntax.specs.declared.expr.Expr.TheVariants as expr;
 ghost use Rattle.stx_base.specs.declared.name.Binding.{Binding};
 ghost use Rattle.stx_base.specs.declared.part.Part.TheVariants as parts;
-ghost use Rattle.template_machine.specs.Acting.{without_space};
+ghost use Rattle.stxpath_values.specs.Outcome.{each};
+ghost use Rattle.template_machine.specs.Acting.{attribute_of, without_space};
 ghost use Rattle.template_machine.specs.Bodies.{body_in, on_body};
 ghost use Rattle.template_machine.specs.Contexts.{Around, AroundBuffer, AroundTag, HasForm};
 ghost use Rattle.template_machine.specs.Evaluating.{ContentCanBeEvaluated, TemplateCanBeEvaluated};
-ghost use Rattle.template_machine.specs.Opening.{EndsCopy, IsElementAt, PutsAside};
+ghost use Rattle.template_machine.specs.Opening.{BeginsCopy, EndsCopy, IsElementAt, Opens, PutsAside, literal_at};
 ghost use Rattle.template_machine.specs.Puts.{OnlyPuts};
-ghost use Rattle.template_machine.specs.Saying.{Acts, Gave, IsShown, NamesAs, Puts, Steps, attribute_at, comment_at, end_at, message_at, pi_at, sight, start_at, value_at};
+ghost use Rattle.template_machine.specs.Ordinary.{StaysThere};
+ghost use Rattle.template_machine.specs.Saying.{Acts, ClosesShown, Gave, NamesAs, OpensShown, Puts, Steps, attribute_at, comment_at, end_at, message_at, pi_at, sight, start_at, value_at};
 ghost use Rattle.template_machine.specs.Steps.{Sees};
 ghost use Rattle.template_machine.specs.Stepwise.{tag_of};
 ghost use Rattle.template_machine.specs.Moments.{IsAtOp, CanPut};
@@ -350,7 +353,8 @@ impl Run {
         requires { IsAtOp program.now self.old running (Op.Open number to) }
         ensures stands { OnOk result (IsWell program.now self.new) }
         ensures works { OnOk result (Lessens program.now self.old self.new) }
-        ensures goes { IsShown program.now (Op.Open number to) → Steps S.output S.told program.now result self.old self.new out.old out.new }
+        ensures goes { ((i : Instruction) → slice_get program.now.code.instrs number ≡ Some i → OpensShown (out-Instr i)) → Steps S.output S.told program.now result self.old self.new out.old out.new }
+        ensures keeps { ((i : Instruction) → slice_get program.now.code.instrs number ≡ Some i → OpensShown (out-Instr i)) → OnOk result (StaysThere self.old self.new) }
     {
         let instr = program.instr(number);
         let spot = Spot {
@@ -398,7 +402,8 @@ impl Run {
         requires { IsAtOp program.now self.old running (Op.Close number) }
         ensures stands { OnOk result (IsWell program.now self.new) }
         ensures works { OnOk result (Lessens program.now self.old self.new) }
-        ensures goes { IsShown program.now (Op.Close number) → Steps S.output S.told program.now result self.old self.new out.old out.new }
+        ensures goes { ((i : Instruction) → slice_get program.now.code.instrs number ≡ Some i → ClosesShown (out-Instr i)) → Steps S.output S.told program.now result self.old self.new out.old out.new }
+        ensures keeps { ((i : Instruction) → slice_get program.now.code.instrs number ≡ Some i → ClosesShown (out-Instr i)) → OnOk result (StaysThere self.old self.new) }
     {
         match program.instr(number) {
             Instr::Literal { name, at, .. } => {
@@ -429,19 +434,37 @@ impl Run {
         requires target { CanPut self.old.putting }
         requires sees { Sees program.now self.old spot.body }
         requires attrs { All (λ attr. TemplateCanBeEvaluated attr.value) attrs.now }
-        ensures { OnlyPuts self.old self.new }
+        ensures only { OnlyPuts self.old self.new }
+        ensures opens { (body : Items Instruction) → body_in (reverse self.old.frames.frames) ≡ Some spot.body → Opens S.output S.told program.now (literal_at name.now attrs.now body spot.at) (λ w. Holds [] w) result self.old self.new out.old out.new }
     {
         if attrs.is_empty() {
             return self.putting.start(name, spot.at, out);
         }
+        let made = self.literal_attrs(program, attrs, spot)?;
+        self.putting.start(name, spot.at, out)?;
+        self.putting.attributes(made, spot.at, out)
+    }
+
+    /// The attributes of a literal element.
+    fn literal_attrs(
+        &mut self,
+        program: &Program,
+        attrs: &[LiteralAttr],
+        spot: Spot,
+    ) -> Result<List<Attr>, Stop>
+        requires sees { Sees program.now self.old spot.body }
+        requires attrs { All (λ attr. TemplateCanBeEvaluated attr.value) attrs.now }
+        ensures only { OnlyPuts self.old self.new }
+        ensures rest { self.new ≡ record self.old { putting = record self.old.putting { spare = self.new.putting.spare } } }
+        ensures gave { body_in (reverse self.old.frames.frames) ≡ Some spot.body → Gave spot.at result (each (attribute_of (sight program.now self.old)) attrs.now) }
+    {
         let mut made = self.putting.spare.attrs();
         for attr in attrs {
             let value = self.template(program, &attr.value, spot)?;
             let name = self.putting.copied_name(&attr.name)?;
             made.push(Attr { name, value })?;
         }
-        self.putting.start(name, spot.at, out)?;
-        self.putting.attributes(made, spot.at, out)
+        Ok(made)
     }
 
     /// The start of an element whose name was computed.
@@ -462,7 +485,8 @@ impl Run {
     ) -> Result<bool, Stop>
         requires can { CanPut self.old.putting }
         requires source { IsSourceWell self.old.source }
-        ensures { OnlyPuts self.old self.new }
+        ensures only { OnlyPuts self.old self.new }
+        ensures begins { BeginsCopy S.output S.told attributes.now at result self.old self.new out.old out.new }
     {
         let node = self.source.stack.current();
         self.putting
@@ -495,6 +519,8 @@ impl Run {
         requires form { HasForm program.now.code number Around }
         ensures stands { IsWell program.now self.new }
         ensures works { Begins 0 self.old self.new }
+        ensures behind { reverse self.new.frames.frames ≡ on_body (with_pc (if inside then running.pc + 1 else to)) (reverse self.old.frames.frames) }
+        ensures rest { self.new ≡ record self.old { frames = self.new.frames } }
     {
         if inside {
             self.enter_list(program, running, number, to);
@@ -587,6 +613,7 @@ impl Run {
         ensures stands { OnOk result (IsWell program.now self.new) }
         ensures works { OnOk result (Lessens program.now self.old self.new) }
         ensures goes { (i : Instruction) → slice_get program.now.code.instrs number ≡ Some i → IsElementAt (out-Instr i) at → Steps S.output S.told program.now result self.old self.new out.old out.new }
+        ensures keeps { OnOk result (StaysThere self.old self.new) }
     {
         let locals = locals_at(&self.frames, running.body);
         let last = locals.len() - 1;

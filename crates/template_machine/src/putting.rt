@@ -1,21 +1,29 @@
 //! Where parts go: into the innermost buffer that is written, or else into the output.
 
 ghost use Rattle.std.specs.Prelude.{◌≡◌, ◌<◌, ℕ, [], ◌∷◌, true, false, IfErr, IfOk, IsSome, OnOk, Some, length, map};
+ghost use Rattle.std.specs.List.{list_any};
 ghost use Rattle.stx_base.specs.Character.{is_cdata_text};
+ghost use Rattle.match_patterns.specs.Fits.{test_of};
 ghost use Rattle.node_stack.specs.Open.{node_of};
+ghost use Rattle.node_stack.specs.Test as kind;
+ghost use Rattle.node_stack.specs.Test.{passes as passes_test};
 ghost use Rattle.sheet_model.specs.Sound.{BuffersAreWhole, IsSmall};
 ghost use Rattle.stx_base.specs.declared.part.Part.TheVariants as parts;
 ghost use Rattle.result_writer.specs.Target.{Left, holds_cdata_text, is_closed};
 ghost use Rattle.stx_base.specs.declared.fault.RunCode.TheVariants.{UnclosedResult};
 ghost use Rattle.event_buffers.specs.Buffers.{copies_of};
 ghost use Rattle.event_buffers.specs.Declaring.{declared_by};
-ghost use Rattle.template_machine.specs.Job.{Does, State};
-ghost use Rattle.template_machine.specs.Putting.{put_in, text_parts};
+ghost use Rattle.template_machine.specs.Finding.{passing};
+ghost use Rattle.template_machine.specs.Job.{Does, Given, State};
+ghost use Rattle.template_machine.specs.Acting.{has_list};
+ghost use Rattle.template_machine.specs.Putting.{attribute_part, put_in, puts, text_parts};
 ghost use Rattle.template_machine.specs.Puts as spec;
 ghost use Rattle.template_machine.specs.Puts.{BeginsWriting, EndsWriting};
 ghost use Rattle.template_machine.specs.Saying.{GoesAs, Puts, placed};
 ghost use Rattle.template_machine.specs.Sections.{HoldsSection};
 ghost use Rattle.template_machine.specs.Stepwise.{tagged};
+ghost use Rattle.template_machine.specs.Scopes.{in_force};
+ghost use Rattle.template_machine.specs.Starts.{copy_start, passed_start};
 ghost use Rattle.template_machine.specs.Stops.{fault};
 ghost use Rattle.template_machine.specs.Moments.{StandsAsBefore, CanPut};
 ghost use Rattle.template_machine.specs.Well.{AreTexts};
@@ -42,7 +50,7 @@ pub struct Putting {
     targets: List<u32>,
     /// Texts that are done with.
     pub spare: Spare,
-    /// Whether the output's last start was in the scope of the current node. So it needn't be compared.
+    /// Whether the output's last start may have been in the scope of the current node. So that is worth asking.
     is_told: bool,
 }
 
@@ -171,14 +179,15 @@ impl Putting {
         out: &mut S,
     ) -> Result<(), Stop>
         requires { CanPut self.old }
-        ensures { StandsAsBefore self.old self.new }
+        ensures stands { StandsAsBefore self.old self.new }
+        ensures puts { Puts S.output S.told at (parts.Start name.now (in_force bindings.now) ∷ []) result self.old self.new out.old out.new }
     {
         let name = self.copied_name(name)?;
         if let Some(buffer) = self.target() {
             let scope = bindings.in_force().copy(self.alloc)?;
             return self.keep(buffer, Part::Start { name, scope }, at);
         }
-        if self.is_told {
+        if self.is_told && out.is_last_scope(bindings.in_force()) {
             return written(out.start_again(name, &mut self.spare), at);
         }
         written(out.start(name, bindings.in_force(), &mut self.spare), at)?;
@@ -212,7 +221,8 @@ impl Putting {
         out: &mut S,
     ) -> Result<(), Stop>
         requires { CanPut self.old }
-        ensures { StandsAsBefore self.old self.new }
+        ensures stands { StandsAsBefore self.old self.new }
+        ensures puts { Puts S.output S.told at (map attribute_part attrs) result self.old self.new out.old out.new }
     {
         match self.target() {
             Some(buffer) => self.keep_attributes(buffer, attrs, at),
@@ -224,7 +234,8 @@ impl Putting {
     fn keep_attributes(&mut self, buffer: u32, attrs: List<Attr>, at: Place) -> Result<(), Stop>
         requires can { CanPut self.old }
         requires target { spec.target_of self.old ≡ Some buffer }
-        ensures { StandsAsBefore self.old self.new }
+        ensures stands { StandsAsBefore self.old self.new }
+        ensures keeps { (given : Given) (left : Left) (st : State) (go : State → Does) → GoesAs result (puts given at (map attribute_part attrs) (placed self.old left st) go) [] (go (placed self.new left st)) }
     {
         for attr in attrs.into_vec() {
             let Attr { name, value } = attr;
@@ -245,7 +256,8 @@ impl Putting {
         out: &mut S,
     ) -> Result<(), Stop>
         requires { CanPut self.old }
-        ensures { StandsAsBefore self.old self.new }
+        ensures stands { StandsAsBefore self.old self.new }
+        ensures puts { Puts S.output S.told at (passed_start kinds (in_force bindings.now) name.now attrs.now) result self.old self.new out.old out.new }
     {
         if !kinds.elements {
             return Ok(());
@@ -257,7 +269,7 @@ impl Putting {
         self.attributes_of(attrs, at, out)
     }
 
-    /// Copies of an element's attributes, or of those of them that pass.
+    /// Copies of an element's attributes.
     #[inline(always)]
     pub fn attributes_of<S: Sink>(
         &mut self,
@@ -266,24 +278,36 @@ impl Putting {
         out: &mut S,
     ) -> Result<(), Stop>
         requires { CanPut self.old }
-        ensures { StandsAsBefore self.old self.new }
+        ensures stands { StandsAsBefore self.old self.new }
+        ensures puts { Puts S.output S.told at (map attribute_part attrs.now) result self.old self.new out.old out.new }
     {
         if attrs.is_empty() {
             return Ok(());
         }
+        let copies = self.copied_attrs(attrs)?;
+        self.attributes(copies, at, out)
+    }
+
+    #[inline(always)]
+    fn copied_attrs(&mut self, attrs: &List<Attr>) -> Result<List<Attr>, Memory>
+        ensures same { StandsAsBefore self.old self.new }
+        ensures rest { self.new ≡ record self.old { spare = self.new.spare } }
+        ensures copies { IfOk result (λ made. made ≡ attrs.now) }
+    {
         let mut copies = self.spare.attrs();
         for attr in attrs.as_slice() {
             let copy = self.copied_attr(attr)?;
             copies.push(copy)?;
         }
-        self.attributes(copies, at, out)
+        Ok(copies)
     }
 
     /// A copy of an attribute.
     #[inline(always)]
     pub fn attribute_of<S: Sink>(&mut self, attr: &Attr, at: Place, out: &mut S) -> Result<(), Stop>
         requires { CanPut self.old }
-        ensures { StandsAsBefore self.old self.new }
+        ensures stands { StandsAsBefore self.old self.new }
+        ensures puts { Puts S.output S.told at (attribute_part attr.now ∷ []) result self.old self.new out.old out.new }
     {
         let copy = self.copied_attr(attr)?;
         self.attribute(copy.name, copy.value, at, out)
@@ -393,7 +417,9 @@ impl Putting {
     ) -> Result<bool, Stop>
         requires can { CanPut self.old }
         requires text { HoldsSection (node_of node) }
-        ensures { StandsAsBefore self.old self.new }
+        ensures stands { StandsAsBefore self.old self.new }
+        ensures puts { Puts S.output S.told at (copy_start (in_force bindings.now) attributes.now (node_of node.entry)) result self.old self.new out.old out.new }
+        ensures inside { IfOk result (λ inside. inside ≡ has_list (node_of node.entry)) }
     {
         match node {
             NodeView::Document => Ok(true),
@@ -419,8 +445,7 @@ impl Putting {
                 Ok(false)
             }
             NodeView::Attribute(attr) => {
-                let Attr { name, value } = self.copied_attr(attr)?;
-                self.attribute(name, value, at, out)?;
+                self.attribute_of(attr, at, out)?;
                 Ok(false)
             }
         }
@@ -435,11 +460,25 @@ impl Putting {
         out: &mut S,
     ) -> Result<(), Stop>
         requires { CanPut self.old }
-        ensures { StandsAsBefore self.old self.new }
+        ensures stands { StandsAsBefore self.old self.new }
+        ensures puts { Puts S.output S.told at (map attribute_part (passing pattern.now attrs.now)) result self.old self.new out.old out.new }
     {
         let Some(pattern) = pattern else {
             return Ok(());
         };
+        let copies = self.copied_passing(attrs, pattern)?;
+        self.attributes(copies, at, out)
+    }
+
+    fn copied_passing(
+        &mut self,
+        attrs: &List<Attr>,
+        pattern: &Pattern,
+    ) -> Result<List<Attr>, Memory>
+        ensures same { StandsAsBefore self.old self.new }
+        ensures rest { self.new ≡ record self.old { spare = self.new.spare } }
+        ensures copies { IfOk result (λ made. made ≡ passing (Some pattern.now) attrs.now) }
+    {
         let mut copies = self.spare.attrs();
         for attr in attrs.as_slice() {
             if !passes_some(pattern, attr) {
@@ -448,7 +487,7 @@ impl Putting {
             let copy = self.copied_attr(attr)?;
             copies.push(copy)?;
         }
-        self.attributes(copies, at, out)
+        Ok(copies)
     }
 
     /// A copy of the name that waits for the end of its element.
@@ -483,14 +522,18 @@ impl Putting {
 }
 
 /// Whether the test of some alternative passes an attribute.
-fn passes_some(pattern: &Pattern, attr: &Attr) -> bool {
+fn passes_some(pattern: &Pattern, attr: &Attr) -> bool
+    ensures { result ≡ list_any (λ x. passes_test (test_of x) (kind.Attribute attr.now.name)) pattern.now.alternatives }
+{
     let alternatives = pattern.alternatives.as_slice();
     alternatives
         .iter()
         .any(|alternative| passes_attr(alternative, attr))
 }
 
-fn passes_attr(alternative: &Alternative, attr: &Attr) -> bool {
+fn passes_attr(alternative: &Alternative, attr: &Attr) -> bool
+    ensures { result ≡ passes_test (test_of alternative.now) (kind.Attribute attr.now.name) }
+{
     match alternative {
         Alternative::Root => false,
         Alternative::Steps(steps) => match steps.last() {

@@ -10,16 +10,17 @@ ghost use Rattle.stx_base.specs.declared.fault.RunCode.TheVariants.{Instances};
 ghost use Rattle.stx_base.specs.declared.node.NodeTest.TheVariants.{Document};
 ghost use Rattle.node_stack.specs.Path.{document_alone};
 ghost use Rattle.node_stack.specs.Stack.{path};
-ghost use Rattle.template_machine.specs.Asking.{HasAsker, HasBase, IsAsker, IsBodyAsking, WaitsFor};
+ghost use Rattle.template_machine.specs.Asking.{HasAsker, HasBase, IsAsker, IsBodyAsking, WaitsFor, base_by, place_by};
 ghost use Rattle.template_machine.specs.Between.{Burns, GoesOn};
 ghost use Rattle.template_machine.specs.Behind.{MovesFrom, instr_done};
 ghost use Rattle.template_machine.specs.Bodies as bodies;
 ghost use Rattle.template_machine.specs.Closing.{ClosesStream, IsOpenStream};
 ghost use Rattle.template_machine.specs.Documents.{documents};
 ghost use Rattle.template_machine.specs.Evaluating.{seen};
-ghost use Rattle.template_machine.specs.Saying.{ShownNext, Steps, sight};
-ghost use Rattle.template_machine.specs.Onward.{EndsWith};
-ghost use Rattle.template_machine.specs.Ordinary.{IsAlone};
+ghost use Rattle.template_machine.specs.Giving.{AsksForNone};
+ghost use Rattle.template_machine.specs.Saying.{sight};
+ghost use Rattle.template_machine.specs.Onward.{EndsWith, GoesOnTo, StepsOn};
+ghost use Rattle.template_machine.specs.Ordinary.{IsAlone, IsOrdinary};
 ghost use Rattle.template_machine.specs.Seen.{ParentsStandBefore};
 ghost use Rattle.template_machine.specs.Shifting.{TakesBack};
 ghost use Rattle.template_machine.specs.Sources.{Stands};
@@ -40,7 +41,7 @@ use crate::putting::Putting;
 use crate::sink::Sink;
 use crate::source::{Origin, Source};
 use crate::stop::{Stop, pushed};
-use crate::turn::{Param, Turn};
+use crate::turn::Turn;
 use crate::values::Setting;
 use crate::vars::{InBody, InGroups};
 use frame_stack::{Frame, Frames};
@@ -114,21 +115,19 @@ pub struct Run {
     pub doing: Doing,
     /// What is left of it for the event.
     pub fuel: u64,
-    pub params: List<Param>,
     /// The name of the document that is wanted.
     pub wanted: Text,
 }
 
 impl Run {
     /// At the document node of the main document.
-    pub fn new(alloc: Global, program: &Program, params: List<Param>) -> Result<Run, Memory>
+    pub fn new(alloc: Global, program: &Program) -> Result<Run, Memory>
         requires { IsReady program.now }
-        ensures fresh { IfOk result (IsFresh program.now) }
-        ensures params { IfOk result (λ r. r.params ≡ params) }
+        ensures { IfOk result (IsFresh program.now) }
     {
         let limits = &program.limits;
         let sheet = &program.sheet;
-        let frames = Frames::new(alloc, limits.instances);
+        let frames = Frames::new(alloc);
         let store = Store::new(alloc, sheet.groups.len() as u32)?;
         let putting = Putting::new(alloc, sheet, limits)?;
         let source = Source::new(alloc, limits.depth, Origin::Main)?;
@@ -142,7 +141,6 @@ impl Run {
             aside: Vec::new(alloc),
             doing: Doing::List,
             fuel: limits.fuel,
-            params,
             wanted: Text::new(alloc),
         })
     }
@@ -156,6 +154,8 @@ impl Run {
         ensures ended { result ≡ Turn.Ended → documents self.new ≡ [] }
         ensures fuel { Burns result self.old.fuel self.new.fuel }
         ensures documents { GoesOn result → documents self.new ≡ documents self.old }
+        ensures goes { IsAlone program.now self.old → IsOrdinary program.now.code → GoesOnTo S.output S.told program.now result self.old self.new out.old out.new }
+        ensures alone { IsOrdinary program.now.code → AsksForNone result }
     {
         loop {
             match self.step(program, out) {
@@ -179,6 +179,8 @@ impl Run {
         ensures ended { result ≡ Turn.Ended → documents self.new ≡ [] }
         ensures fuel { Burns result self.old.fuel self.new.fuel }
         ensures documents { GoesOn result → documents self.new ≡ documents self.old }
+        ensures goes { IsAlone program.now self.old → IsOrdinary program.now.code → (step ≡ Step.Over → reverse self.old.frames.frames ≡ []) → GoesOnTo S.output S.told program.now result self.old self.new out.old out.new }
+        ensures alone { IsOrdinary program.now.code → AsksForNone result }
     {
         match step {
             Step::More => self.go_on(program, out),
@@ -193,7 +195,7 @@ impl Run {
         requires { IsWell program.now self.old }
         ensures stands { IfOk result (λ step. Follows program.now step self.new) }
         ensures works { IfOk result (λ step. Falls program.now self.old step self.new) }
-        ensures goes { ShownNext program.now self.old → Steps S.output S.told program.now result self.old self.new out.old out.new }
+        ensures steps { IsAlone program.now self.old → IsOrdinary program.now.code → StepsOn S.output S.told program.now result self.old self.new out.old out.new }
     {
         match self.doing {
             Doing::Body => self.operate(program, out),
@@ -305,13 +307,13 @@ impl Run {
     }
 
     #[inline(always)]
-    pub fn push(&mut self, frame: Frame, at: Place) -> Result<(), Stop>
+    pub fn push(&mut self, program: &Program, frame: Frame, at: Place) -> Result<(), Stop>
         ensures ok { OnOk result (self.new ≡ record self.old { frames = with_frames (self.old.frames.frames ++ frame ∷ []) self.old.frames }) }
         ensures err { OnErr result (self.new ≡ self.old) }
-        ensures room { OnOk result ((level : ℕ) → instance_of frame ≡ Some level → instances level self.old.frames.frames < self.old.frames.limit) }
-        ensures full { IfErr result (λ stop. (stop ≡ Stop.Memory) ⊎ ((stop ≡ fault Instances at) × IsFull self.old.frames.limit frame self.old.frames.frames)) }
+        ensures room { OnOk result ((level : ℕ) → instance_of frame ≡ Some level → instances level self.old.frames.frames < program.now.limits.instances) }
+        ensures full { IfErr result (λ stop. (stop ≡ Stop.Memory) ⊎ ((stop ≡ fault Instances at) × IsFull program.now.limits.instances frame self.old.frames.frames)) }
     {
-        pushed(self.frames.push(frame), at)
+        pushed(self.frames.push(program.limits.instances, frame), at)
     }
 
     // Who asks.
@@ -522,6 +524,7 @@ impl Run {
     #[inline(always)]
     pub fn place_of(&self, program: &Program, asker: Asker) -> Place
         requires { HasBase program.now asker }
+        ensures { result ≡ place_by program.now asker }
     {
         match asker {
             Asker::Root => program.group(0).at,
@@ -533,7 +536,8 @@ impl Run {
     #[inline(always)]
     pub fn base_of(&self, program: &Program, asker: Asker) -> u32
         requires { HasBase program.now asker }
-        ensures { result < length program.now.sheet.groups }
+        ensures within { result < length program.now.sheet.groups }
+        ensures value { result ≡ base_by program.now asker }
     {
         match asker {
             Asker::Root => 0,

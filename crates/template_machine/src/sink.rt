@@ -1,11 +1,12 @@
 //! What takes the output of a run.
 
-ghost use Rattle.std.specs.Prelude.{◌≡◌, true, false, [], ◌∷◌, ◌++◌, OnErr, OnOk, List as Items};
+ghost use Rattle.std.specs.Prelude.{◌≡◌, ◌↔◌, true, false, [], ◌∷◌, ◌++◌, IsTrue, OnErr, OnOk, List as Items, map};
 ghost use Rattle.stx_base.specs.Character.{is_cdata_text};
 ghost use Rattle.stx_base.specs.declared.part.Part.TheVariants as parts;
 ghost use Rattle.result_writer.specs.Target.{Target, is_closed};
 ghost use Rattle.template_machine.specs.Ending.{Note, Said};
-ghost use Rattle.template_machine.specs.Sinks.{Takes, behind_all};
+ghost use Rattle.template_machine.specs.Putting.{attribute_part};
+ghost use Rattle.template_machine.specs.Sinks.{Takes, TakesInTurn, behind_all};
 
 use result_writer::{ResultFault, WriteStop};
 use stx_base::{Attr, Binding, List, Memory, Name, Spare, Text};
@@ -28,6 +29,10 @@ pub trait Sink {
     ) -> Result<(), WriteStop>
         ensures { Takes output told (parts.Start name scope.now) result self.old self.new };
 
+    /// Whether a scope is that of the start before. Allocates nothing.
+    fn is_last_scope(&self, scope: &List<Binding>) -> bool
+        ensures { IsTrue result ↔ (scope.now ≡ (output self.now).last) };
+
     /// The same in the scope of the start before.
     fn start_again(&mut self, name: Name, spare: &mut Spare) -> Result<(), WriteStop>
         ensures { Takes output told (parts.Start name (output self.old).last) result self.old self.new };
@@ -35,8 +40,9 @@ pub trait Sink {
     fn attribute(&mut self, name: Name, value: Text) -> Result<(), WriteStop>
         ensures { Takes output told (parts.Attribute name value) result self.old self.new };
 
-    /// Attributes one after another, up to the first that has a fault.
-    fn attributes(&mut self, attrs: List<Attr>) -> Result<(), WriteStop>;
+    /// Attributes one after another, up to the first that has a fault. Those before it are taken.
+    fn attributes(&mut self, attrs: List<Attr>) -> Result<(), WriteStop>
+        ensures { TakesInTurn output told (map attribute_part attrs) result self.old self.new };
 
     fn end(&mut self, name: &Name, spare: &mut Spare) -> Result<(), WriteStop>
         ensures { Takes output told (parts.End name.now) result self.old self.new };

@@ -4,8 +4,8 @@ use Rattle.frame_stack.specs.Stack.{FrameStack}
 use Rattle.template_machine.proofs.Below.{changed_long, done_at, done_body, done_on, done_out}
 use Rattle.template_machine.proofs.bodies.spend_children.Goals as goal
 
-pub returns-in-Outside-clause-frames : goal.returns-in-Outside-clause-frames
-returns-in-Outside-clause-frames c =
+pub returns-in-Outside : goal.returns-in-Outside
+returns-in-Outside c =
     let up : c.in-Some.under + 1 ≡ c.loop-under.top = omega (arith, c.in-Some.ensures) in
     sym (done_out c.args.level c.loop-under.frames.frames c.loop-under.top c.in-Some.under c.at.result.now up c.at.ensures (sym c.see.ensures ∙ c.in-Outside.is))
     ∙ c.loop-under.invariant.done
@@ -22,7 +22,6 @@ loop-under-preserved-in-Template c =
           ∙ done_body c.args.level c.loop-under.frames.frames c.loop-under.top c.in-Some.under c.at.result.now c.in-Template.field-0 up c.at.ensures
           (sym c.see.ensures ∙ c.in-Template.is)
           ∙ c.loop-under.invariant.done;
-      limit = ap (λ (x : FrameStack). x.limit) c.set_spent.ensures ∙ c.loop-under.invariant.limit;
     }
 
 pub loop-under-preserved : goal.loop-under-preserved
@@ -33,5 +32,4 @@ loop-under-preserved c =
       done =
           done_on c.args.level c.loop-under.frames.frames c.loop-under.top c.in-Some.under c.at.result.now up c.at.ensures (sym c.see.ensures ∙ c.in-Within.is)
           ∙ c.loop-under.invariant.done;
-      limit = c.loop-under.invariant.limit;
     }

@@ -7,7 +7,6 @@ abbrev pub invariant-loop-under : goal.invariant-loop-under
 invariant-loop-under l = record {
   within : l.top ≤ length l.frames.frames;
   done : done_at l.level l.frames.frames l.top ≡ all_spent l.level (reverse l.initial.frames.frames);
-  limit : l.frames.limit ≡ l.initial.frames.limit;
 }
 
 abbrev pub decreases-loop-under : goal.decreases-loop-under

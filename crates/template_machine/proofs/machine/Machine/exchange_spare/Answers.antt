@@ -17,6 +17,6 @@ returns-clause-order c = (
       record {
         sheet = order.sheet;
         alone =
-            record { origin = order.alone.origin; outer = order.alone.outer; aside = order.alone.aside; held = order.alone.held; counted = order.alone.counted; whole = order.alone.whole; fuel = order.alone.fuel };
+            record { origin = order.alone.origin; outer = order.alone.outer; aside = order.alone.aside; held = order.alone.held; counted = order.alone.counted; whole = order.alone.whole; untouched = order.alone.untouched; fuel = order.alone.fuel };
       },
 )

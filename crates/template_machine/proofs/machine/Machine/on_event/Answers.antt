@@ -1,9 +1,10 @@
+use Rattle.template_machine.proofs.Answered.{alone_counted, takes_not, takes_on}
 use Rattle.std.proofs.Common.{◌<◌, ◌^◌, sym, subst, arith, ◌∙◌, ◌+◌, ap, map, ◌≤◌}
 use Rattle.node_stack.specs.Stack.{path}
 use Rattle.template_machine.specs.Moments.{HasTold}
 use Rattle.template_machine.specs.declared.source.Source.{Source}
 use Rattle.template_machine.proofs.Eventful.{event_told}
-use Rattle.template_machine.proofs.Turning.{stop_more, stop_wants, stop_ended, stop_goes}
+use Rattle.template_machine.proofs.Turning.{asks_for_none, stop_more, stop_wants, stop_ended, stop_goes}
 use Rattle.template_machine.specs.Between.{GoesOn, HasDepth, depth_of, lists_in, Burns, fuel_at, fuel_limit_of, fuel_of, main_in, mains_of}
 use Rattle.template_machine.proofs.Machines.{event_depths, event_fits, event_lists, text_told, event_fuel, event_mains}
 use Rattle.std.specs.Prelude.{All}
@@ -84,3 +85,27 @@ returns-in-Err-clause-fuel g c =
 
 pub returns-in-Err-clause-mains : goal.returns-in-Err-clause-mains
 returns-in-Err-clause-mains g c = λ goes. absurd (stop_goes c.in-Err.stop (subst GoesOn c.turn.ensures goes))
+
+pub returns-in-Ok-clause-alone : goal.returns-in-Ok-clause-alone
+returns-in-Ok-clause-alone g c = λ order. c.go_on.ensures.alone order.sheet
+
+pub returns-in-Err-clause-alone : goal.returns-in-Err-clause-alone
+returns-in-Err-clause-alone g c = λ order. asks_for_none c.turn.result (λ name e. stop_wants c.in-Err.stop name (sym c.turn.ensures ∙ e))
+
+-- What was done.
+
+pub returns-in-Ok-clause-gives : goal.returns-in-Ok-clause-gives
+returns-in-Ok-clause-gives g c = λ order.
+    let m = c.args.self.now in
+    let p = m.program in
+    let alone = alone_counted p m.run c.count.new.self _ c.count.ensures order.alone in
+    let hears = c.in-Ok.ensures.hears alone in
+    takes_on g.S.Sink.output g.S.Sink.told m c.args.event c.count.new.self _ c.count.ensures c.go_on.result c.arrive.new.self c.go_on.new.self c.args.out.now c.go_on.new.out order hears
+    (c.go_on.ensures.goes hears.alone order.sheet)
+
+pub returns-in-Err-clause-gives : goal.returns-in-Err-clause-gives
+returns-in-Err-clause-gives g c = λ order.
+    let m = c.args.self.now in
+    let p = m.program in
+    let alone = alone_counted p m.run c.count.new.self _ c.count.ensures order.alone in
+    takes_not g.S.Sink.output g.S.Sink.told m c.args.event c.count.new.self _ c.count.ensures c.turn.result c.in-Err.stop c.arrive.new.self c.args.out.now c.turn.ensures (g.met.S.Sink.nothing c.args.out.now) (c.in-Err.ensures.hears alone)

@@ -1,12 +1,17 @@
+use Rattle.std.proofs.Common.{Ok}
+use Rattle.instr_code.specs.declared.code.Code.{Code}
+use Rattle.template_machine.specs.Ordinary.{IsAlone, IsOrdinary}
+use Rattle.template_machine.proofs.Answered.{starts_not, starts_on}
 use Rattle.template_machine.specs.Programs.{IsProgramOf}
 use Rattle.std.proofs.Common.{◌<◌, length, sym, subst, ◌∙◌, ap, map}
 use Rattle.template_machine.specs.declared.program.Program.{Program}
 use Rattle.template_machine.proofs.Starting.{ready_root}
-use Rattle.template_machine.proofs.Turning.{stop_more, stop_wants, stop_ended, stop_goes}
+use Rattle.template_machine.proofs.Turning.{asks_for_none, stop_more, stop_wants, stop_ended, stop_goes}
 use Rattle.template_machine.specs.Between.{GoesOn, lists_in, Burns}
 use Rattle.template_machine.proofs.Machines.{fresh_depths, fresh_lists, fresh_mains}
 use Rattle.template_machine.proofs.Documents.{same_documents}
 use Rattle.template_machine.proofs.Spared.{stop_burns}
+use Rattle.template_machine.specs.Commands.{all_given}
 use Rattle.template_machine.specs.Work.{Means}
 use Rattle.template_machine.proofs.machine.Machine.start.Goals as goal
 
@@ -83,3 +88,32 @@ returns-in-Ok-clause-of g c = λ sheet limits of. subst (λ p. IsProgramOf sheet
 
 pub returns-in-Err-clause-of : goal.returns-in-Err-clause-of
 returns-in-Err-clause-of g c = λ sheet limits of. subst (λ p. IsProgramOf sheet limits p) (sym c.begin.ensures.program) of
+
+pub returns-in-Ok-clause-params : goal.returns-in-Ok-clause-params
+returns-in-Ok-clause-params g c = ap all_given c.begin.ensures.program
+
+pub returns-in-Err-clause-params : goal.returns-in-Err-clause-params
+returns-in-Err-clause-params g c = ap all_given c.begin.ensures.program
+
+pub returns-in-Ok-clause-alone : goal.returns-in-Ok-clause-alone
+returns-in-Ok-clause-alone g c = λ ordinary. c.go_on_behind.ensures.alone (subst (λ (q : Program). IsOrdinary q.code) (sym c.begin.ensures.program) ordinary)
+
+pub returns-in-Err-clause-alone : goal.returns-in-Err-clause-alone
+returns-in-Err-clause-alone g c = λ ordinary. asks_for_none c.turn.result (λ name e. stop_wants c.in-Err.stop name (sym c.turn.ensures ∙ e))
+
+-- What was done.
+
+pub returns-in-Ok-clause-gives : goal.returns-in-Ok-clause-gives
+returns-in-Ok-clause-gives g c = λ ordinary.
+    let m = c.args.self.now in
+    let p = c.begin.new.self.program in
+    let r = c.begin.new.self.run in
+    let same = c.begin.ensures.program in
+    let starts = c.in-Ok.ensures.starts in
+    starts_on g.S.Sink.output g.S.Sink.told g.met.S.Sink.further g.met.S.Sink.leaves m p c.in-Ok.step c.go_on_behind.result r c.go_on_behind.new.self c.args.out.now c.begin.new.out c.go_on_behind.new.out same ordinary starts
+    (c.go_on_behind.ensures.goes (subst (λ (q : Program). IsAlone q r) (sym same) starts.alone) (subst (λ (q : Program). IsOrdinary q.code) (sym same) ordinary) (λ e. starts.over (ap (λ s. Ok s) e)))
+
+pub returns-in-Err-clause-gives : goal.returns-in-Err-clause-gives
+returns-in-Err-clause-gives g c = λ ordinary.
+    starts_not g.S.Sink.output g.S.Sink.told g.met.S.Sink.further g.met.S.Sink.leaves c.args.self.now c.begin.new.self.program c.in-Err.stop c.turn.result c.begin.new.self.run c.args.out.now c.begin.new.out
+    c.begin.ensures.program c.turn.ensures c.in-Err.ensures.starts

@@ -1,4 +1,4 @@
-use Rattle.std.proofs.Common.{◌+◌, ◌^◌, ◌∙◌, Ok, Err, inl, ap, arith, subst, sym}
+use Rattle.std.proofs.Common.{◌+◌, ◌^◌, ◌∙◌, Ok, Err, ap, arith, subst, sym}
 use Rattle.frame_stack.specs.Change.{with_pc}
 use Rattle.sheet_model.specs.Parts.{place}
 use Rattle.sheet_model.specs.declared.instr.Instr.TheOpen.{Instr-F}
@@ -111,29 +111,26 @@ returns-in_err-put-in_default-clause-passes g c = λ gives.
 -- Values that are given to variables.
 
 pub returns-in_ok-declare-in-Local-clause-sets : goal.returns-in_ok-declare-in-Local-clause-sets
-returns-in_ok-declare-in-Local-clause-sets g c = λ names gives.
+returns-in_ok-declare-in-Local-clause-sets g c = λ gives.
     let it = c.args.instr.now in
-    let p = c.args.program.now in
-    let number = c.args.number in
     let out = out_is it _ (Instr-F.Local c.in-Local.name c.in-Local.select _) (rolls-Local _ _ _) c.in-Local.is in
     sets_answered (sets_of it (Instr-F.Local c.in-Local.name c.in-Local.select _) out
     (local_placed c.in-Local.name c.in-Local.select c.place_of.result _ (c.place_of.ensures ∙ ap place out)
-    (c.in_ok-declare-in-Local.ensures.sets (names.variables c.in-Local.name (number, inl (declares_is p.code number it c.in-Local.name c.in-Local.select _ c.requires.instr c.in-Local.is)))))) _
+    c.in_ok-declare-in-Local.ensures.sets)) _
 
 pub returns-in_err-declare-in-Local-clause-sets : goal.returns-in_err-declare-in-Local-clause-sets
-returns-in_err-declare-in-Local-clause-sets g c = λ names gives.
+returns-in_err-declare-in-Local-clause-sets g c = λ gives.
     let it = c.args.instr.now in
     let p = c.args.program.now in
-    let number = c.args.number in
     let e = c.in_err-declare-in-Local.field-0.0 in
     let out = out_is it _ (Instr-F.Local c.in-Local.name c.in-Local.select _) (rolls-Local _ _ _) c.in-Local.is in
     subst (λ r. Sets p (out-Instr it) (with_pc (c.args.running.pc + 1)) r c.args.self.now c.declare.new.self) (sym (stops_with c.from_residual.result e c.from_residual.ensures.1))
     (sets_stopped (sets_of it (Instr-F.Local c.in-Local.name c.in-Local.select _) out
     (local_placed c.in-Local.name c.in-Local.select c.place_of.result _ (c.place_of.ensures ∙ ap place out)
-    (c.in_err-declare-in-Local.ensures.sets (names.variables c.in-Local.name (number, inl (declares_is p.code number it c.in-Local.name c.in-Local.select _ c.requires.instr c.in-Local.is)))))))
+    c.in_err-declare-in-Local.ensures.sets)))
 
 pub returns-in_ok-assign-in-Assign-clause-sets : goal.returns-in_ok-assign-in-Assign-clause-sets
-returns-in_ok-assign-in-Assign-clause-sets g c = λ names gives.
+returns-in_ok-assign-in-Assign-clause-sets g c = λ gives.
     let it = c.args.instr.now in
     let p = c.args.program.now in
     let r = c.args.self.now in
@@ -144,7 +141,7 @@ returns-in_ok-assign-in-Assign-clause-sets g c = λ names gives.
     (assign_placed c.in-Assign.name c.in-Assign.select c.place_of.result _ (c.place_of.ensures ∙ ap place out) c.in_ok-assign-in-Assign.ensures.sets))) _
 
 pub returns-in_err-assign-in-Assign-clause-sets : goal.returns-in_err-assign-in-Assign-clause-sets
-returns-in_err-assign-in-Assign-clause-sets g c = λ names gives.
+returns-in_err-assign-in-Assign-clause-sets g c = λ gives.
     let it = c.args.instr.now in
     let p = c.args.program.now in
     let r = c.args.self.now in
@@ -157,13 +154,13 @@ returns-in_err-assign-in-Assign-clause-sets g c = λ names gives.
     (assign_placed c.in-Assign.name c.in-Assign.select c.place_of.result _ (c.place_of.ensures ∙ ap place out) c.in_err-assign-in-Assign.ensures.sets))))
 
 pub returns-in_ok-put-in_default-clause-sets : goal.returns-in_ok-put-in_default-clause-sets
-returns-in_ok-put-in_default-clause-sets g c = λ names gives.
+returns-in_ok-put-in_default-clause-sets g c = λ gives.
     no_value (out-Instr c.args.instr.now)
     (puts_at c.args.program.now c.args.self.now c.args.running c.args.number c.args.instr.now c.requires.op c.requires.instr c.requires.stays
     (λ name select at e. c.in_default.not-Local name select at e) (λ name select at e. c.in_default.not-Assign name select at e)) gives
 
 pub returns-in_err-put-in_default-clause-sets : goal.returns-in_err-put-in_default-clause-sets
-returns-in_err-put-in_default-clause-sets g c = λ names gives.
+returns-in_err-put-in_default-clause-sets g c = λ gives.
     no_value (out-Instr c.args.instr.now)
     (puts_at c.args.program.now c.args.self.now c.args.running c.args.number c.args.instr.now c.requires.op c.requires.instr c.requires.stays
     (λ name select at e. c.in_default.not-Local name select at e) (λ name select at e. c.in_default.not-Assign name select at e)) gives

@@ -1,10 +1,10 @@
-use Rattle.std.proofs.Common.{◌∙◌, ◌∷◌, reverse, ap, sym, subst}
+use Rattle.std.proofs.Common.{◌∙◌, ◌∷◌, reverse, refl, ap, sym, subst}
 use Rattle.std.specs.Option.{option_copied}
 use Rattle.frame_stack.specs.declared.frame.Frame.{Frame}
 use Rattle.frame_stack.specs.declared.frame.Frame.TheVariants.{Body, Call, Attributes, Loop, Region, Source, Skip, Pass}
-use Rattle.template_machine.specs.Asking.{HasAsker, IsBodyAsking, WaitsFor, asking}
+use Rattle.template_machine.specs.Asking.{HasAsker, IsBodyAsking, IsPassing, WaitsFor, asking}
 use Rattle.template_machine.proofs.Asking.{asker_from}
-use Rattle.template_machine.proofs.Tops.{top_below, top_frame}
+use Rattle.template_machine.proofs.Tops.{no_top, top_below, top_frame}
 use Rattle.template_machine.proofs.run.Run.asker.Goals as goal
 
 pub top_asks-requires : goal.top_asks-requires
@@ -85,7 +85,13 @@ returns-in-Some-Pass c =
     let f = Pass c.in-Some-Pass.base c.in-Some-Pass.field-0-1 c.in-Some-Pass.field-0-2 in
     let is = t.1 ∙ ap (λ (x : Frame). x ∷ t.0) c.in-Some-Pass.field-0-is in
     let h = subst (HasAsker p) is c.requires in
-    record { base = h; on = tt }
+    record { base = h; on = subst (IsPassing c.in-Some-Pass.base) (sym is) refl }
+
+pub returns-in-None : goal.returns-in-None
+returns-in-None c =
+    let p = c.args.program.now in
+    let e = no_top c.args.self.now.frames.frames (sym c.top.ensures ∙ ap option_copied c.in-None.is) in
+    record { base = subst (HasAsker p) e c.requires; on = e }
 
 pub returns-in-Some-Region : goal.returns-in-Some-Region
 returns-in-Some-Region c =

@@ -46,4 +46,4 @@ returns-clause-behind c =
     ∙ ap (λ l. Loop 0 ∷ l) (behind_pc c.args.program.now r c.args.running (op.Begin c.args.number) c.requires.op next c.set_pc.new.self c.set_pc.ensures).0)
 
 pub returns-clause-memory : goal.returns-clause-memory
-returns-clause-memory c = loop_refused c.push.result c.set_pc.new.self.limit c.set_pc.new.self.frames c.push.ensures.full
+returns-clause-memory c = loop_refused c.push.result c.args.program.now.limits.instances c.set_pc.new.self.frames c.push.ensures.full

@@ -1,4 +1,4 @@
-use Rattle.std.proofs.Common.{◌≡◌, ◌∷◌, ◌+◌, ◌∙◌, Ok, Err, ap, arith, reverse, subst, sym}
+use Rattle.std.proofs.Common.{◌≡◌, ◌∷◌, ◌++◌, ◌+◌, ◌∙◌, refl, [], Ok, Err, ap, arith, reverse, subst, sym}
 use Rattle.frame_stack.specs.Change.{with_pc}
 use Rattle.frame_stack.specs.declared.frame.Frame.TheVariants.{Loop}
 use Rattle.instr_code.specs.declared.code.Op.TheVariants as op
@@ -22,6 +22,8 @@ use Rattle.template_machine.proofs.Itemized.{walk_opens, walk_stops}
 use Rattle.template_machine.proofs.Saying.{stops_with}
 use Rattle.template_machine.proofs.Spelled.{out_is}
 use Rattle.template_machine.proofs.run.Run.begin_round.Goals as goal
+use Rattle.template_machine.proofs.Operated.{rest_there, stays_in_loop, stays_moved}
+use Rattle.template_machine.proofs.Moving.{moves_locals, moves_pc}
 
 pub instr-instr-requires : goal.instr-instr-requires
 instr-instr-requires c =
@@ -165,3 +167,43 @@ returns-in_ok-pushed-in-ForEachItem-clause-goes c =
       behind = opens.behind ∙ ap (λ (x : Run). Loop 0 ∷ on_body (with_more opens.waiting (c.args.running.pc + 1)) (reverse x.frames.frames)) c.spend.ensures.same;
     })
     (c.begin_walk.ensures.rest ∙ ap (λ (x : Run). record x { frames = new.frames }) c.spend.ensures.same)
+
+-- What stays as it was.
+
+pub returns-in-Choose-clause-keeps : goal.returns-in-Choose-clause-keeps
+returns-in-Choose-clause-keeps c =
+    let r = c.args.self.now in
+    let s = c.spend.new.self in
+    let new = c.begin_choice.new.self in
+    let next = c.args.running.pc + 1 in (
+      refl,
+      stays_moved r new (with_pc next) (λ o. next) (λ l. l) (moves_pc next)
+          (rest_there r new (record r { frames = new.frames; fuel = s.fuel }) (c.begin_choice.ensures.rest ∙ ap (λ (x : Run). record x { frames = new.frames }) c.spend.ensures.same) refl)
+          c.args.running.pc c.requires.pc (c.begin_choice.ensures.behind ∙ ap (λ (x : Run). on_body (with_pc next) (reverse x.frames.frames)) c.spend.ensures.same),
+    )
+
+pub returns-in_ok-pushed-in-While-clause-keeps : goal.returns-in_ok-pushed-in-While-clause-keeps
+returns-in_ok-pushed-in-While-clause-keeps c =
+    let r = c.args.self.now in
+    let s = c.spend.new.self in
+    let new = c.begin_loop.new.self in
+    let next = c.args.running.pc + 1 in (
+      refl,
+      stays_in_loop r new (with_pc next) (λ o. next) (λ l. l) (moves_pc next)
+          (rest_there r new (record r { frames = new.frames; fuel = s.fuel }) (c.begin_loop.ensures.rest ∙ ap (λ (x : Run). record x { frames = new.frames }) c.spend.ensures.same) refl)
+          c.args.running.pc 0 c.requires.pc
+          (ok_given c.begin_loop.result _ _ _ c.in_ok-pushed-in-While.ensures _ c.begin_loop.ensures.behind ∙ ap (λ (x : Run). Loop 0 ∷ on_body (with_pc next) (reverse x.frames.frames)) c.spend.ensures.same),
+    )
+
+pub returns-in_ok-pushed-in-ForEachItem-clause-keeps : goal.returns-in_ok-pushed-in-ForEachItem-clause-keeps
+returns-in_ok-pushed-in-ForEachItem-clause-keeps c =
+    let r = c.args.self.now in
+    let s = c.spend.new.self in
+    let new = c.begin_walk.new.self in
+    let next = c.args.running.pc + 1 in
+    let opens : OpensWalk c.in_ok-items-in-ForEachItem.items next s new = ok_given c.begin_walk.result _ _ _ c.in_ok-pushed-in-ForEachItem.ensures _ c.begin_walk.ensures.behind in (
+      refl,
+      stays_in_loop r new (with_more opens.waiting next) (λ o. next) (λ ls. ls ++ opens.waiting ∷ []) (moves_locals next (λ ls. ls ++ opens.waiting ∷ []))
+          (rest_there r new (record r { frames = new.frames; fuel = s.fuel }) (c.begin_walk.ensures.rest ∙ ap (λ (x : Run). record x { frames = new.frames }) c.spend.ensures.same) refl)
+          c.args.running.pc 0 c.requires.pc (opens.behind ∙ ap (λ (x : Run). Loop 0 ∷ on_body (with_more opens.waiting next) (reverse x.frames.frames)) c.spend.ensures.same),
+    )

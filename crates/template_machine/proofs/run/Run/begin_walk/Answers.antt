@@ -51,7 +51,7 @@ returns-clause-works c =
     )))
 
 pub returns-clause-memory : goal.returns-clause-memory
-returns-clause-memory c = loop_refused c.push.result c.push_local.new.self.limit c.push_local.new.self.frames c.push.ensures.full
+returns-clause-memory c = loop_refused c.push.result c.args.program.now.limits.instances c.push_local.new.self.frames c.push.ensures.full
 
 pub returns-clause-behind : goal.returns-clause-behind
 returns-clause-behind c =

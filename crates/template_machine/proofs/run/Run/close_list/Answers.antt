@@ -16,6 +16,8 @@ use Rattle.template_machine.proofs.Spelled.{closed_round, is_round, out_is}
 use Rattle.template_machine.proofs.Writing.{only_puts, puts_at}
 use Rattle.template_machine.proofs.Falling.{falls_put}
 use Rattle.template_machine.proofs.run.Run.close_list.Goals as goal
+use Rattle.template_machine.proofs.Operated.{rest_there, stays_moved}
+use Rattle.template_machine.proofs.Moving.{moves_pc}
 
 pub instr-requires : goal.instr-requires
 instr-requires g c =
@@ -99,4 +101,31 @@ returns-in-Element-clause-goes g c = λ shown.
 
 pub returns-in-ResultBuffer-clause-goes : goal.returns-in-ResultBuffer-clause-goes
 returns-in-ResultBuffer-clause-goes g c = λ shown.
+    absurd (subst ClosesShown (out_is c.instr.result.now _ (Instr-F.ResultBuffer _ _ _ _) (rolls-ResultBuffer _ _ _ _) c.in-ResultBuffer.is) (shown c.instr.result.now c.instr.ensures))
+
+-- What stays as it was.
+
+pub returns-in_ok-end-in-Literal-clause-keeps : goal.returns-in_ok-end-in-Literal-clause-keeps
+returns-in_ok-end-in-Literal-clause-keeps g c = λ shown.
+    let r = c.args.self.now in
+    let new = c.leave_list.new.self in
+    let next = c.args.running.pc + 1 in
+    stays_moved r new (with_pc next) (λ o. next) (λ l. l) (moves_pc next)
+    (rest_there r new (record r { frames = new.frames; putting = c.end.new.self }) c.leave_list.ensures.rest refl) c.args.running.pc c.requires.pc c.leave_list.ensures.behind
+
+pub returns-in_ok-close_copy-in-Copy-clause-keeps : goal.returns-in_ok-close_copy-in-Copy-clause-keeps
+returns-in_ok-close_copy-in-Copy-clause-keeps g c = λ shown.
+    let r = c.args.self.now in
+    let mid = c.close_copy.new.self in
+    let new = c.leave_list-in-Copy.new.self in
+    let next = c.args.running.pc + 1 in
+    stays_moved r new (with_pc next) (λ o. next) (λ l. l) (moves_pc next)
+    (rest_there r new (record r { frames = new.frames; putting = mid.putting }) (c.leave_list-in-Copy.ensures.rest ∙ ap (λ (x : Run). record x { frames = new.frames }) c.close_copy.ensures.only.rest) refl)
+    c.args.running.pc c.requires.pc (c.leave_list-in-Copy.ensures.behind ∙ ap (λ (n : Run). on_body (with_pc next) (reverse n.frames.frames)) c.close_copy.ensures.only.rest)
+
+pub returns-in-Element-clause-keeps : goal.returns-in-Element-clause-keeps
+returns-in-Element-clause-keeps g c = λ shown. c.leave_tagged.ensures.keeps
+
+pub returns-in-ResultBuffer-clause-keeps : goal.returns-in-ResultBuffer-clause-keeps
+returns-in-ResultBuffer-clause-keeps g c = λ shown.
     absurd (subst ClosesShown (out_is c.instr.result.now _ (Instr-F.ResultBuffer _ _ _ _) (rolls-ResultBuffer _ _ _ _) c.in-ResultBuffer.is) (shown c.instr.result.now c.instr.ensures))

@@ -1,4 +1,5 @@
 use Rattle.template_machine.proofs.Finished.{node_moves, not_held}
+use Rattle.template_machine.proofs.Untaken.{closes_untouched}
 use Rattle.template_machine.specs.declared.putting.Putting.{Putting}
 use Rattle.std.proofs.Common.{refl, sym, subst, ap}
 use Rattle.template_machine.specs.declared.run.Doing.TheVariants as doing
@@ -38,11 +39,11 @@ pub returns-clause-asks : goal.returns-clause-asks
 returns-clause-asks c = goes_asks c.list_goes_on.result _ c.list_goes_on.ensures.step
 
 pub returns-clause-moves : goal.returns-clause-moves
-returns-clause-moves c = λ alone.
+returns-clause-moves c = λ alone listed.
     let p = c.args.program.now in
     let r = c.args.self.now in
     let st = c.close-change.ensures.closed in
     let m = record r { source = c.close-change.new.self; putting = c.see.new.self } in
-    node_moves p r c.list_goes_on.new.self m c.close-change.new.self c.see.new.self c.list_goes_on.result alone c.requires.over.apart
+    node_moves p r c.list_goes_on.new.self m c.close-change.new.self c.see.new.self c.list_goes_on.result alone (closes_untouched p r c.requires.over c.requires.end (listed c.requires.end)) c.requires.over.apart
     (not_held r.source c.requires.over.steady.source.held alone.held) c.list_goes_on.ensures.step st.path_is st.ahead_is st.held_is st.origin_is c.list_goes_on.ensures.run
     (ap (λ (x : Putting). x.buffers) c.see.ensures.rest) (ap (λ (x : Putting). x.targets) c.see.ensures.rest)

@@ -1,3 +1,4 @@
+use Rattle.template_machine.proofs.Composed.{call_moves}
 use Rattle.std.proofs.Common.{◌∙◌, Some, ap}
 use Rattle.frame_stack.specs.declared.frame.Frame.{Frame}
 use Rattle.instr_code.specs.declared.code.Op.TheVariants as op
@@ -27,3 +28,11 @@ pub returns-in-Call-clause-works : goal.returns-in-Call-clause-works
 returns-in-Call-clause-works c =
     call_works c.args.program.now c.args.self.now c.args.running _ _ _ _ c.take_off.new.frames c.requires (c.at.ensures ∙ ap (λ (f : Frame). Some f) c.in-Call.is)
     c.take_off.ensures
+
+pub returns-in-Call-clause-moves : goal.returns-in-Call-clause-moves
+returns-in-Call-clause-moves c = λ alone.
+    call_moves c.args.program.now c.args.self.now c.args.running _ _ _ _ c.take_off.new.frames c.requires (c.at.ensures ∙ ap (λ (f : Frame). Some f) c.in-Call.is)
+    c.take_off.ensures alone
+
+pub returns-in-Body-clause-moves : goal.returns-in-Body-clause-moves
+returns-in-Body-clause-moves c = c.end_template.ensures.moves

@@ -21,8 +21,11 @@ use Rattle.template_machine.proofs.Taken.{pass_leaves, pass_waits}
 use Rattle.template_machine.proofs.Lightened.{load_off}
 use Rattle.template_machine.proofs.Falling.{begins_behind}
 use Rattle.template_machine.specs.Work.{Begins, means_of}
+use Rattle.template_machine.specs.Still.{nodes_of}
 use Rattle.template_machine.proofs.Operating.{on_ok}
 use Rattle.template_machine.proofs.run.Run.end_pass.Goals as goal
+use Rattle.template_machine.proofs.Untaken.{again_untouched, below_untouched}
+use Rattle.template_machine.proofs.Untouched.{untouched_to}
 
 pub pass_end-requires-clause-base : goal.pass_end-requires-clause-base
 pass_end-requires-clause-base g c =
@@ -97,11 +100,16 @@ returns-then-is_asked_again-clause-steps g c = λ alone.
     let t = current_there r in
     let base = base_there p.sheet.groups c.args.base w.1 in
     let puts_so = c.in_ok-pass_end.ensures.parts base.0 base.1 t.0 t.1 in
-    let still = alone_frames p r m.frames alone (λ x. absurd (let no : ahead.Nothing ≡ ahead.Ended = sym h.ahead ∙ x in cc)) in
-    let alone_m = subst (IsAlone p) (sym rest) (record { origin = still.origin; outer = still.outer; aside = still.aside; held = still.held; counted = still.counted; whole = still.whole; fuel = still.fuel }) in
     let again : is_again c.args.level (reverse m.frames.frames) ≡ true = cc in
+    let below : spent_in i.1.0 ≡ Some true = w.5 (ap (is_again c.args.level) (sym same) ∙ again) in
+    let still =
+    alone_frames p r m.frames alone (λ x. absurd (let no : ahead.Nothing ≡ ahead.Ended = sym h.ahead ∙ x in cc))
+    (untouched_to i.1.0 (reverse m.frames.frames) (nodes_of r.source) (nodes_of r.source) (sym same) refl (again_untouched r i.1.0 below w.3)) in
+    let alone_m =
+    subst (IsAlone p) (sym rest)
+    (record { origin = still.origin; outer = still.outer; aside = still.aside; held = still.held; counted = still.counted; whole = still.whole; untouched = still.untouched; fuel = still.fuel }) in
     pass_moves_again g.S.Sink.output g.S.Sink.told p r m c.args.base c.args.level i.0 base.0 t.0 before rest h.ahead base.1 (first_now r t.0 t.1) c.args.out.now c.pass_end.new.out puts_so _ c.end_process.new.self again
-    (ap spent_in same ∙ w.5 (ap (is_again c.args.level) (sym same) ∙ again)) (sym (ap (λ n. is_attribute (Some n)) (first_now r t.0 t.1)) ∙ list_node r w.3) (c.end_process.ensures.moves alone_m)
+    (ap spent_in same ∙ below) (sym (ap (λ n. is_attribute (Some n)) (first_now r t.0 t.1)) ∙ list_node r w.3) (c.end_process.ensures.moves alone_m)
 
 pub returns-clause-steps : goal.returns-clause-steps
 returns-clause-steps g c = λ alone.
@@ -119,15 +127,20 @@ returns-clause-steps g c = λ alone.
     let t = current_there r in
     let base = base_there p.sheet.groups c.args.base w.1 in
     let puts_so = c.in_ok-pass_end.ensures.parts base.0 base.1 t.0 t.1 in
-    let still = alone_frames p r m.frames alone (λ x. absurd (let no : ahead.Nothing ≡ ahead.Ended = sym h.ahead ∙ x in cc)) in
-    let alone_m = subst (IsAlone p) (sym rest) (record { origin = still.origin; outer = still.outer; aside = still.aside; held = still.held; counted = still.counted; whole = still.whole; fuel = still.fuel }) in
     let apart : is_again c.args.level (reverse m.frames.frames) ≡ false = cc in
     let below : is_again c.args.level i.1.0 ≡ false = ap (is_again c.args.level) (sym same) ∙ apart in
+    let still =
+    alone_frames p r m.frames alone (λ x. absurd (let no : ahead.Nothing ≡ ahead.Ended = sym h.ahead ∙ x in cc))
+    (untouched_to i.1.0 (reverse m.frames.frames) (nodes_of r.source) (nodes_of r.source) (sym same) refl (below_untouched r i.1.0 (w.2 below) w.3)) in
+    let alone_m =
+    subst (IsAlone p) (sym rest)
+    (record { origin = still.origin; outer = still.outer; aside = still.aside; held = still.held; counted = still.counted; whole = still.whole; untouched = still.untouched; fuel = still.fuel }) in
     pass_moves_node g.S.Sink.output g.S.Sink.told p r m c.args.base c.args.level i.0 base.0 t.0 before rest h.ahead base.1 (first_now r t.0 t.1) c.args.out.now c.pass_end.new.out puts_so c.leave_node.result c.leave_node.new.self apart
     (ap takes_events same ∙ takes_below i.1.0 (standing_of r).source.way (w.2 below) w.3)
     (c.leave_node.ensures.moves alone_m
     (λ is. same ∙ document_last p h.stations r i.1.0 (subst (λ b. AreWell p h.stations 0 true i.1.0 (if b then standing_of r else node_over (standing_of r))) below w.6) alone
-    (sym (ap (λ (x : Run). current (path x.source.stack)) rest) ∙ is)))
+    (sym (ap (λ (x : Run). current (path x.source.stack)) rest) ∙ is))
+    (λ ends. ap takes_events same ∙ takes_below i.1.0 (standing_of r).source.way (w.2 below) w.3))
 
 pub returns-in_err-pass_end-clause-steps : goal.returns-in_err-pass_end-clause-steps
 returns-in_err-pass_end-clause-steps g c = λ alone.

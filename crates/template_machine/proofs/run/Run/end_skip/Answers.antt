@@ -15,8 +15,12 @@ use Rattle.template_machine.proofs.Slots.{slot_open, slot_shut}
 use Rattle.template_machine.proofs.Lightened.{load_off}
 use Rattle.template_machine.proofs.Falling.{begins_behind}
 use Rattle.template_machine.specs.Work.{Begins}
+use Rattle.template_machine.specs.Bodies.{takes_events}
+use Rattle.template_machine.specs.Still.{nodes_of}
 use Rattle.template_machine.proofs.Operating.{on_ok}
 use Rattle.template_machine.proofs.run.Run.end_skip.Goals as goal
+use Rattle.template_machine.proofs.Untaken.{below_untouched}
+use Rattle.template_machine.proofs.Untouched.{untouched_to}
 
 pub put_aside-requires : goal.put_aside-requires
 put_aside-requires c =
@@ -72,10 +76,14 @@ returns-clause-moves c = λ alone depth.
     let at = skipped_frames (reverse r.frames.frames) 0 depth in
     let gone = c.take_off.ensures (Skip 0) at.0 at.1 in
     let n = record r { frames = c.take_off.new.frames } in
-    let still = alone_frames p r c.take_off.new.frames alone (λ e. absurd (let no : ahead.Nothing ≡ ahead.Ended = sym h.ahead ∙ e in cc)) in
     let w : AreWell p h.stations 0 true (Skip 0 ∷ at.0) (standing_of r) = subst (λ l. AreWell p h.stations 0 true l (standing_of r)) at.1 h.well in
     let none = (alone_there p r alone).0 in
-    skip_moves p r n c.leave_node.new.self at.0 c.leave_node.result h.ahead at.1 gone
-    (takes_below at.0 (standing_of r).source.way (w.3 (λ e. absurd (let no : None ≡ Some None = sym (ap first_in none) ∙ e in cc))) w.1) refl
+    let take_it = w.3 (λ e. absurd (let no : None ≡ Some None = sym (ap first_in none) ∙ e in cc)) in
+    let takes = takes_below at.0 (standing_of r).source.way take_it w.1 in
+    let still =
+    alone_frames p r c.take_off.new.frames alone (λ e. absurd (let no : ahead.Nothing ≡ ahead.Ended = sym h.ahead ∙ e in cc))
+    (untouched_to at.0 (reverse c.take_off.new.frames.frames) (nodes_of r.source) (nodes_of r.source) (sym gone) refl (below_untouched r at.0 take_it w.1)) in
+    skip_moves p r n c.leave_node.new.self at.0 c.leave_node.result h.ahead at.1 gone takes refl
     (c.leave_node.ensures.moves still
-    (λ is. gone ∙ document_last p h.stations r at.0 (subst (λ l. AreWell p h.stations 0 true at.0 (skipped_by l (standing_of r))) none w.4) alone is))
+    (λ is. gone ∙ document_last p h.stations r at.0 (subst (λ l. AreWell p h.stations 0 true at.0 (skipped_by l (standing_of r))) none w.4) alone is)
+    (λ ends. ap takes_events gone ∙ takes))

@@ -1,4 +1,4 @@
-use Rattle.template_machine.proofs.Returning.{alone_left, state_left, template_moves, unskipped_below}
+use Rattle.template_machine.proofs.Returning.{alone_left, state_left, template_moves, unskipped_below, untouched_below}
 use Rattle.template_machine.specs.Bodies.{spent_in}
 use Rattle.template_machine.specs.Declaring.{ends_scope}
 use Rattle.template_machine.specs.Still.{state_of}
@@ -112,7 +112,7 @@ returns-then-declared-clause-moves c = λ alone.
     let rest : m ≡ record r { frames = m.frames; store = m.store; putting = m.putting } = l.rest ∙ ap (λ x. record r { frames = x; store = m.store; putting = m.putting }) (sym (ap (λ (x : Run). x.frames) l.rest)) in
     template_moves p r m c.leave_body.new.self c.args.running c.args.template c.args.level c.args.spent c.requires.op f t c.leave_body.result got frames rest
     (λ given left. state_left given p n m t.group left l ∙ ap (λ b. ends_scope given b t.group (state_of given p r left)) (sym new))
-    (c.leave_body.ensures.moves (alone_left p r m rest (unskipped_below p r m _ c.args.template c.args.level c.args.spent f frames) alone)
+    (c.leave_body.ensures.moves (alone_left p r m rest (unskipped_below p r m _ c.args.template c.args.level c.args.spent f frames) (untouched_below p r m _ c.args.template c.args.level c.args.spent f frames alone) alone)
     (λ again. ap spent_in frames ∙ f.spent_is (ap (is_again c.args.level) (sym frames) ∙ again)))
 
 pub returns-clause-moves : goal.returns-clause-moves
@@ -128,5 +128,5 @@ returns-clause-moves c = λ alone.
     let frames = c.take_off.ensures f.frame f.frames f.on_top in
     template_moves p r m c.leave_body-2.new.self c.args.running c.args.template c.args.level c.args.spent c.requires.op f t c.leave_body-2.result got frames refl
     (λ given left. ap (λ b. ends_scope given b t.group (state_of given p r left)) (sym none))
-    (c.leave_body-2.ensures.moves (alone_left p r m refl (unskipped_below p r m _ c.args.template c.args.level c.args.spent f frames) alone)
+    (c.leave_body-2.ensures.moves (alone_left p r m refl (unskipped_below p r m _ c.args.template c.args.level c.args.spent f frames) (untouched_below p r m _ c.args.template c.args.level c.args.spent f frames alone) alone)
     (λ again. ap spent_in frames ∙ f.spent_is (ap (is_again c.args.level) (sym frames) ∙ again)))

@@ -1,3 +1,5 @@
+use Rattle.std.proofs.Common.{false}
+use Rattle.template_machine.proofs.Composed.{ended_by, not_stopped}
 use Rattle.std.proofs.Common.{◌≡◌, ◌+◌, ◌≤◌, ◌∙◌, true, IsSome, refl, ap, sym, subst, arith}
 use Rattle.std.specs.Option.{option_map}
 use Rattle.node_stack.specs.Path.{can_end, last_of, parked}
@@ -28,7 +30,7 @@ end_region-requires g c =
     let k = c.hold-change.ensures in
     let x = some_last (last_of (path r.source.stack).nodes) (subst (λ o. IsSome o) (way_here (path r.source.stack)) c.requires.head.there.head) in
     let n = record r { source = c.hold-change.new.self; putting = c.see.new.self } in
-    head_held p r n x.0 c.requires (c.in_ok-over.ensures over) x.1 (record { outer = refl; aside = refl; store = refl; putting = c.see.ensures.stands }) refl
+    head_held p r n x.0 c.requires (c.in_ok-over.ensures.region over) x.1 (record { outer = refl; aside = refl; store = refl; putting = c.see.ensures.stands }) refl
     k.held.path_is k.held.scopes_are k.held.ahead_is (k.held.held_is ∙ ap (option_map parked) x.1) k.held.origin_is k.counts
 
 pub asker-asker-requires : goal.asker-asker-requires
@@ -48,3 +50,14 @@ returns-then-over-clause-works g c =
     let k = c.hold-change.ensures in
     let more : load m ≤ load r + (5 + 2) = omega (arith, load_known r m ahead.Held refl k.held.ahead_is refl) in
     on_ok c.end_region.result (Sheds 2 m n) (Begins 5 r n) c.end_region.ensures.works (λ s. begins_shed 2 5 r m n (means_kept r m refl k.held.origin_is (ap limit_in k.held.path_is) k.counts.0 refl) more s)
+
+pub returns-then-over-clause-takes : goal.returns-then-over-clause-takes
+returns-then-over-clause-takes g c = λ alone uncounted.
+    let over : c.in_ok-over.over ≡ true = cc in
+    absurd (let no : true ≡ false = sym over ∙ ended_by (c.in_ok-over.ensures.apart alone) in cc)
+
+pub returns-clause-takes : goal.returns-clause-takes
+returns-clause-takes g c = c.take.ensures.takes
+
+pub returns-in_err-over-clause-takes : goal.returns-in_err-over-clause-takes
+returns-in_err-over-clause-takes g c = λ alone uncounted. absurd (not_stopped (c.in_err-over.ensures.apart alone))

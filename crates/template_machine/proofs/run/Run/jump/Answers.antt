@@ -9,6 +9,7 @@ use Rattle.template_machine.proofs.Operating.{behind_pc, body_goes, goes_elsewhe
 use Rattle.template_machine.proofs.Placing.{changed_reversed, placed_in}
 use Rattle.template_machine.proofs.Falling.{jump_works}
 use Rattle.template_machine.proofs.run.Run.jump.Goals as goal
+use Rattle.template_machine.proofs.Operated.{stays_moved}
 
 pub set_pc-requires : goal.set_pc-requires
 set_pc-requires c = (placed_in c.args.self.now.frames.frames c.args.running.body c.requires.body).1.2
@@ -31,3 +32,10 @@ returns-clause-goes c =
     let r = c.args.self.now in
     jump_carries c.args.program.now r (record r { frames = c.set_pc.new.self }) c.args.running c.args.to tt c.requires
     (behind_pc c.args.program.now r c.args.running (op.Jump c.args.to) c.requires c.args.to c.set_pc.new.self c.set_pc.ensures).0 refl
+
+pub returns-clause-keeps : goal.returns-clause-keeps
+returns-clause-keeps c =
+    let r = c.args.self.now in
+    let to = c.args.to in
+    stays_moved r (record r { frames = c.set_pc.new.self }) (with_pc to) (λ o. to) (λ l. l) (moves_pc to) refl c.args.running.pc c.requires.pc
+    (behind_pc c.args.program.now r c.args.running (op.Jump to) c.requires to c.set_pc.new.self c.set_pc.ensures).0

@@ -1,4 +1,5 @@
 use Rattle.template_machine.proofs.Finished.{node_moves, not_held}
+use Rattle.template_machine.proofs.Untaken.{attribute_untouched}
 use Rattle.std.proofs.Common.{refl, sym, subst, ap}
 use Rattle.template_machine.specs.declared.run.Doing.TheVariants as doing
 use Rattle.template_machine.specs.Well.{IsWell}
@@ -35,5 +36,6 @@ returns-clause-moves c = λ alone.
     let p = c.args.program.now in
     let r = c.args.self.now in
     let m = record r { source = record r.source { stack = c.leave_attribute.new.self } } in
-    node_moves p r c.list_goes_on.new.self m (record r.source { stack = c.leave_attribute.new.self }) r.putting c.list_goes_on.result alone c.requires.over.apart
+    node_moves p r c.list_goes_on.new.self m (record r.source { stack = c.leave_attribute.new.self }) r.putting c.list_goes_on.result alone
+    (attribute_untouched p r c.requires.over c.requires.attribute alone) c.requires.over.apart
     (not_held r.source c.requires.over.steady.source.held alone.held) c.list_goes_on.ensures.step c.leave_attribute.ensures refl refl refl c.list_goes_on.ensures.run refl refl

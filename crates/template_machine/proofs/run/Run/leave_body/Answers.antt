@@ -14,6 +14,7 @@ use Rattle.template_machine.proofs.Falling.{begins_within}
 use Rattle.template_machine.specs.Work.{Begins}
 use Rattle.template_machine.proofs.Operating.{on_ok}
 use Rattle.template_machine.proofs.run.Run.leave_body.Goals as goal
+use Rattle.template_machine.proofs.Untaken.{in_list}
 
 pub end_process-requires : goal.end_process-requires
 end_process-requires c =
@@ -61,4 +62,5 @@ returns-clause-moves c = λ alone same.
     (body_moves_done p r c.leave_node.new.self c.args.spent c.leave_node.result (h.take apart) h.apart (sym c.is_open.ensures ∙ shut)
     (c.leave_node.ensures.moves alone
     (λ is.
-    document_last p h.stations r fs (subst (λ b. AreWell p h.stations 0 true fs (if b then standing_of r else node_over (standing_of r))) apart h.well) alone is)))
+    document_last p h.stations r fs (subst (λ b. AreWell p h.stations 0 true fs (if b then standing_of r else node_over (standing_of r))) apart h.well) alone is)
+    (in_list r (h.take apart))))

@@ -21,6 +21,8 @@ use Rattle.template_machine.proofs.Tagging.{element_closes, has_those, value_wai
 use Rattle.template_machine.proofs.Writing.{only_puts, puts_at}
 use Rattle.template_machine.proofs.Falling.{tagged_works}
 use Rattle.template_machine.proofs.run.Run.leave_tagged.Goals as goal
+use Rattle.template_machine.proofs.Operated.{stays_moved}
+use Rattle.template_machine.proofs.Moving.{moves_locals}
 
 pub locals_at-locals-requires : goal.locals_at-locals-requires
 locals_at-locals-requires g c =
@@ -136,3 +138,13 @@ returns-clause-goes g c = λ i is element.
     (subst (λ k. reverse c.cut_locals.new.self.frames ≡ on_body (λ f. with_locals (take k) (with_pc (c.args.running.pc + 1) f)) (reverse r.frames.frames)) (ap (λ k. k - 1) c.len-last.ensures)
     (behind_locals p r c.args.running (op.Close c.args.number) c.requires.op (c.args.running.pc + 1) (take (c.len-last.result - 1)) c.set_pc.new.self c.cut_locals.new.self c.set_pc.ensures c.cut_locals.ensures))
     refl
+
+pub returns-clause-keeps : goal.returns-clause-keeps
+returns-clause-keeps g c =
+    let p = c.args.program.now in
+    let r = c.args.self.now in
+    let last = c.len-last.result - 1 in
+    let next = c.args.running.pc + 1 in
+    stays_moved r (record r { frames = c.cut_locals.new.self; putting = c.end.new.self }) (λ f. with_locals (take last) (with_pc next f)) (λ o. next) (take last) (moves_locals next (take last)) refl
+    c.args.running.pc c.requires.op.pc
+    (behind_locals p r c.args.running (op.Close c.args.number) c.requires.op next (take last) c.set_pc.new.self c.cut_locals.new.self c.set_pc.ensures c.cut_locals.ensures)

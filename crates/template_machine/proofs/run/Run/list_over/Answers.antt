@@ -1,4 +1,8 @@
-use Rattle.std.proofs.Common.{◌+◌, ◌≤◌, ◌∙◌, ◌∷◌, true, IsSome, refl, ap, sym, subst, arith}
+use Rattle.std.proofs.Common.{◌≡◌}
+use Rattle.template_machine.specs.Behind.{list_done}
+use Rattle.template_machine.specs.Listed.{AreInOrder}
+use Rattle.template_machine.proofs.Composed.{over_in_order, says_nothing}
+use Rattle.std.proofs.Common.{ℕ, ◌+◌, ◌≤◌, ◌∙◌, ◌∷◌, true, IsSome, Some, refl, ap, sym, subst, arith}
 use Rattle.std.specs.Option.{option_copied}
 use Rattle.std.proofs.lemmas.Bool.{false≢true}
 use Rattle.frame_stack.specs.declared.frame.Frame.{Frame}
@@ -96,3 +100,51 @@ pub returns-in-Some-Source-clause-works : goal.returns-in-Some-Source-clause-wor
 returns-in-Some-Source-clause-works g c =
     begins_behind 1 0 c.args.self.now c.leave_source.new.self c.end_process.new.self c.leave_source.ensures.works.0 c.leave_source.ensures.works.1 c.end_process.ensures.works 0
     (omega arith)
+
+pub returns-in-Some-Region-clause-steps : goal.returns-in-Some-Region-clause-steps
+returns-in-Some-Region-clause-steps g c = λ alone whole.
+    let xs = c.args.self.now.frames.frames in
+    let t = top_frame xs c.in-Some-Region.field-0.now (sym c.top.ensures ∙ ap option_copied c.in-Some-Region.is) in
+    let is = t.1 ∙ ap (λ (x : Frame). x ∷ t.0) c.in-Some-Region.field-0-is in
+    absurd (subst AreInOrder is (over_in_order c.args.program.now c.args.self.now c.requires alone))
+
+pub returns-in-Some-Pass-clause-steps : goal.returns-in-Some-Pass-clause-steps
+returns-in-Some-Pass-clause-steps g c = λ alone whole. c.end_pass.ensures.steps alone
+
+pub returns-in-Some-Skip-clause-steps : goal.returns-in-Some-Skip-clause-steps
+returns-in-Some-Skip-clause-steps g c = λ alone whole.
+    let p = c.args.program.now in
+    let r = c.args.self.now in
+    let xs = r.frames.frames in
+    let t = top_frame xs c.in-Some-Skip.field-0.now (sym c.top.ensures ∙ ap option_copied c.in-Some-Skip.is) in
+    let is = t.1 ∙ ap (λ (x : Frame). x ∷ t.0) c.in-Some-Skip.field-0-is in
+    says_nothing g.S.Sink.output g.S.Sink.told g.met.S.Sink.nothing p (λ given left f. list_done given p r left f) c.end_skip.result c.end_skip.new.self c.args.out.now
+    (c.end_skip.ensures.moves alone (ap skipped_in is ∙ ap (λ (d : ℕ). Some d) (whole _ (ap skipped_in is))))
+
+pub returns-in-Some-Source-clause-steps : goal.returns-in-Some-Source-clause-steps
+returns-in-Some-Source-clause-steps g c = λ alone whole.
+    let xs = c.args.self.now.frames.frames in
+    let t = top_frame xs c.in-Some-Source.field-0.now (sym c.top.ensures ∙ ap option_copied c.in-Some-Source.is) in
+    let is = t.1 ∙ ap (λ (x : Frame). x ∷ t.0) c.in-Some-Source.field-0-is in
+    absurd (subst AreInOrder is (over_in_order c.args.program.now c.args.self.now c.requires alone))
+
+pub returns-in-Some-Body-clause-steps : goal.returns-in-Some-Body-clause-steps
+returns-in-Some-Body-clause-steps g c = λ alone whole.
+    let p = c.args.program.now in
+    let r = c.args.self.now in
+    says_nothing g.S.Sink.output g.S.Sink.told g.met.S.Sink.nothing p (λ given left f. list_done given p r left f) c.end_children.result c.end_children.new.self c.args.out.now
+    (c.end_children.ensures.moves alone)
+
+pub returns-in-Some-Call-clause-steps : goal.returns-in-Some-Call-clause-steps
+returns-in-Some-Call-clause-steps g c = λ alone whole.
+    let p = c.args.program.now in
+    let r = c.args.self.now in
+    says_nothing g.S.Sink.output g.S.Sink.told g.met.S.Sink.nothing p (λ given left f. list_done given p r left f) c.end_children-in-Some-Call.result c.end_children-in-Some-Call.new.self
+    c.args.out.now (c.end_children-in-Some-Call.ensures.moves alone)
+
+pub returns-in-Some-Loop-clause-steps : goal.returns-in-Some-Loop-clause-steps
+returns-in-Some-Loop-clause-steps g c = λ alone whole.
+    let p = c.args.program.now in
+    let r = c.args.self.now in
+    says_nothing g.S.Sink.output g.S.Sink.told g.met.S.Sink.nothing p (λ given left f. list_done given p r left f) c.end_children-in-Some-Loop.result c.end_children-in-Some-Loop.new.self
+    c.args.out.now (c.end_children-in-Some-Loop.ensures.moves alone)

@@ -1,3 +1,7 @@
+use Rattle.template_machine.specs.Behind.{head_taken, list_done}
+use Rattle.template_machine.specs.Still.{still}
+use Rattle.template_machine.proofs.Composed.{alone_known, head_found, head_uncounted, list_found, says_nothing, steps_by}
+use Rattle.template_machine.proofs.Finished.{not_held}
 use Rattle.std.proofs.Common.{◌∙◌, refl, ap, sym, subst, arith}
 use Rattle.node_stack.specs.Path.{can_have_children}
 use Rattle.node_stack.specs.Stack.{path, path_node}
@@ -61,3 +65,37 @@ returns-in-Ended-clause-works g c =
     let m = record r { source = record r.source { ahead = ahead.Nothing } } in
     begins_ok c.args.program.now 1 0 r m c.list_over.new.self c.requires.well.steady.places refl
     (known_less r m ahead.Ended ahead.Nothing 1 c.in-Ended.is refl refl refl refl) (omega arith) c.list_over.result c.list_over.ensures.asks c.list_over.ensures.works
+
+-- What is done.
+
+pub returns-in-Nothing-clause-steps : goal.returns-in-Nothing-clause-steps
+returns-in-Nothing-clause-steps g c = λ alone.
+    let p = c.args.program.now in
+    let r = c.args.self.now in
+    says_nothing g.S.Sink.output g.S.Sink.told g.met.S.Sink.nothing p (λ given left f. still given p r left f) c.want.result c.want.new.self c.args.out.now (c.want.ensures.moves alone)
+
+pub returns-in-Here-clause-steps : goal.returns-in-Here-clause-steps
+returns-in-Here-clause-steps g c = λ alone.
+    let p = c.args.program.now in
+    let r = c.args.self.now in
+    let m = record r { source = record r.source { ahead = ahead.Nothing } } in
+    steps_by g.S.Sink.output g.S.Sink.told p (λ given left f. still given p r left f) (λ given left f. head_taken given p m left f) c.head.result c.head.new.self c.args.out.now c.head.new.out
+    (λ given program left f. head_found p r c.requires.well c.requires.list c.in-Here.is alone given left f) (c.head.ensures.takes (alone_known p r alone) (head_uncounted p r c.in-Here.is alone))
+
+pub returns-in_ok-change-in-Held-clause-steps : goal.returns-in_ok-change-in-Held-clause-steps
+returns-in_ok-change-in-Held-clause-steps g c = λ alone.
+    let r = c.args.self.now in
+    absurd (not_held r.source c.requires.well.steady.source.held alone.held c.in-Held.is)
+
+pub returns-in_err-change-in-Held-clause-steps : goal.returns-in_err-change-in-Held-clause-steps
+returns-in_err-change-in-Held-clause-steps g c = λ alone.
+    let r = c.args.self.now in
+    absurd (not_held r.source c.requires.well.steady.source.held alone.held c.in-Held.is)
+
+pub returns-in-Ended-clause-steps : goal.returns-in-Ended-clause-steps
+returns-in-Ended-clause-steps g c = λ alone.
+    let p = c.args.program.now in
+    let r = c.args.self.now in
+    let m = record r { source = record r.source { ahead = ahead.Nothing } } in
+    steps_by g.S.Sink.output g.S.Sink.told p (λ given left f. still given p r left f) (λ given left f. list_done given p m left f) c.list_over.result c.list_over.new.self c.args.out.now c.list_over.new.out
+    (λ given program left f. list_found p r c.requires.list c.in-Ended.is c.requires.events given left f) (c.list_over.ensures.steps (alone_known p r alone) (alone.whole c.in-Ended.is))

@@ -2,11 +2,13 @@ use Rattle.std.proofs.Common.{Ok, Err, subst, sym}
 use Rattle.instr_code.specs.declared.code.Op.TheVariants as op
 use Rattle.template_machine.proofs.Instructing.{at_op, op_within, pc_there}
 use Rattle.template_machine.proofs.Deciding.{carried, carries_so, steps_answered}
-use Rattle.template_machine.proofs.Proceeding.{shown_next}
 use Rattle.template_machine.proofs.Saying.{stops_with}
-use Rattle.template_machine.specs.Saying.{Steps}
+use Rattle.template_machine.specs.Onward.{StepsOn}
+use Rattle.template_machine.specs.Still.{still}
 use Rattle.template_machine.specs.declared.run.Step.TheVariants as step
 use Rattle.template_machine.proofs.run.Run.operate.Goals as goal
+use Rattle.template_machine.proofs.Composed.{says_nothing}
+use Rattle.template_machine.proofs.Operated.{carries_steps, put_steps, shown_close, shown_open, stopped_steps}
 
 pub running-running-requires : goal.running-running-requires
 running-running-requires g c =
@@ -63,59 +65,83 @@ end_body-requires g c =
 
 -- What is done.
 
-pub returns-in-Do-clause-goes : goal.returns-in-Do-clause-goes
-returns-in-Do-clause-goes g c = λ t.
-    c.instruct.ensures.goes t.names
-    (shown_next c.args.program.now c.args.self.now t c.running-running.result.pc c.op.result (op.Do c.in-Do.instr) c.running-running.ensures.pc c.op.ensures c.in-Do.is)
+pub returns-in-Do-clause-steps : goal.returns-in-Do-clause-steps
+returns-in-Do-clause-steps g c = c.instruct.ensures.steps
 
-pub returns-in-Begin-clause-goes : goal.returns-in-Begin-clause-goes
-returns-in-Begin-clause-goes g c = λ t.
-    carried g.S.Sink.output g.S.Sink.told g.met.S.Sink.nothing c.args.program.now c.begin_round.result c.args.self.now c.begin_round.new.self c.args.out.now
-    c.begin_round.ensures.goes
+pub returns-in-Begin-clause-steps : goal.returns-in-Begin-clause-steps
+returns-in-Begin-clause-steps g c = λ alone ordinary.
+    carries_steps g.S.Sink.output g.S.Sink.told c.args.program.now c.args.self.now c.begin_round.new.self c.begin_round.result c.args.out.now c.args.out.now
+    (carried g.S.Sink.output g.S.Sink.told g.met.S.Sink.nothing c.args.program.now c.begin_round.result c.args.self.now c.begin_round.new.self c.args.out.now c.begin_round.ensures.goes)
+    c.begin_round.ensures.keeps c.begin_round.ensures.works alone
 
-pub returns-in-Test-clause-goes : goal.returns-in-Test-clause-goes
-returns-in-Test-clause-goes g c = λ t.
-    carried g.S.Sink.output g.S.Sink.told g.met.S.Sink.nothing c.args.program.now c.test.result c.args.self.now c.test.new.self c.args.out.now c.test.ensures.goes
+pub returns-in-Test-clause-steps : goal.returns-in-Test-clause-steps
+returns-in-Test-clause-steps g c = λ alone ordinary.
+    carries_steps g.S.Sink.output g.S.Sink.told c.args.program.now c.args.self.now c.test.new.self c.test.result c.args.out.now c.args.out.now
+    (carried g.S.Sink.output g.S.Sink.told g.met.S.Sink.nothing c.args.program.now c.test.result c.args.self.now c.test.new.self c.args.out.now c.test.ensures.goes)
+    c.test.ensures.keeps c.test.ensures.works alone
 
-pub returns-in-Jump-clause-goes : goal.returns-in-Jump-clause-goes
-returns-in-Jump-clause-goes g c = λ t.
-    carried g.S.Sink.output g.S.Sink.told g.met.S.Sink.nothing c.args.program.now (Ok _) c.args.self.now c.jump.new.self c.args.out.now (carries_so c.jump.ensures.goes _)
+pub returns-in-Turn-clause-steps : goal.returns-in-Turn-clause-steps
+returns-in-Turn-clause-steps g c = λ alone ordinary.
+    carries_steps g.S.Sink.output g.S.Sink.told c.args.program.now c.args.self.now c.turn.new.self c.turn.result c.args.out.now c.args.out.now
+    (carried g.S.Sink.output g.S.Sink.told g.met.S.Sink.nothing c.args.program.now c.turn.result c.args.self.now c.turn.new.self c.args.out.now c.turn.ensures.goes)
+    c.turn.ensures.keeps c.turn.ensures.works alone
 
-pub returns-in_ok-open_list-in-Open-clause-goes : goal.returns-in_ok-open_list-in-Open-clause-goes
-returns-in_ok-open_list-in-Open-clause-goes g c = λ t.
-    steps_answered g.S.Sink.output g.S.Sink.told c.args.program.now (Ok _) step.More c.args.self.now c.open_list.new.self c.args.out.now c.open_list.new.out
-    (c.in_ok-open_list-in-Open.ensures.goes
-    (shown_next c.args.program.now c.args.self.now t c.running-running.result.pc c.op.result (op.Open c.in-Open.instr c.in-Open.to) c.running-running.ensures.pc c.op.ensures c.in-Open.is))
+pub returns-in-Jump-clause-steps : goal.returns-in-Jump-clause-steps
+returns-in-Jump-clause-steps g c = λ alone ordinary.
+    put_steps g.S.Sink.output g.S.Sink.told c.args.program.now c.args.self.now c.jump.new.self c.args.out.now c.args.out.now
+    (carried g.S.Sink.output g.S.Sink.told g.met.S.Sink.nothing c.args.program.now (Ok step.More) c.args.self.now c.jump.new.self c.args.out.now (carries_so c.jump.ensures.goes _))
+    c.jump.ensures.keeps c.jump.ensures.works.spared alone
 
-pub returns-in_err-open_list-in-Open-clause-goes : goal.returns-in_err-open_list-in-Open-clause-goes
-returns-in_err-open_list-in-Open-clause-goes g c = λ t.
+pub returns-in-Drop-clause-steps : goal.returns-in-Drop-clause-steps
+returns-in-Drop-clause-steps g c = λ alone ordinary.
+    put_steps g.S.Sink.output g.S.Sink.told c.args.program.now c.args.self.now c.drop_locals.new.self c.args.out.now c.args.out.now
+    (carried g.S.Sink.output g.S.Sink.told g.met.S.Sink.nothing c.args.program.now (Ok step.More) c.args.self.now c.drop_locals.new.self c.args.out.now (carries_so c.drop_locals.ensures.goes _))
+    c.drop_locals.ensures.keeps c.drop_locals.ensures.works.spared alone
+
+pub returns-in_ok-open_list-in-Open-clause-steps : goal.returns-in_ok-open_list-in-Open-clause-steps
+returns-in_ok-open_list-in-Open-clause-steps g c = λ alone ordinary.
+    let p = c.args.program.now in
+    let r = c.args.self.now in
+    let new = c.open_list.new.self in
+    let shown = shown_open p r c.running-running.result c.in-Open.instr c.in-Open.to (at_op p r c.running-running.result c.op.result (op.Open c.in-Open.instr c.in-Open.to) c.requires.well c.requires.body c.running-running.ensures.body c.running-running.ensures.pc c.op.ensures c.in-Open.is) ordinary in
+    put_steps g.S.Sink.output g.S.Sink.told p r new c.args.out.now c.open_list.new.out
+    (steps_answered g.S.Sink.output g.S.Sink.told p (Ok _) step.More r new c.args.out.now c.open_list.new.out (c.in_ok-open_list-in-Open.ensures.goes shown))
+    (c.in_ok-open_list-in-Open.ensures.keeps shown) c.in_ok-open_list-in-Open.ensures.works.spared alone
+
+pub returns-in_err-open_list-in-Open-clause-steps : goal.returns-in_err-open_list-in-Open-clause-steps
+returns-in_err-open_list-in-Open-clause-steps g c = λ alone ordinary.
+    let p = c.args.program.now in
+    let r = c.args.self.now in
+    let new = c.open_list.new.self in
     let e = c.in_err-open_list-in-Open.field-0.0 in
-    subst (λ r. Steps g.S.Sink.output g.S.Sink.told c.args.program.now r c.args.self.now c.open_list.new.self c.args.out.now c.open_list.new.out) (sym (stops_with c.from_residual.result e c.from_residual.ensures.1))
-    (steps_answered g.S.Sink.output g.S.Sink.told c.args.program.now (Err e) step.More c.args.self.now c.open_list.new.self c.args.out.now c.open_list.new.out
-    (c.in_err-open_list-in-Open.ensures.goes
-    (shown_next c.args.program.now c.args.self.now t c.running-running.result.pc c.op.result (op.Open c.in-Open.instr c.in-Open.to) c.running-running.ensures.pc c.op.ensures c.in-Open.is)))
+    let shown = shown_open p r c.running-running.result c.in-Open.instr c.in-Open.to (at_op p r c.running-running.result c.op.result (op.Open c.in-Open.instr c.in-Open.to) c.requires.well c.requires.body c.running-running.ensures.body c.running-running.ensures.pc c.op.ensures c.in-Open.is) ordinary in
+    subst (λ x. StepsOn g.S.Sink.output g.S.Sink.told p x r new c.args.out.now c.open_list.new.out) (sym (stops_with c.from_residual.result e c.from_residual.ensures.1))
+    (stopped_steps g.S.Sink.output g.S.Sink.told p r new e c.args.out.now c.open_list.new.out
+    (steps_answered g.S.Sink.output g.S.Sink.told p (Err e) step.More r new c.args.out.now c.open_list.new.out (c.in_err-open_list-in-Open.ensures.goes shown)))
 
-pub returns-in_ok-close_list-in-Close-clause-goes : goal.returns-in_ok-close_list-in-Close-clause-goes
-returns-in_ok-close_list-in-Close-clause-goes g c = λ t.
-    steps_answered g.S.Sink.output g.S.Sink.told c.args.program.now (Ok _) step.More c.args.self.now c.close_list.new.self c.args.out.now c.close_list.new.out
-    (c.in_ok-close_list-in-Close.ensures.goes
-    (shown_next c.args.program.now c.args.self.now t c.running-running.result.pc c.op.result (op.Close c.in-Close.instr) c.running-running.ensures.pc c.op.ensures c.in-Close.is))
+pub returns-in_ok-close_list-in-Close-clause-steps : goal.returns-in_ok-close_list-in-Close-clause-steps
+returns-in_ok-close_list-in-Close-clause-steps g c = λ alone ordinary.
+    let p = c.args.program.now in
+    let r = c.args.self.now in
+    let new = c.close_list.new.self in
+    let shown = shown_close p r c.running-running.result c.in-Close.instr (at_op p r c.running-running.result c.op.result (op.Close c.in-Close.instr) c.requires.well c.requires.body c.running-running.ensures.body c.running-running.ensures.pc c.op.ensures c.in-Close.is) ordinary in
+    put_steps g.S.Sink.output g.S.Sink.told p r new c.args.out.now c.close_list.new.out
+    (steps_answered g.S.Sink.output g.S.Sink.told p (Ok _) step.More r new c.args.out.now c.close_list.new.out (c.in_ok-close_list-in-Close.ensures.goes shown))
+    (c.in_ok-close_list-in-Close.ensures.keeps shown) c.in_ok-close_list-in-Close.ensures.works.spared alone
 
-pub returns-in_err-close_list-in-Close-clause-goes : goal.returns-in_err-close_list-in-Close-clause-goes
-returns-in_err-close_list-in-Close-clause-goes g c = λ t.
+pub returns-in_err-close_list-in-Close-clause-steps : goal.returns-in_err-close_list-in-Close-clause-steps
+returns-in_err-close_list-in-Close-clause-steps g c = λ alone ordinary.
+    let p = c.args.program.now in
+    let r = c.args.self.now in
+    let new = c.close_list.new.self in
     let e = c.in_err-close_list-in-Close.field-0.0 in
-    subst (λ r. Steps g.S.Sink.output g.S.Sink.told c.args.program.now r c.args.self.now c.close_list.new.self c.args.out.now c.close_list.new.out) (sym (stops_with c.from_residual-in_err-close_list-in-Close.result e c.from_residual-in_err-close_list-in-Close.ensures.1))
-    (steps_answered g.S.Sink.output g.S.Sink.told c.args.program.now (Err e) step.More c.args.self.now c.close_list.new.self c.args.out.now c.close_list.new.out
-    (c.in_err-close_list-in-Close.ensures.goes
-    (shown_next c.args.program.now c.args.self.now t c.running-running.result.pc c.op.result (op.Close c.in-Close.instr) c.running-running.ensures.pc c.op.ensures c.in-Close.is)))
+    let shown = shown_close p r c.running-running.result c.in-Close.instr (at_op p r c.running-running.result c.op.result (op.Close c.in-Close.instr) c.requires.well c.requires.body c.running-running.ensures.body c.running-running.ensures.pc c.op.ensures c.in-Close.is) ordinary in
+    subst (λ x. StepsOn g.S.Sink.output g.S.Sink.told p x r new c.args.out.now c.close_list.new.out) (sym (stops_with c.from_residual-in_err-close_list-in-Close.result e c.from_residual-in_err-close_list-in-Close.ensures.1))
+    (stopped_steps g.S.Sink.output g.S.Sink.told p r new e c.args.out.now c.close_list.new.out
+    (steps_answered g.S.Sink.output g.S.Sink.told p (Err e) step.More r new c.args.out.now c.close_list.new.out (c.in_err-close_list-in-Close.ensures.goes shown)))
 
-pub returns-in-Turn-clause-goes : goal.returns-in-Turn-clause-goes
-returns-in-Turn-clause-goes g c = λ t.
-    carried g.S.Sink.output g.S.Sink.told g.met.S.Sink.nothing c.args.program.now c.turn.result c.args.self.now c.turn.new.self c.args.out.now (c.turn.ensures.goes t.names)
-
-pub returns-in-Drop-clause-goes : goal.returns-in-Drop-clause-goes
-returns-in-Drop-clause-goes g c = λ t.
-    carried g.S.Sink.output g.S.Sink.told g.met.S.Sink.nothing c.args.program.now (Ok _) c.args.self.now c.drop_locals.new.self c.args.out.now (carries_so (c.drop_locals.ensures.goes t.names) _)
-
-pub returns-in-Return-clause-goes : goal.returns-in-Return-clause-goes
-returns-in-Return-clause-goes g c = λ t. absurd (shown_next c.args.program.now c.args.self.now t c.running-running.result.pc c.op.result op.Return c.running-running.ensures.pc c.op.ensures c.in-Return.is)
+pub returns-in-Return-clause-steps : goal.returns-in-Return-clause-steps
+returns-in-Return-clause-steps g c = λ alone ordinary.
+    let p = c.args.program.now in
+    let r = c.args.self.now in
+    says_nothing g.S.Sink.output g.S.Sink.told g.met.S.Sink.nothing p (λ given left f. still given p r left f) c.end_body.result c.end_body.new.self c.args.out.now (c.end_body.ensures.moves alone)

@@ -10,7 +10,7 @@ pub setting-requires : goal.setting-requires
 setting-requires c = seen_at c.args.program.now c.args.self.now c.args.running (op.Do c.args.number) c.requires.op
 
 pub returns-clause-stands : goal.returns-clause-stands
-returns-clause-stands c = wanting c.args.program.now c.hand.new.self _ c.in_ok-hand.ensures.stands.waits
+returns-clause-stands c = (wanting c.args.program.now c.hand.new.self _ c.in_ok-hand.ensures.stands.waits, c.requires.sheet)
 
 pub returns-clause-works : goal.returns-clause-works
 returns-clause-works c =

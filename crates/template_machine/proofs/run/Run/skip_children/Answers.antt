@@ -54,4 +54,4 @@ returns-in_err-push-clause-moves c = λ alone.
     let r = c.args.self.now in
     let e = c.in_err-push.field-0.0 in
     subst (λ x. MovesFrom p (λ given left f. body_done given p false c.args.spent r left f) x c.push.new.self) (sym (stops_with c.from_residual.result e c.from_residual.ensures.1))
-    (frame_wants_memory p (λ given left f. body_done given p false c.args.spent r left f) c.push.new.self e (skip_memory c.args.at r.frames.limit r.frames.frames e c.in_err-push.ensures.full))
+    (frame_wants_memory p (λ given left f. body_done given p false c.args.spent r left f) c.push.new.self e (skip_memory c.args.at p.limits.instances r.frames.frames e c.in_err-push.ensures.full))

@@ -19,6 +19,8 @@ use Rattle.template_machine.proofs.Rounding.{loop_ends, loop_goes, loop_spent, l
 use Rattle.template_machine.proofs.Saying.{stops_with}
 use Rattle.template_machine.proofs.Spelled.{out_is}
 use Rattle.template_machine.proofs.run.Run.test.Goals as goal
+use Rattle.template_machine.proofs.Operated.{rest_there, stays_moved, stays_out_of_loop}
+use Rattle.template_machine.proofs.Moving.{moves_pc}
 
 pub instr-instr-requires : goal.instr-instr-requires
 instr-instr-requires c =
@@ -213,3 +215,50 @@ returns-else-holds-clause-goes c =
     let out = out_is it _ (Instr-F.While c.in-While.test _ _) (rolls-While _ _ _) c.in-While.is in
     let truth : truth_of c.in-While.test (sight p r) ≡ Ok false = c.in_ok-holds-in-While.ensures c.requires.body ∙ ap Ok c.if-holds.false in
     loop_ends p r c.end_loop.new.self c.args.running c.args.number c.args.arm c.args.to l.turn l.others it c.in-While.test _ _ _ c.requires c.instr-instr.ensures out truth l.top l.behind c.end_loop.ensures.rest
+
+-- What stays as it was.
+
+pub returns-in_ok-holds-in-If-clause-keeps : goal.returns-in_ok-holds-in-If-clause-keeps
+returns-in_ok-holds-in-If-clause-keeps c =
+    let r = c.args.self.now in
+    let s = c.spend.new.self in
+    let new = c.branch-self.new.self in
+    let to = if c.in_ok-holds-in-If.holds then c.args.running.pc + 1 else c.args.to in (
+      refl,
+      stays_moved r new (with_pc to) (λ o. to) (λ l. l) (moves_pc to)
+          (rest_there r new (record r { frames = new.frames; fuel = s.fuel }) (c.branch-self.ensures.rest ∙ ap (λ (x : Run). record x { frames = new.frames }) c.spend.ensures.same) refl)
+          c.args.running.pc c.requires.pc (c.branch-self.ensures.behind ∙ ap (λ (x : Run). on_body (with_pc to) (reverse x.frames.frames)) c.spend.ensures.same),
+    )
+
+pub returns-in_ok-holds-in-Choose-clause-keeps : goal.returns-in_ok-holds-in-Choose-clause-keeps
+returns-in_ok-holds-in-Choose-clause-keeps c =
+    let r = c.args.self.now in
+    let new = c.branch-self-in-Choose.new.self in
+    let to = if c.in_ok-holds-in-Choose.holds then c.args.running.pc + 1 else c.args.to in (
+      refl,
+      stays_moved r new (with_pc to) (λ o. to) (λ l. l) (moves_pc to) (rest_there r new (record r { frames = new.frames }) c.branch-self-in-Choose.ensures.rest refl) c.args.running.pc c.requires.pc
+          c.branch-self-in-Choose.ensures.behind,
+    )
+
+pub returns-then-holds-clause-keeps : goal.returns-then-holds-clause-keeps
+returns-then-holds-clause-keeps c =
+    let r = c.args.self.now in
+    let s = c.spend-then-holds.new.self in
+    let new = c.begin_turn.new.self in
+    let next = c.args.running.pc + 1 in (
+      refl,
+      stays_moved r new (with_pc next) (λ o. next) (λ l. l) (moves_pc next)
+          (rest_there r new (record r { frames = new.frames; fuel = s.fuel }) (c.begin_turn.ensures.rest ∙ ap (λ (x : Run). record x { frames = new.frames }) c.spend-then-holds.ensures.same) refl)
+          c.args.running.pc c.requires.pc (c.begin_turn.ensures.behind ∙ ap (λ (x : Run). on_body (with_pc next) (reverse x.frames.frames)) c.spend-then-holds.ensures.same),
+    )
+
+pub returns-else-holds-clause-keeps : goal.returns-else-holds-clause-keeps
+returns-else-holds-clause-keeps c =
+    let r = c.args.self.now in
+    let new = c.end_loop.new.self in
+    let l = c.end_loop.ensures.behind in
+    let to = c.args.to in (
+      refl,
+      stays_out_of_loop r new (with_pc to) (λ o. to) (λ l. l) (moves_pc to) (rest_there r new (record r { frames = new.frames }) c.end_loop.ensures.rest refl) c.args.running.pc l.turn l.others c.requires.pc
+          l.top l.behind,
+    )

@@ -1,4 +1,4 @@
-use Rattle.std.proofs.Common.{◌≡◌, ◌+◌, ◌++◌, ◌∷◌, ◌∙◌, [], Err, List, Some, None, get_or, reverse, slice_get, refl, ap, sym, subst, arith}
+use Rattle.std.proofs.Common.{◌≡◌, ◌+◌, ◌++◌, ◌∷◌, ◌∙◌, [], Err, List, Some, None, get_or, reverse, slice_get, refl, ap, sym, subst, arith, take}
 use Rattle.std.proofs.lemmas.Option.{slice_get_past, slice_get_read}
 use Rattle.instr_code.specs.declared.code.Op.TheVariants as op
 use Rattle.sheet_model.specs.declared.instr.Instr.TheOpen.{Instr-F}
@@ -17,7 +17,11 @@ use Rattle.template_machine.proofs.Itemized.{item_carries, turn_spent, walk_carr
 use Rattle.template_machine.proofs.Rounding.{memory_stops}
 use Rattle.template_machine.proofs.Saying.{stops_with}
 use Rattle.template_machine.proofs.Spelled.{out_is}
+use Rattle.template_machine.proofs.Naming.{names_spelled}
 use Rattle.template_machine.proofs.run.Run.turn.Goals as goal
+use Rattle.template_machine.proofs.Operated.{binds_stays, rest_there, stays_out_of_loop}
+use Rattle.template_machine.proofs.Walking.{moves_back}
+use Rattle.frame_stack.specs.Change.{with_locals, with_pc}
 
 pub instr-requires : goal.instr-requires
 instr-requires c =
@@ -50,7 +54,7 @@ returns-clause-works c =
 -- What is done.
 
 pub returns-then-turn-len-clause-goes : goal.returns-then-turn-len-clause-goes
-returns-then-turn-len-clause-goes c = λ names.
+returns-then-turn-len-clause-goes c =
     let it = c.instr.result.now in
     let p = c.args.program.now in
     let r = c.args.self.now in
@@ -61,11 +65,11 @@ returns-then-turn-len-clause-goes c = λ names.
     (slice_get_past items turn (omega (arith, c.if-turn-len.true, c.len.ensures.value))) c.end_walk.ensures.behind c.end_walk.ensures.rest
 
 pub returns-in_err-item-clause-goes : goal.returns-in_err-item-clause-goes
-returns-in_err-item-clause-goes c = λ names.
+returns-in_err-item-clause-goes c =
     subst (λ x. Carries c.args.program.now x c.args.self.now c.args.self.now) (sym (stops_with c.from_residual.result stop.Memory c.from_residual.ensures.1)) (memory_stops c.args.program.now c.args.self.now c.args.self.now)
 
 pub returns-in_err-spend-clause-goes : goal.returns-in_err-spend-clause-goes
-returns-in_err-spend-clause-goes c = λ names.
+returns-in_err-spend-clause-goes c =
     let it = c.instr.result.now in
     let p = c.args.program.now in
     let r = c.args.self.now in
@@ -81,19 +85,19 @@ returns-in_err-spend-clause-goes c = λ names.
     c.in_err-spend.ensures.err c.spend.ensures.same)
 
 pub returns-in_err-push-clause-goes : goal.returns-in_err-push-clause-goes
-returns-in_err-push-clause-goes c = λ names.
+returns-in_err-push-clause-goes c =
     subst (λ x. Carries c.args.program.now x c.args.self.now c.spend.new.self) (sym (stops_with c.from_residual-in_err-push.result stop.Memory c.from_residual-in_err-push.ensures.1)) (memory_stops c.args.program.now c.args.self.now c.spend.new.self)
 
 pub returns-in_err-name-clause-goes : goal.returns-in_err-name-clause-goes
-returns-in_err-name-clause-goes c = λ names.
+returns-in_err-name-clause-goes c =
     subst (λ x. Carries c.args.program.now x c.args.self.now c.spend.new.self) (sym (stops_with c.from_residual-in_err-name.result stop.Memory c.from_residual-in_err-name.ensures.1)) (memory_stops c.args.program.now c.args.self.now c.spend.new.self)
 
 pub returns-in_err-bind_item-clause-goes : goal.returns-in_err-bind_item-clause-goes
-returns-in_err-bind_item-clause-goes c = λ names.
+returns-in_err-bind_item-clause-goes c =
     subst (λ x. Carries c.args.program.now x c.args.self.now c.bind_item.new.self) (sym (stops_with c.from_residual-in_err-bind_item.result stop.Memory c.from_residual-in_err-bind_item.ensures.1)) (memory_stops c.args.program.now c.args.self.now c.bind_item.new.self)
 
 pub returns-clause-goes : goal.returns-clause-goes
-returns-clause-goes c = λ names.
+returns-clause-goes c =
     let it = c.instr.result.now in
     let p = c.args.program.now in
     let r = c.args.self.now in
@@ -110,7 +114,7 @@ returns-clause-goes c = λ names.
     let value = c.in_ok-push.ensures.ok ∙ ap (λ (l : List Atom). l ++ c.in_ok-item.item ∷ []) c.new-value.ensures ∙ ap (λ (y : Atom). y ∷ []) c.in_ok-item.ensures in
     let bound : BindsItem (turn + 1) name (x ∷ []) go s new =
     subst (λ n. BindsItem (turn + 1) n (x ∷ []) go s new) c.in_ok-name.ensures (subst (λ v. BindsItem (turn + 1) c.in_ok-name.name v go s new) value c.in_ok-bind_item.ensures.behind) in
-    item_carries p r new c.args.running c.args.number c.args.to turn (turn + 1) s.fuel it name c.in-ForEachItem.select _ _ items x _ names c.requires c.instr.ensures out c.items_of-turn.ensures next refl c.in_ok-spend.ensures.ok
+    item_carries p r new c.args.running c.args.number c.args.to turn (turn + 1) s.fuel it name c.in-ForEachItem.select _ _ items x _ (names_spelled p r c.requires.well.steady) c.requires c.instr.ensures out c.items_of-turn.ensures next refl c.in_ok-spend.ensures.ok
     (record {
       before = bound.before;
       others = bound.others;
@@ -118,3 +122,21 @@ returns-clause-goes c = λ names.
       behind = bound.behind;
     })
     (c.bind_item.ensures.rest ∙ ap (λ (y : Run). record y { frames = new.frames }) c.spend.ensures.same)
+
+-- What stays as it was.
+
+pub returns-then-turn-len-clause-keeps : goal.returns-then-turn-len-clause-keeps
+returns-then-turn-len-clause-keeps c =
+    let r = c.args.self.now in
+    let new = c.end_walk.new.self in
+    let l = c.end_walk.ensures.behind in
+    let to = c.args.to in (
+      refl,
+      stays_out_of_loop r new (λ f. with_pc to (with_locals (take l.left) f)) (λ o. to) (take l.left) (moves_back to (take l.left))
+          (rest_there r new (record r { frames = new.frames }) c.end_walk.ensures.rest refl) c.args.running.pc l.turn l.others c.requires.pc l.top l.behind,
+    )
+
+pub returns-clause-keeps : goal.returns-clause-keeps
+returns-clause-keeps c =
+    let r = c.args.self.now in
+    (refl, binds_stays r c.spend.new.self c.bind_item.new.self c.args.running.pc c.requires.pc c.spend.ensures.same c.in_ok-bind_item.ensures.behind c.bind_item.ensures.rest)
