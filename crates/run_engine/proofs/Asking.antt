@@ -178,7 +178,7 @@ has-begun-so p before now (spec.Over (ended.Host file fault offset)) h = h
 has-begun-so p before now (spec.Over (ended.Fuel file offset)) h = h
 has-begun-so p before now (spec.Over ended.Memory) h = subst (Begins before) (sym h) (begins-begun p before)
 
-begins-then : (a b c : List ℕ) → Begins a b → Begins b c → Begins a c
+pub begins-then : (a b c : List ℕ) → Begins a b → Begins b c → Begins a c
 begins-then a b c h k = (h.0 ++ k.0, sym (append_assoc a h.0 k.0) ∙ ap (λ xs. xs ++ k.0) h.1 ∙ k.1)
 
 begun-with-now : (p : Piece) (before now : List ℕ) → now ≡ begun_with p before → Begins before now

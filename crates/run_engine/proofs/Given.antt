@@ -66,7 +66,7 @@ end-come : (ds : List Open) (x : Coming) → MainIsHungry ds → to_come (ended_
 end-come [] x h = absurd h
 end-come (d ∷ ds) x h = ap with-document (ended-future d.source x h.1.unended)
 
-come-first : (r : Run) (p : Piece) (x : Coming) → MainIsHungry r.documents → MayCome Main p → to_come (handed r p) x ≡ to_come r.documents (with_piece p x)
+pub come-first : (r : Run) (p : Piece) (x : Coming) → MainIsHungry r.documents → MayCome Main p → to_come (handed r p) x ≡ to_come r.documents (with_piece p x)
 come-first r piece.Start x h m = refl
 come-first r (piece.Bytes bytes) x h m = fed-come r.documents bytes.now x h
 come-first r piece.End x h m = end-come r.documents x h
@@ -102,24 +102,24 @@ by-lists (Wants name) given ds es m left x y h = ap (rest given m left) h
 by-lists (Over o) given ds es m left x y h = ap (rest given m left) h
 
 pub pieces-first : More.PiecesComeFirst
-pieces-first given r m left p x is stands may =
-    by-lists r.stage given (handed r p) r.documents m left x (with_piece p x)
+pieces-first given r p x is stands may =
+    by-lists r.stage given (handed r p) r.documents r.machine r.output.left x (with_piece p x)
     (come-first r p x (subst (λ s. StandsAt s r.files r.documents) is stands) (subst (λ s. MayCome s p) is may))
 
 pub takes-no-more : More.TakesNoMore
-takes-no-more given r m left x y h = by-lists r.stage given r.documents r.documents m left x y (over-come r.documents x y h)
+takes-no-more given r x y h = by-lists r.stage given r.documents r.documents r.machine r.output.left x y (over-come r.documents x y h)
 
 pub begins-with-meaning : GoesOnByCode → HasDocument → More.BeginsWithMeaning
-begins-with-meaning by_code document given m l x said e =
-    subst (λ tree. Ends (code given) (meaning given tree) said e ↔ Ends (flat_code given) (whole given (inner (to_come (at_start given.sheet given.limits).documents x))) said e)
+begins-with-meaning by_code document given m x said e =
+    subst (λ tree. Ends (code given) (meaning given tree) said e ↔ Ends (flat_code given) (whole given (inner (to_come (at_start given.sheet given.limits m).documents x))) said e)
     (ap (λ f. inner (with-document f)) (document given.limits given.sheet.strip given.sheet.cdata [] x.bytes x.ended).0)
-    (by_code given (meaning given (inner (to_come (at_start given.sheet given.limits).documents x))) said e)
+    (by_code given (meaning given (inner (to_come (at_start given.sheet given.limits m).documents x))) said e)
 
 told-stops : (ds : List Open) → WasTold ds → StopsAt Need (inner (to_come ds nothing_yet))
 told-stops [] h = absurd h
 told-stops (d ∷ ds) h = stops Need d.source [] false (End Begun 0 ∷ []) h.0 h.1
 
 pub waits-for-more : EndsAtCut → More.WaitsForMore
-waits-for-more ends given r m left is asks h =
-    subst (λ s. Same (flat_code given) (more_at s given r.documents m left nothing_yet) (Halt Needs)) (sym is)
-    (ends given m asks left Need (to_come r.documents nothing_yet) (told-stops r.documents h))
+waits-for-more ends given r is asks h =
+    subst (λ s. Same (flat_code given) (more_at s given r.documents r.machine r.output.left nothing_yet) (Halt Needs)) (sym is)
+    (ends given r.machine asks r.output.left Need (to_come r.documents nothing_yet) (told-stops r.documents h))

@@ -13,3 +13,7 @@ pub mod Going
 pub mod Standing
 pub mod Future
 pub mod Given
+pub mod Gives
+pub mod Events
+pub mod Reading
+pub mod Pumping

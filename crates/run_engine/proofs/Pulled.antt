@@ -162,6 +162,7 @@ pub hungry : (old new : Core) → Pulls old pull.Need new → IsFed new
 hungry old new p =
     let fed : IsHungry p.after.reader = record {
       unended = p.ended ∙ p.answer.1;
+      told = p.goes.1;
       needs = ap pulled (p.leaves [] false) ∙ p.answer.0;
       within = omega (arith, p.wants refl, p.fed_is, ap (λ (l : Limits). l.input) p.limits);
     } in

@@ -5,7 +5,12 @@ use Rattle.stx_base.specs.declared.limits.Limits.{Limits}
 use Rattle.xml_events.specs.Document.{doc_for}
 use Rattle.xml_events.specs.Source.{Source, ended_there, fed_with, future, source_for}
 use Rattle.sheet_model.specs.declared.sheet.Sheet.{Sheet}
-use Rattle.template_machine.specs.Between.{IsNew, depth_of, fuel_limit_of, fuel_of}
+use Rattle.result_writer.specs.Target.{fresh}
+use Rattle.template_machine.specs.Between.{IsNew, IsOf, depth_of, fuel_limit_of, fuel_of}
+use Rattle.template_machine.specs.Commands.{given_by}
+use Rattle.template_machine.specs.Giving.{params_of}
+use Rattle.template_machine.specs.Written.{bytes_of, notes_of, target_of}
+use Rattle.template_machine.specs.declared.turn.Param.{Param}
 use Rattle.template_machine.specs.declared.output.Output.{Output}
 use Rattle.run_engine.specs.Fitting.{DocumentsFit}
 use Rattle.run_engine.proofs.Feeding.{begun-lists, begun-readable}
@@ -167,18 +172,25 @@ kept-out c o k = record { sound = by c.stage k.sound; stands = k.stands } where
   by (stage.Over outcome) h = tt
 
 -- a run that hasn't begun
-pub run-same : (a b : Run) → a.stage ≡ b.stage → a.files ≡ b.files → a.limits ≡ b.limits → a.strip ≡ b.strip → a.cdata ≡ b.cdata → a.documents ≡ b.documents → a.fuel ≡ b.fuel → a ≡ b
-run-same a b s f l t d o u =
+pub run-same :
+    (a b : Run) → a.stage ≡ b.stage → a.files ≡ b.files → a.limits ≡ b.limits → a.strip ≡ b.strip → a.cdata ≡ b.cdata → a.documents ≡ b.documents → a.fuel ≡ b.fuel → a.machine ≡ b.machine
+    → a.output ≡ b.output
+    → a ≡ b
+run-same a b s f l t d o u m p =
     ap (λ x. record a { stage = x }) s ∙ ap (λ x. record a { stage = b.stage; files = x }) f ∙ ap (λ x. record a { stage = b.stage; files = b.files; limits = x }) l
-    ∙ ap (λ x. record b { strip = x; cdata = a.cdata; documents = a.documents; fuel = a.fuel }) t ∙ ap (λ x. record b { cdata = x; documents = a.documents; fuel = a.fuel }) d ∙ ap (λ x. record b { documents = x; fuel = a.fuel }) o ∙ ap (λ x. record b { fuel = x }) u
+    ∙ ap (λ x. record b { strip = x; cdata = a.cdata; documents = a.documents; fuel = a.fuel; machine = a.machine; output = a.output }) t
+    ∙ ap (λ x. record b { cdata = x; documents = a.documents; fuel = a.fuel; machine = a.machine; output = a.output }) d
+    ∙ ap (λ x. record b { documents = x; fuel = a.fuel; machine = a.machine; output = a.output }) o ∙ ap (λ x. record b { fuel = x; machine = a.machine; output = a.output }) u
+    ∙ ap (λ x. record b { machine = x; output = a.output }) m ∙ ap (λ x. record b { output = x }) p
 
 pub begun-so :
-    (sheet : Sheet) (limits : Limits) (c : Core) (s : Source) → c.stage ≡ stage.New → IsNew c.machine → depth_of c.machine ≡ limits.depth → fuel_of c.machine ≡ limits.fuel → fuel_limit_of c.machine ≡ limits.fuel
+    (sheet : Sheet) (params : List Param) (limits : Limits) (c : Core) (s : Source) → c.stage ≡ stage.New → IsNew c.machine → depth_of c.machine ≡ limits.depth → fuel_of c.machine ≡ limits.fuel → fuel_limit_of c.machine ≡ limits.fuel
     → c.limits ≡ limits → c.strip ≡ sheet.strip → c.cdata ≡ sheet.cdata → c.files ≡ sheet.files
     → c.newest ≡ Some (record { name = None; reader = s }) → c.outer.items ≡ [] → s ≡ source_for limits sheet.strip sheet.cdata
     → ((bytes : List ℕ) (ended : Bool) → future s bytes ended ≡ doc_for limits sheet.strip sheet.cdata bytes ended ∷ []) → DocumentsFit
-    → IsBegun sheet limits c
-begun-so sheet limits c s new machine depth fuel fuel_limit l t d f newest outer begun is fit =
+    → IsOf sheet limits c.machine → params_of c.machine ≡ map given_by params → target_of c.out ≡ fresh limits.elements → bytes_of c.out ≡ [] → notes_of c.out ≡ []
+    → IsBegun sheet params limits c
+begun-so sheet params limits c s new machine depth fuel fuel_limit l t d f newest outer begun is fit of given target bytes notes =
     let main : Document = record { name = None; reader = s } in
     let documents : documents_in c ≡ main ∷ [] = documents-read c main newest ∙ ap (λ os. main ∷ reverse os) outer in
     let over : s.over ≡ None = ap (λ (x : Source). x.over) begun in
@@ -200,9 +212,15 @@ begun-so sheet limits c s new machine depth fuel fuel_limit l t d f newest outer
         sound = subst (λ x. IsSoundAt x c) (sym new) fresh;
         stands = subst (λ x. spec.StandsAt (stage_of x) c.files (opens_of c)) (sym new) tt;
       };
-      run =
-          run-same (run_of c) (at_start sheet limits) (ap stage_of new) f l t d
-          (ap (map open_of) documents ∙ ap (λ (x : Source). record { name = None; source = x } ∷ []) begun) fuel;
+      run = record {
+        is =
+            run-same (run_of c) (at_start sheet limits c.machine) (ap stage_of new) f l t d
+            (ap (map open_of) documents ∙ ap (λ (x : Source). record { name = None; source = x } ∷ []) begun) fuel refl target;
+        of = of;
+        given = given;
+      };
+      bytes = bytes;
+      notes = notes;
     }
 
 -- the wanted document is the newest

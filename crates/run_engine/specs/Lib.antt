@@ -4,4 +4,5 @@ pub mod Asks
 pub mod Pieces
 pub mod Fitting
 pub mod More
+pub mod Does
 pub mod inside

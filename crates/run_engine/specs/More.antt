@@ -46,23 +46,23 @@ abbrev pub more_at : Stage → Given → List Open → Machine → Left → Comi
 more_at New given ds m left x = whole given (inner (to_come ds x))
 more_at stage given ds m left x = rest given m left (to_come ds x)
 
-abbrev pub more : Given → Run → Machine → Left → Coming → Flat_does
-more given r = more_at r.stage given r.documents
+abbrev pub more : Given → Run → Coming → Flat_does
+more given r = more_at r.stage given r.documents r.machine r.output.left
 
 -- Laws.
 
 -- Before it begins it ends as its sheet does, and says the same, on the document that comes.
 abbrev pub BeginsWithMeaning : Type 0
 BeginsWithMeaning =
-    (given : Given) (m : Machine) (left : Left) (x : Coming) (said : List Said) (e : Ending)
+    (given : Given) (m : Machine) (x : Coming) (said : List Said) (e : Ending)
     → Ends (code given) (meaning given (doc_for given.limits given.sheet.strip given.sheet.cdata x.bytes x.ended)) said e
-    ↔ Ends (flat_code given) (more given (at_start given.sheet given.limits) m left x) said e
+    ↔ Ends (flat_code given) (more given (at_start given.sheet given.limits m) x) said e
 
 -- A piece that is handed to a run that asks for it is the first of what is to come.
 abbrev pub PiecesComeFirst : Type 0
 PiecesComeFirst =
-    (given : Given) (r : Run) (m : Machine) (left : Left) (p : Piece) (x : Coming) → r.stage ≡ Main → Stands r → MayCome r.stage p
-    → more given (record r { documents = handed r p }) m left x ≡ more given r m left (with_piece p x)
+    (given : Given) (r : Run) (p : Piece) (x : Coming) → r.stage ≡ Main → Stands r → MayCome r.stage p
+    → more given (record r { documents = handed r p }) x ≡ more given r (with_piece p x)
 
 abbrev pub bytes_in : Piece → List ℕ
 bytes_in (piece.Bytes bytes) = bytes.now
@@ -94,7 +94,7 @@ EndsThere = (ps others : List Piece) → AreBytes ps → coming (ps ++ piece.End
 
 abbrev pub TakesNoMore : Type 0
 TakesNoMore =
-    (given : Given) (r : Run) (m : Machine) (left : Left) (x y : Coming) → AreEnded r.documents → more given r m left x ≡ more given r m left y
+    (given : Given) (r : Run) (x y : Coming) → AreEnded r.documents → more given r x ≡ more given r y
 
 -- all nodes that the bytes of the document settle so far were told
 abbrev pub WasTold : List Open → Type 0
@@ -104,5 +104,5 @@ WasTold (d ∷ ds) = (d.source.known ≡ []) × (pulled (future d.source [] fals
 -- A run to which they were says nothing until more comes: it needs more.
 abbrev pub WaitsForMore : Type 0
 WaitsForMore =
-    (given : Given) (r : Run) (m : Machine) (left : Left) → r.stage ≡ Main → IsAsking m → WasTold r.documents
-    → Same (flat_code given) (more given r m left nothing_yet) (Halt Needs)
+    (given : Given) (r : Run) → r.stage ≡ Main → IsAsking r.machine → WasTold r.documents
+    → Same (flat_code given) (more given r nothing_yet) (Halt Needs)

@@ -1,5 +1,5 @@
 -- How a run stands between two pieces.
-use Rattle.std.specs.Prelude.{◌≡◌, ◌≤◌, ℕ, false, Bool, List, [], ◌∷◌, ◌++◌, Option, Some, None, IsSome, codes, slice_get}
+use Rattle.std.specs.Prelude.{◌≡◌, ◌≤◌, ℕ, false, Bool, List, [], ◌∷◌, ◌++◌, Option, Some, None, IsSome, codes, map, slice_get}
 use Rattle.std.specs.Option.{option_map_or}
 use Rattle.stx_base.specs.Course.{Begins}
 use Rattle.stx_base.specs.declared.fault.Place.{Place}
@@ -7,11 +7,17 @@ use Rattle.stx_base.specs.declared.fault.RunCode.{RunCode}
 use Rattle.stx_base.specs.declared.fault.RunCode.TheVariants.{NoDocument}
 use Rattle.stx_base.specs.declared.fault.XmlFault.{XmlFault}
 use Rattle.stx_base.specs.declared.limits.Limits.{Limits}
+use Rattle.result_writer.specs.Target.{Target, fresh}
 use Rattle.xml_tokens.specs.Reader.{fed}
 use Rattle.xml_events.specs.Source.{Source, future, source_for}
 use Rattle.xml_events.specs.Telling.{pulled}
 use Rattle.xml_events.specs.declared.event.Pull.TheVariants as pull
 use Rattle.sheet_model.specs.declared.sheet.Sheet.{Sheet}
+use Rattle.template_machine.specs.Between.{IsOf}
+use Rattle.template_machine.specs.Commands.{given_by}
+use Rattle.template_machine.specs.Giving.{params_of}
+use Rattle.template_machine.specs.declared.machine.Machine.{Machine}
+use Rattle.template_machine.specs.declared.turn.Param.{Param}
 use Rattle.fault_report.specs.declared.outcome.Outcome.{Outcome}
 use Rattle.fault_report.specs.declared.outcome.Outcome.TheVariants as ended
 use Rattle.run_engine.specs.declared.piece.Piece.{Piece}
@@ -34,7 +40,8 @@ pub record Open : Type 0 where
   pub source : Source
 
 -- A run: how far it is, the names of the sheet's files, the limits, whether texts of white space alone are no nodes and whether CDATA
--- sections are, the documents that are open, the newest first, and the fuel that is left until the main document's next event.
+-- sections are, the documents that are open, the newest first, the fuel that is left until the main document's next event, the machine that
+-- takes the nodes, and what the parts that it put leave of the output.
 pub record Run : Type 0 where
   pub stage : Stage
   pub files : List (List ℕ)
@@ -43,6 +50,8 @@ pub record Run : Type 0 where
   pub cdata : Bool
   pub documents : List Open
   pub fuel : ℕ
+  pub machine : Machine
+  pub output : Target
 
 -- the same sheet is run under the same limits
 pub record IsSameRun (old new : Run) : Type 0 where
@@ -51,9 +60,9 @@ pub record IsSameRun (old new : Run) : Type 0 where
   pub strip : new.strip ≡ old.strip
   pub cdata : new.cdata ≡ old.cdata
 
--- a run that hasn't begun
-abbrev pub at_start : Sheet → Limits → Run
-at_start sheet limits = record {
+-- a run that hasn't begun, with its machine
+abbrev pub at_start : Sheet → Limits → Machine → Run
+at_start sheet limits m = record {
   stage = New;
   files = sheet.files;
   limits = limits;
@@ -61,7 +70,15 @@ at_start sheet limits = record {
   cdata = sheet.cdata;
   documents = record { name = None; source = source_for limits sheet.strip sheet.cdata } ∷ [];
   fuel = limits.fuel;
+  machine = m;
+  output = fresh limits.elements;
 }
+
+-- one of this sheet, with these parameters of the command
+pub record IsAtStart (sheet : Sheet) (params : List Param) (limits : Limits) (r : Run) : Type 0 where
+  pub is : r ≡ at_start sheet limits r.machine
+  pub of : IsOf sheet limits r.machine
+  pub given : params_of r.machine ≡ map given_by params
 
 -- which piece may come: the start once and first, and then what was asked for; none once the run is over
 abbrev pub MayCome : Stage → Piece → Type 0
@@ -97,6 +114,7 @@ outcome_in stage = None
 -- a document goes on, all nodes that its bytes settle were taken, and it has no more bytes than it may have
 pub record IsHungry (s : Source) : Type 0 where
   pub unended : s.lexer.ended ≡ false
+  pub told : s.known ≡ []
   pub needs : pulled (future s [] false) ≡ pull.Need
   pub within : fed s.lexer ≤ s.lexer.limits.input
 

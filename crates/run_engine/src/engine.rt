@@ -4,7 +4,8 @@ ghost use Rattle.std.specs.Prelude.{◌≡◌, ◌+◌, ◌<◌, ◌^◌, IfOk};
 ghost use Rattle.std.specs.Option.{option_copied};
 ghost use Rattle.sheet_model.specs.Sound.{IsSound};
 ghost use Rattle.stx_base.specs.Course.{Begins};
-ghost use Rattle.run_engine.specs.Run.{Absents, HasHead, IsSameRun, MayCome, Says, Stands, at_start, outcome_in};
+ghost use Rattle.run_engine.specs.Does.{Does, InOrder};
+ghost use Rattle.run_engine.specs.Run.{Absents, HasHead, IsAtStart, IsSameRun, MayCome, Says, Stands, outcome_in};
 ghost use Rattle.run_engine.specs.Asks.{AsksFewer, asks_handed, asks_left};
 ghost use Rattle.run_engine.specs.Taking.{Takes, handed};
 
@@ -16,7 +17,7 @@ use sheet_model::Sheet;
 use std::alloc::Global;
 use std::marker::Model;
 use stx_base::{Limits, List, Memory};
-use template_machine::Param;
+use template_machine::{Param, law as machine_law};
 
 /// A run of a sheet, which takes the documents that it reads piece by piece. It does nothing but answer.
 #[derive(Drop)]
@@ -31,6 +32,11 @@ impl Model for Engine {
     ghost use Rattle.run_engine.specs.Run.{Run};
 
     ghost Value = { Run };
+
+    ghost use Rattle.std.specs.Coded.{codes};
+    ghost use Rattle.template_machine.specs.contracts.machine.Machine as machine;
+
+    ghost coded = { Prim.hlevel (codes, machine.the_row.coded) };
 
     ghost use Rattle.run_engine.specs.inside.Engines.{IsSoundIn, run_in};
 
@@ -50,7 +56,7 @@ impl Engine {
         requires sound { IsSound sheet }
         requires depth { limits.depth + 1 < 2 ^ 32 }
         requires elements { limits.elements + 1 < 2 ^ 32 }
-        ensures { IfOk result (λ e. e ≡ at_start sheet limits) }
+        ensures { IfOk result (IsAtStart sheet params limits) }
     {
         Ok(Engine {
             core: Core::new(alloc, sheet, params, limits)?,
@@ -93,7 +99,11 @@ impl Engine {
         ensures notes { Begins notes.old.items notes.new.items }
         // A result begins with its head, before all else.
         ensures head { HasHead piece.entry out.old.items self.new.stage out.new.items }
+        // Where the sheet takes the nodes of the main document alone, each list in order: what was appended, and then what is still to come,
+        // is what was to come of the piece and all that follows it.
+        ensures does { InOrder self.old → Does piece.entry self.old self.new out.old.items out.new.items notes.old.items notes.new.items }
     {
+        machine_law::waiting();
         let pumped = self.core.step(piece, out);
         self.core.out.exchange(&mut self.bytes, &mut self.notes);
         match append_both(out, &mut self.bytes, notes, &mut self.notes) {

@@ -18,6 +18,9 @@ pub fn append_both(
     // All of them are.
     ensures all_bytes { OnOk result (bytes.new.items ≡ bytes.old.items ++ more.old.items) }
     ensures all_notes { OnOk result (notes.new.items ≡ notes.old.items ++ others.old.items) }
+    // After a refusal a beginning of them is.
+    ensures some_bytes { OnErr result (Begins bytes.new.items (bytes.old.items ++ more.old.items)) }
+    ensures some_notes { OnErr result (Begins notes.new.items (notes.old.items ++ others.old.items)) }
     // None is left to be appended once more.
     ensures no_bytes { OnOk result (more.new.items ≡ []) }
     ensures no_notes { OnOk result (others.new.items ≡ []) }

@@ -1,14 +1,17 @@
 //! What an engine does with a piece.
 
-ghost use Rattle.std.specs.Prelude.{◌≡◌, suc, ◌+◌, ◌<◌, ◌^◌, [], None, Some, IsSome, IfOk, OnOk, OnErr};
+ghost use Rattle.std.specs.Prelude.{◌≡◌, ◌⊎◌, true, suc, ◌+◌, ◌<◌, ◌^◌, [], None, Some, IsSome, IfOk, OnOk, OnErr};
 ghost use Rattle.std.specs.Option.{option_copied};
 ghost use Rattle.stx_base.specs.declared.fault.RunCode.TheVariants.{NoDocument};
 ghost use Rattle.sheet_model.specs.Sound.{IsSound};
+ghost use Rattle.template_machine.specs.Ending.{Done, Faulted, Malformed, Spent};
+ghost use Rattle.run_engine.specs.Does.{InOrder};
 ghost use Rattle.run_engine.specs.Run as spec;
 ghost use Rattle.run_engine.specs.Run.{Absents, HasBegun, Says, begun_with, StopsWith, file_at, file_of, outcome_in};
 ghost use Rattle.run_engine.specs.Asks.{AsksFewer, asks_handed};
 ghost use Rattle.run_engine.specs.Taking.{Takes, ended_first, fed_first, handed};
 ghost use Rattle.run_engine.specs.inside.Cores.{Adds, Advances, Answers, Closes, Hands, HasFault, HasTold, IsBegun, IsFed, IsSame, IsKept, IsTurned, IsUnended, IsWanting, MayTake, Opens, Pulls, Reads, Settles, Waits, asks_asked, asks_of, documents_in, is_main, most_at, opens_of, run_of, stage_of};
+ghost use Rattle.run_engine.specs.inside.Gives.{Gives, GivesAfter, GivesFrom, GivesPiece, ReadsInOrder, Runs, TellsEnd, TellsIn, gives_on, stage_after};
 ghost use Rattle.run_engine.specs.declared.run.Stage.TheVariants as stage;
 ghost use Rattle.run_engine.specs.declared.document.Document.{Document};
 ghost use Rattle.run_engine.specs.declared.piece.Pumped.TheVariants as pumped;
@@ -72,7 +75,7 @@ impl Core {
         requires sound { IsSound sheet }
         requires depth { limits.depth + 1 < 2 ^ 32 }
         requires elements { limits.elements + 1 < 2 ^ 32 }
-        ensures { IfOk result (IsBegun sheet limits) }
+        ensures { IfOk result (IsBegun sheet params limits) }
     {
         match sheet.files.copy(alloc) {
             Ok(files) => Core::with_files(alloc, files, sheet, params, limits),
@@ -96,7 +99,7 @@ impl Core {
         requires depth { limits.depth + 1 < 2 ^ 32 }
         requires elements { limits.elements + 1 < 2 ^ 32 }
         requires files { files ≡ sheet.files }
-        ensures { IfOk result (IsBegun sheet limits) }
+        ensures { IfOk result (IsBegun sheet params limits) }
     {
         law::documents();
         let (strip, cdata) = (sheet.strip, sheet.cdata);
@@ -157,6 +160,9 @@ impl Core {
         ensures asks { AsksFewer (stage_of self.new.stage) (asks_handed (run_of self.old) piece.entry) (asks_of self.new) }
         ensures absent { Absents piece.entry (stage_of self.new.stage) }
         ensures out { HasBegun piece.entry out.old.items (stage_of self.new.stage) out.new.items }
+        // Where memory was wanting for the head, nothing else was done.
+        ensures begun { (out.new.items ≡ begun_with piece.entry out.old.items) ⊎ ((out.new.items ≡ out.old.items) × (self.new.out ≡ self.old.out)) }
+        ensures gives { InOrder (run_of self.old) → GivesPiece piece.entry (stage_of self.new.stage) self.old self.new }
     {
         match begin(piece, out) {
             Ok(()) => self.take(piece),
@@ -172,6 +178,7 @@ impl Core {
         ensures took { Takes (stage_of self.new.stage) (handed (run_of self.old) piece.entry) (opens_of self.new) }
         ensures asks { AsksFewer (stage_of self.new.stage) (asks_handed (run_of self.old) piece.entry) (asks_of self.new) }
         ensures absent { Absents piece.entry (stage_of self.new.stage) }
+        ensures gives { InOrder (run_of self.old) → GivesPiece piece.entry (stage_of self.new.stage) self.old self.new }
     {
         match piece {
             Piece::Start => {
@@ -205,6 +212,7 @@ impl Core {
         ensures given { OnOk result (opens_of self.new ≡ fed_first piece.now (opens_of self.old)) }
         ensures same { IsSame self.old self.new }
         ensures machine { self.new.machine ≡ self.old.machine }
+        ensures out { self.new.out ≡ self.old.out }
     {
         match &mut self.newest {
             Some(document) => document.reader.feed(piece),
@@ -220,6 +228,7 @@ impl Core {
         ensures given { opens_of self.new ≡ ended_first (opens_of self.old) }
         ensures same { IsSame self.old self.new }
         ensures machine { self.new.machine ≡ self.old.machine }
+        ensures out { self.new.out ≡ self.old.out }
     {
         match &mut self.newest {
             Some(document) => document.reader.finish(),
@@ -281,7 +290,8 @@ impl Core {
 
     fn go_from(&mut self, turn: Turn) -> Pumped
         requires { IsTurned turn self.old }
-        ensures { Answers (most_at turn (asks_of self.old)) self.old result self.new }
+        ensures answers { Answers (most_at turn (asks_of self.old)) self.old result self.new }
+        ensures gives { GivesAfter turn (stage_of self.new.stage) self.old self.new }
     {
         match self.settle(turn) {
             Some(pumped) => pumped,
@@ -292,7 +302,8 @@ impl Core {
     // Takes all events that are ready.
     fn go_on(&mut self) -> Pumped
         requires { Reads self.old }
-        ensures { Answers (asks_of self.old) self.old result self.new }
+        ensures answers { Answers (asks_of self.old) self.old result self.new }
+        ensures gives { ReadsInOrder self.old → Gives (stage_of self.new.stage) self.old self.new }
     {
         loop {
             if let Some(pumped) = self.advance() {
@@ -305,8 +316,10 @@ impl Core {
     #[inline(always)]
     fn advance(&mut self) -> Option<Pumped>
         requires { Reads self.old }
-        ensures { Advances self.old result self.new }
+        ensures advances { Advances self.old result self.new }
+        ensures gives { ReadsInOrder self.old → Gives (stage_after result (stage_of self.new.stage)) self.old self.new }
     {
+        machine_law::waiting();
         match self.pull() {
             Pull::Event(event) => self.hand(event),
             Pull::Need => Some(self.ask()),
@@ -320,7 +333,8 @@ impl Core {
     #[inline(always)]
     fn hand(&mut self, event: Event) -> Option<Pumped>
         requires { HasTold event self.old }
-        ensures { Hands self.old result self.new }
+        ensures hands { Hands self.old result self.new }
+        ensures gives { ReadsInOrder self.old → GivesFrom (λ given. Runs given self.old) (gives_on event self.old) (stage_after result (stage_of self.new.stage)) self.old self.new }
     {
         self.close(&event);
         let turn = self.machine.on_event(event, &mut self.out);
@@ -355,7 +369,9 @@ impl Core {
     fn ask(&mut self) -> Pumped
         requires reads { Reads self.old }
         requires hungry { IsFed self.old }
-        ensures { Answers (asks_asked self.old) self.old result self.new }
+        ensures answers { Answers (asks_asked self.old) self.old result self.new }
+        ensures kept { self.new ≡ record self.old { stage = self.new.stage } }
+        ensures main { is_main self.old.newest ≡ true → stage_of self.new.stage ≡ spec.Main }
     {
         if self.reads_main() {
             self.stage = Stage::Main;
@@ -376,7 +392,9 @@ impl Core {
     #[inline(always)]
     fn settle(&mut self, turn: Turn) -> Option<Pumped>
         requires { IsTurned turn self.old }
-        ensures { Settles turn self.old result self.new }
+        ensures settles { Settles turn self.old result self.new }
+        ensures kept { self.new ≡ record self.old { stage = self.new.stage } }
+        ensures tells { TellsIn self.old.files turn result (stage_of self.new.stage) }
     {
         match turn {
             Turn::More => None,
@@ -390,7 +408,8 @@ impl Core {
 
     fn want(&mut self, name: Text) -> Pumped
         requires { Waits self.old }
-        ensures { Answers (suc (asks_of self.old)) self.old result self.new }
+        ensures answers { Answers (suc (asks_of self.old)) self.old result self.new }
+        ensures kept { self.new ≡ record self.old { stage = self.new.stage } }
     {
         match name.copy(self.alloc) {
             Ok(wanted) => {
@@ -405,6 +424,8 @@ impl Core {
     fn stop(&mut self, fault: RunFault) -> Pumped
         ensures answers { Answers 0 self.old result self.new }
         ensures code { StopsWith fault.code (stage_of self.new.stage) }
+        ensures kept { self.new ≡ record self.old { stage = self.new.stage } }
+        ensures tells { TellsEnd self.old.files (Faulted fault) (stage_of self.new.stage) }
     {
         let RunFault { code, at } = fault;
         match self.file(at) {
@@ -419,7 +440,9 @@ impl Core {
 
     // An instruction needs more fuel than there is.
     fn spend(&mut self, at: Place) -> Pumped
-        ensures { Answers 0 self.old result self.new }
+        ensures answers { Answers 0 self.old result self.new }
+        ensures kept { self.new ≡ record self.old { stage = self.new.stage } }
+        ensures tells { TellsEnd self.old.files (Spent at) (stage_of self.new.stage) }
     {
         match self.file(at) {
             Ok(file) => self.end(Outcome::Fuel {
@@ -443,7 +466,9 @@ impl Core {
     // The newest document has a fault.
     fn fail(&mut self, fault: XmlFault) -> Pumped
         requires { HasFault fault self.old }
-        ensures { Answers 0 self.old result self.new }
+        ensures answers { Answers 0 self.old result self.new }
+        ensures kept { self.new ≡ record self.old { stage = self.new.stage } }
+        ensures tells { (d : Document) → self.old.newest ≡ Some d → TellsEnd self.old.files (Malformed d.name fault) (stage_of self.new.stage) }
     {
         match self.newest_file() {
             Ok(file) => self.end(Outcome::Xml { file, fault }),
@@ -472,7 +497,9 @@ impl Core {
 
     fn done(&mut self) -> Pumped
         requires { documents_in self.old ≡ [] }
-        ensures { Answers 0 self.old result self.new }
+        ensures answers { Answers 0 self.old result self.new }
+        ensures kept { self.new ≡ record self.old { stage = self.new.stage } }
+        ensures tells { TellsEnd self.old.files Done (stage_of self.new.stage) }
     {
         self.stage = Stage::Over(Outcome::Done);
         Pumped::Done

@@ -2,22 +2,28 @@
 use Rattle.std.specs.Prelude.{◌≡◌, ◌≤◌, ◌<◌, ◌+◌, ◌*◌, ℕ, suc, cond, true, false, Bool, List, [], ◌∷◌, ◌++◌, map, reverse, length, Option, Some, None, is_none}
 use Rattle.stx_base.specs.declared.fault.XmlFault.{XmlFault}
 use Rattle.stx_base.specs.declared.limits.Limits.{Limits}
+use Rattle.result_writer.specs.Target.{Left}
 use Rattle.xml_tokens.specs.Reader.{fed}
 use Rattle.xml_events.specs.Answering.{Counts, EndsWhole, Goes}
 use Rattle.xml_events.specs.Source.{IsAnswer, Leaves, Shrinks, Source, events_left, future}
 use Rattle.xml_events.specs.Telling.{pulled}
+use Rattle.xml_events.specs.Tree.{Future}
 use Rattle.xml_events.specs.declared.event.Event.{Event}
 use Rattle.xml_events.specs.declared.event.Event.TheVariants as event
 use Rattle.xml_events.specs.declared.event.Pull.{Pull}
 use Rattle.xml_events.specs.declared.event.Pull.TheVariants as pull
 use Rattle.sheet_model.specs.declared.sheet.Sheet.{Sheet}
-use Rattle.template_machine.specs.Between.{Continues, IsAsking, IsAskingForDocument, IsNew, behind, depth_of, documents_of, fuel_at, fuel_limit_of, fuel_of, mains_behind, mains_of}
+use Rattle.template_machine.specs.Between.{Continues, IsAsking, IsAskingForDocument, IsNew, IsOf, behind, depth_of, documents_of, fuel_at, fuel_limit_of, fuel_of, mains_behind, mains_of}
+use Rattle.template_machine.specs.Giving.{RunsInOrder, params_of, rest}
+use Rattle.template_machine.specs.Job.{Given}
+use Rattle.template_machine.specs.Written.{bytes_of, notes_of, target_of}
+use Rattle.template_machine.specs.declared.turn.Param.{Param}
 use Rattle.template_machine.specs.declared.turn.Turn.{Turn}
 use Rattle.template_machine.specs.declared.turn.Turn.TheVariants as turn
 use Rattle.run_engine.specs.Asks.{AsksFewer, asks_left, main_events}
 use Rattle.run_engine.specs.Fitting.{Fits}
 use Rattle.run_engine.specs.Run as spec
-use Rattle.run_engine.specs.Run.{IsHungry, MayCome, Open, Run, Says, Stands, at_start}
+use Rattle.run_engine.specs.Run.{IsAtStart, IsHungry, MayCome, Open, Run, Says, Stands}
 use Rattle.run_engine.specs.Taking.{AreEnded, Takes, Took, opened_first}
 use Rattle.run_engine.specs.declared.run.Core.{Core}
 use Rattle.run_engine.specs.declared.run.Stage.{Stage}
@@ -56,6 +62,8 @@ run_of c = record {
   cdata = c.cdata;
   documents = opens_of c;
   fuel = fuel_of c.machine;
+  machine = c.machine;
+  output = target_of c.out;
 }
 
 -- the same sheet is run under the same limits
@@ -131,10 +139,12 @@ pub record IsKept (c : Core) : Type 0 where
   pub sound : IsSoundAt c.stage c
   pub stands : Stands (run_of c)
 
--- a run of a sheet that hasn't begun
-pub record IsBegun (sheet : Sheet) (limits : Limits) (c : Core) : Type 0 where
+-- a run of a sheet that hasn't begun, and has put nothing
+pub record IsBegun (sheet : Sheet) (params : List Param) (limits : Limits) (c : Core) : Type 0 where
   pub sound : IsKept c
-  pub run : run_of c ≡ at_start sheet limits
+  pub run : IsAtStart sheet params limits (run_of c)
+  pub bytes : bytes_of c.out ≡ []
+  pub notes : notes_of c.out ≡ []
 
 pub record MayTake (c : Core) (p : Piece) : Type 0 where
   pub sound : IsKept c
@@ -219,6 +229,12 @@ pub record Pulls (old : Core) (p : Pull) (new : Core) : Type 0 where
   pub fuel_limit : fuel_limit_of new.machine ≡ fuel_limit_of old.machine
   pub outer : new.outer.items ≡ old.outer.items
   pub own : IsSame old new
+  pub out : new.out ≡ old.out
+  -- the machine does what it did
+  pub of : (sheet : Sheet) (limits : Limits) → IsOf sheet limits old.machine → IsOf sheet limits new.machine
+  pub params : params_of new.machine ≡ params_of old.machine
+  pub order : RunsInOrder old.machine → RunsInOrder new.machine
+  pub gives : (given : Given) (left : Left) (f : Future) → rest given old.machine left f ≡ rest given new.machine left f
 
 -- the documents that are open behind an event of the newest
 abbrev pub documents_behind : Event → Core → List Document

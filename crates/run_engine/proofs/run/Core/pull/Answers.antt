@@ -33,4 +33,9 @@ returns c =
       fuel_limit = c.exchange_spare.ensures.fuel_limit;
       outer = refl;
       own = record { files = refl; limits = refl; strip = refl; cdata = refl };
+      out = refl;
+      of = c.exchange_spare.ensures.of;
+      params = c.exchange_spare.ensures.params;
+      order = c.exchange_spare.ensures.order.1;
+      gives = c.exchange_spare.ensures.rest;
     }

@@ -9,6 +9,9 @@ use Rattle.run_engine.specs.inside.Cores.{MayTake, opens_of, run_of, stage_of, a
 use Rattle.run_engine.specs.declared.run.Core.{Core}
 use Rattle.run_engine.proofs.Asking.{lacks, same-then}
 use Rattle.run_engine.proofs.Feeding.{opened-turned, started}
+use Rattle.run_engine.specs.Does.{InOrderAt}
+use Rattle.run_engine.specs.inside.Gives.{GivesPiece}
+use Rattle.run_engine.proofs.Reading.{bytes-give, end-gives, never-absent, never-opened, new-at, piece-lacks, start-gives}
 use Rattle.run_engine.proofs.Standing.{fresh-at, reads-by, reads-by-end, unended-by, unended-by-end, waits-absent, waits-by, wanting}
 use Rattle.run_engine.proofs.run.Core.take.Goals as goal
 
@@ -92,10 +95,10 @@ returns-in-Start-clause-absent c = subst (λ p. Absents p (stage_of c.go_from.ne
 pub returns-in-Start-clause-took : goal.returns-in-Start-clause-took
 returns-in-Start-clause-took c =
     let t = c.go_from.new.self in
-    subst (λ p. Takes (stage_of t.stage) (handed (run_of c.args.self.now) p) (opens_of t)) (sym c.in-Start.is) c.go_from.ensures.took
+    subst (λ p. Takes (stage_of t.stage) (handed (run_of c.args.self.now) p) (opens_of t)) (sym c.in-Start.is) c.go_from.ensures.answers.took
 
 pub returns-in-Ok-clause-same : goal.returns-in-Ok-clause-same
-returns-in-Ok-clause-same c = same-then c.args.self.now c.feed.new.self c.go_on.new.self c.feed.ensures.same c.go_on.ensures.same
+returns-in-Ok-clause-same c = same-then c.args.self.now c.feed.new.self c.go_on.new.self c.feed.ensures.same c.go_on.ensures.answers.same
 
 pub returns-in-Ok-clause-absent : goal.returns-in-Ok-clause-absent
 returns-in-Ok-clause-absent c = subst (λ p. Absents p (stage_of c.go_on.new.self.stage)) (sym c.in-Bytes.is) tt
@@ -103,7 +106,7 @@ returns-in-Ok-clause-absent c = subst (λ p. Absents p (stage_of c.go_on.new.sel
 pub returns-in-Ok-clause-took : goal.returns-in-Ok-clause-took
 returns-in-Ok-clause-took c =
     let t = c.go_on.new.self in
-    subst (λ p. Takes (stage_of t.stage) (handed (run_of c.args.self.now) p) (opens_of t)) (sym c.in-Bytes.is) (subst (λ ds. Takes (stage_of t.stage) ds (opens_of t)) c.in-Ok.ensures.given c.go_on.ensures.took)
+    subst (λ p. Takes (stage_of t.stage) (handed (run_of c.args.self.now) p) (opens_of t)) (sym c.in-Bytes.is) (subst (λ ds. Takes (stage_of t.stage) ds (opens_of t)) c.in-Ok.ensures.given c.go_on.ensures.answers.took)
 
 pub returns-in-Err-clause-same : goal.returns-in-Err-clause-same
 returns-in-Err-clause-same c =
@@ -117,7 +120,7 @@ pub returns-in-Err-clause-absent : goal.returns-in-Err-clause-absent
 returns-in-Err-clause-absent c = subst (λ p. Absents p (stage_of c.lack.new.self.stage)) (sym c.in-Bytes.is) tt
 
 pub returns-in-End-clause-same : goal.returns-in-End-clause-same
-returns-in-End-clause-same c = same-then c.args.self.now c.finish.new.self c.go_on-in-End.new.self c.finish.ensures.same c.go_on-in-End.ensures.same
+returns-in-End-clause-same c = same-then c.args.self.now c.finish.new.self c.go_on-in-End.new.self c.finish.ensures.same c.go_on-in-End.ensures.answers.same
 
 pub returns-in-End-clause-absent : goal.returns-in-End-clause-absent
 returns-in-End-clause-absent c = subst (λ p. Absents p (stage_of c.go_on-in-End.new.self.stage)) (sym c.in-End.is) tt
@@ -125,12 +128,12 @@ returns-in-End-clause-absent c = subst (λ p. Absents p (stage_of c.go_on-in-End
 pub returns-in-End-clause-took : goal.returns-in-End-clause-took
 returns-in-End-clause-took c =
     let t = c.go_on-in-End.new.self in
-    subst (λ p. Takes (stage_of t.stage) (handed (run_of c.args.self.now) p) (opens_of t)) (sym c.in-End.is) (subst (λ ds. Takes (stage_of t.stage) ds (opens_of t)) c.finish.ensures.given c.go_on-in-End.ensures.took)
+    subst (λ p. Takes (stage_of t.stage) (handed (run_of c.args.self.now) p) (opens_of t)) (sym c.in-End.is) (subst (λ ds. Takes (stage_of t.stage) ds (opens_of t)) c.finish.ensures.given c.go_on-in-End.ensures.answers.took)
 
 pub returns-in-Ok-open-clause-same : goal.returns-in-Ok-open-clause-same
 returns-in-Ok-open-clause-same c =
     let w : Core = c.open.new.self in
-    let on = c.go_from-in-Ok-open.ensures.same in
+    let on = c.go_from-in-Ok-open.ensures.answers.same in
     same-then c.args.self.now w c.go_from-in-Ok-open.new.self c.open.ensures.same (record { files = on.files; limits = on.limits; strip = on.strip; cdata = on.cdata })
 
 pub returns-in-Ok-open-clause-absent : goal.returns-in-Ok-open-clause-absent
@@ -139,7 +142,7 @@ returns-in-Ok-open-clause-absent c = subst (λ p. Absents p (stage_of c.go_from-
 pub returns-in-Ok-open-clause-took : goal.returns-in-Ok-open-clause-took
 returns-in-Ok-open-clause-took c =
     let t = c.go_from-in-Ok-open.new.self in
-    subst (λ p. Takes (stage_of t.stage) (handed (run_of c.args.self.now) p) (opens_of t)) (sym c.in-Opened.is) (subst (λ ds. Takes (stage_of t.stage) ds (opens_of t)) c.in-Ok-open.ensures.opens.given c.go_from-in-Ok-open.ensures.took)
+    subst (λ p. Takes (stage_of t.stage) (handed (run_of c.args.self.now) p) (opens_of t)) (sym c.in-Opened.is) (subst (λ ds. Takes (stage_of t.stage) ds (opens_of t)) c.in-Ok-open.ensures.opens.given c.go_from-in-Ok-open.ensures.answers.took)
 
 pub returns-in-Err-open-clause-same : goal.returns-in-Err-open-clause-same
 returns-in-Err-open-clause-same c =
@@ -167,14 +170,14 @@ returns-in-Start-clause-asks c =
     let t = c.go_from.new.self in
     subst (λ p. AsksFewer (stage_of t.stage) (asks_handed (run_of s) p) (asks_of t)) (sym c.in-Start.is)
     (fewer-then (stage_of t.stage) (most_at c.start-turn.result (asks_of w)) (asks_of s) (asks_of t)
-    (burned c.start-turn.result (main_events (opens_of s)) (main_events (opens_of s)) s.limits.fuel (fuel_of s.machine) (fuel_of w.machine) (omega arith) c.start-turn.ensures.fuel) c.go_from.ensures.asks)
+    (burned c.start-turn.result (main_events (opens_of s)) (main_events (opens_of s)) s.limits.fuel (fuel_of s.machine) (fuel_of w.machine) (omega arith) c.start-turn.ensures.fuel) c.go_from.ensures.answers.asks)
 
 pub returns-in-Ok-clause-asks : goal.returns-in-Ok-clause-asks
 returns-in-Ok-clause-asks c =
     let s = c.args.self.now in
     let t = c.go_on.new.self in
     subst (λ p. AsksFewer (stage_of t.stage) (asks_handed (run_of s) p) (asks_of t)) (sym c.in-Bytes.is)
-    (subst (λ n. AsksFewer (stage_of t.stage) n (asks_of t)) (asks-handed s c.feed.new.self (handed (run_of s) (piece.Bytes c.in-Bytes.bytes)) c.in-Ok.ensures.given c.feed.ensures.same.limits (ap fuel_of c.feed.ensures.machine)) c.go_on.ensures.asks)
+    (subst (λ n. AsksFewer (stage_of t.stage) n (asks_of t)) (asks-handed s c.feed.new.self (handed (run_of s) (piece.Bytes c.in-Bytes.bytes)) c.in-Ok.ensures.given c.feed.ensures.same.limits (ap fuel_of c.feed.ensures.machine)) c.go_on.ensures.answers.asks)
 
 pub returns-in-Err-clause-asks : goal.returns-in-Err-clause-asks
 returns-in-Err-clause-asks c = subst (λ (x : Core). AsksFewer (stage_of x.stage) (asks_handed (run_of c.args.self.now) c.args.piece) (asks_of x)) (sym c.lack.ensures.over) tt
@@ -184,7 +187,7 @@ returns-in-End-clause-asks c =
     let s = c.args.self.now in
     let t = c.go_on-in-End.new.self in
     subst (λ p. AsksFewer (stage_of t.stage) (asks_handed (run_of s) p) (asks_of t)) (sym c.in-End.is)
-    (subst (λ n. AsksFewer (stage_of t.stage) n (asks_of t)) (asks-handed s c.finish.new.self (handed (run_of s) piece.End) c.finish.ensures.given c.finish.ensures.same.limits (ap fuel_of c.finish.ensures.machine)) c.go_on-in-End.ensures.asks)
+    (subst (λ n. AsksFewer (stage_of t.stage) n (asks_of t)) (asks-handed s c.finish.new.self (handed (run_of s) piece.End) c.finish.ensures.given c.finish.ensures.same.limits (ap fuel_of c.finish.ensures.machine)) c.go_on-in-End.ensures.answers.asks)
 
 pub returns-in-Ok-open-clause-asks : goal.returns-in-Ok-open-clause-asks
 returns-in-Ok-open-clause-asks c =
@@ -198,7 +201,7 @@ returns-in-Ok-open-clause-asks c =
     (asks-handed s o (handed (run_of s) piece.Opened) c.in-Ok-open.ensures.opens.given c.open.ensures.same.limits (ap (λ (x : Core). fuel_of x.machine) same))
     (fewer-then (stage_of t.stage) (most_at c.document_opened-turn.result (asks_of w)) (asks_of o) (asks_of t)
     (burned c.document_opened-turn.result (main_events (opens_of o)) (main_events (opens_of o)) o.limits.fuel (fuel_of o.machine) (fuel_of w.machine) (omega arith) c.document_opened-turn.ensures.fuel)
-    c.go_from-in-Ok-open.ensures.asks))
+    c.go_from-in-Ok-open.ensures.answers.asks))
 
 pub returns-in-Err-open-clause-asks : goal.returns-in-Err-open-clause-asks
 returns-in-Err-open-clause-asks c =
@@ -208,3 +211,42 @@ pub returns-in-Absent-clause-asks : goal.returns-in-Absent-clause-asks
 returns-in-Absent-clause-asks c =
     let t = c.miss.new.self in
     fewer-then (stage_of t.stage) 0 (asks_handed (run_of c.args.self.now) c.args.piece) (asks_of t) (omega arith) c.miss.ensures.answers.asks
+
+pub returns-in-Start-clause-gives : goal.returns-in-Start-clause-gives
+returns-in-Start-clause-gives c = λ order.
+    let s = c.args.self.now in
+    let w : Core = record s { machine = c.start-turn.new.self; out = c.start-turn.new.out } in
+    let t = c.go_from.new.self in
+    let m = subst (MayTake s) c.in-Start.is c.requires in
+    let is-new = new-at s.stage m.may in
+    let ordinary = subst (λ x. InOrderAt x s.machine (opens_of s)) is-new order in
+    subst (λ p. GivesPiece p (stage_of t.stage) s t) (sym c.in-Start.is)
+    (start-gives s w t c.start-turn.result is-new (fresh-at s s.stage m.may m.sound.sound) (c.start-turn.ensures.gives ordinary) (c.start-turn.ensures.alone ordinary) c.start-turn.ensures.of c.start-turn.ensures.params refl (stage_of t.stage) c.go_from.ensures.gives)
+
+pub returns-in-Ok-clause-gives : goal.returns-in-Ok-clause-gives
+returns-in-Ok-clause-gives c = λ order.
+    let s = c.args.self.now in
+    let t = c.go_on.new.self in
+    let m = subst (MayTake s) c.in-Bytes.is c.requires in
+    subst (λ p. GivesPiece p (stage_of t.stage) s t) (sym c.in-Bytes.is)
+    (bytes-give c.in-Bytes.bytes s c.feed.new.self t m.may m.sound order c.feed.ensures.machine c.feed.ensures.out c.feed.ensures.same.files c.in-Ok.ensures.given (stage_of t.stage) c.go_on.ensures.gives)
+
+pub returns-in-Err-clause-gives : goal.returns-in-Err-clause-gives
+returns-in-Err-clause-gives c = λ order. piece-lacks c.args.piece c.args.self.now c.feed.new.self c.lack.new.self c.feed.ensures.machine c.feed.ensures.out c.lack.ensures.over
+
+pub returns-in-End-clause-gives : goal.returns-in-End-clause-gives
+returns-in-End-clause-gives c = λ order.
+    let s = c.args.self.now in
+    let t = c.go_on-in-End.new.self in
+    let m = subst (MayTake s) c.in-End.is c.requires in
+    subst (λ p. GivesPiece p (stage_of t.stage) s t) (sym c.in-End.is)
+    (end-gives s c.finish.new.self t m.may m.sound order c.finish.ensures.machine c.finish.ensures.out c.finish.ensures.same.files c.finish.ensures.given (stage_of t.stage) c.go_on-in-End.ensures.gives)
+
+pub returns-in-Ok-open-clause-gives : goal.returns-in-Ok-open-clause-gives
+returns-in-Ok-open-clause-gives c = λ order. never-opened c.args.self.now (subst (MayTake c.args.self.now) c.in-Opened.is c.requires).may order
+
+pub returns-in-Err-open-clause-gives : goal.returns-in-Err-open-clause-gives
+returns-in-Err-open-clause-gives c = λ order. never-opened c.args.self.now (subst (MayTake c.args.self.now) c.in-Opened.is c.requires).may order
+
+pub returns-in-Absent-clause-gives : goal.returns-in-Absent-clause-gives
+returns-in-Absent-clause-gives c = λ order. never-absent c.args.self.now (subst (MayTake c.args.self.now) c.in-Absent.is c.requires).may order

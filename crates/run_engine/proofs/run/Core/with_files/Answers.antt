@@ -19,5 +19,5 @@ returns c =
       spare = c.new-3.result;
       out = c.new-4.result;
     } in
-    begun-so c.args.sheet c.args.limits core c.for_sheet.result refl c.in_ok-machine.ensures.new c.in_ok-machine.ensures.depth c.in_ok-machine.ensures.fuel c.in_ok-machine.ensures.fuel_limit refl refl refl c.requires.files refl
-    c.new-2.ensures.items c.for_sheet.ensures.source c.for_sheet.ensures.document c.documents.ensures
+    begun-so c.args.sheet c.args.params c.args.limits core c.for_sheet.result refl c.in_ok-machine.ensures.new c.in_ok-machine.ensures.depth c.in_ok-machine.ensures.fuel c.in_ok-machine.ensures.fuel_limit refl refl refl c.requires.files refl
+    c.new-2.ensures.items c.for_sheet.ensures.source c.for_sheet.ensures.document c.documents.ensures c.in_ok-machine.ensures.runs c.in_ok-machine.ensures.params c.new-4.ensures.target c.new-4.ensures.bytes c.new-4.ensures.notes
