@@ -65,7 +65,7 @@ reads_alone does s given ds m left x is asks order one =
 pub gives_as_alone : DoesAsAlone → more.GivesAsAlone
 gives_as_alone does given r m left x one reads = by reads
   where
-    by : ReadsMain r m → more_of given r m left (x ∷ []) ≡ alone.more given r m left x
+    by : ReadsMain r m → more_of given r m left (x ∷ []) ≡ alone.more_at r.stage given r.documents m left x
     by (inl new) = begins_alone r.stage given r.documents m left x new one
     by (inr main) = reads_alone does r.stage given r.documents m left x main.0 main.1 main.2 one
 

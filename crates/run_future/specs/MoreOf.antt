@@ -80,7 +80,7 @@ ReadsMain r m = (r.stage ≡ New) ⊎ ((r.stage ≡ Main) × IsAsking m × RunsI
 abbrev pub GivesAsAlone : Type 0
 GivesAsAlone =
     (given : Given) (r : Run) (m : Machine) (left : Left) (x : Coming) → IsMainAlone r.documents → ReadsMain r m
-    → more_of given r m left (x ∷ []) ≡ alone.more given r m left x
+    → more_of given r m left (x ∷ []) ≡ alone.more_at r.stage given r.documents m left x
 
 -- what was to come before a piece of the newest document came
 abbrev pub with_newest : Piece → List Coming → List Coming
