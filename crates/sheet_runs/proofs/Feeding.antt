@@ -121,10 +121,15 @@ pub read-count : (was : Main) (old : Outside) (acts : List Act) (given : List �
 read-count OfHost old acts given ended h = h.1
 read-count (Sample pieces) old acts given ended h = absurd h
 
+-- which are its first ones
+pub read-front : (was : Main) (old : Outside) (acts : List Act) (given : List ℕ) (ended : Bool) → HandsOn was OfHost old acts given ended → (main : List ℕ) → old.to_come 0 ≡ Some main → Begins given main
+read-front OfHost old acts given ended h main is = (h.2 main is).0
+read-front (Sample pieces) old acts given ended h main is = absurd h
+
 -- What is handed in of the main document, wherever it comes from
 
 module _ (start : Run) (main : Main) (old now new : Outside) (r s : Running) (d : Driving start main old now r pumped.Main) (written : IsWritten r) (same : s ≡ record r { main = s.main }) (acts : List Act)
-    (between : Between old new acts d.out d.note) (reads : AtMainReads acts d.out d.note (IsAsked start)) (opened : opens acts ≡ opens d.acts) (ids : new.open_ids ≡ now.open_ids) (counts : SameCounts now new)
+    (between : Between old new acts d.out d.note) (reads : AtMainReads acts d.out d.note (IsAsked (old.to_come 0) start)) (opened : opens acts ≡ opens d.acts) (ids : new.open_ids ≡ now.open_ids) (counts : SameCounts now new)
     (beside : HandsOthersOn old new.to_come (beside_in none_beside start d.talk) r.others.items) where
   abbrev given : List ℕ
   given = main_in start d.talk
@@ -229,13 +234,14 @@ module _ (start : Run) (main : Main) (old now new : Outside) (r : Running) (d : 
   so_far = beside_in none_beside start d.talk
 
   -- at a read of it
-  asked-now : IsAsked start (record { out = d.out; note = d.note; main_read = main_read d.acts })
+  asked-now : IsAsked (old.to_come 0) start (record { out = d.out; note = d.note; main_read = main_read d.acts })
   asked-now = record {
     talk = d.talk;
     run = r.engine;
     leads = d.leads;
     asks = d.says;
     read = read-count main old d.acts (main_in start d.talk) (main_ends start d.talk) given-of-host;
+    front = read-front main old d.acts (main_in start d.talk) (main_ends start d.talk) given-of-host;
     out = sym (append-nil d.out) ∙ ap (λ l. d.out ++ l) (sym written.0) ∙ d.written;
     note = sym (append-nil d.note) ∙ ap (λ l. d.note ++ l) (sym written.1) ∙ d.noted;
   }
@@ -245,7 +251,7 @@ module _ (start : Run) (main : Main) (old now new : Outside) (r : Running) (d : 
       let goes = (at-main start main old now r d).goes_on in
       hands-in start main old now new r r d written refl (d.acts ++ Read 0 n ∷ [])
       (between-acts old now new d.acts (Read 0 n ∷ []) d.out d.note d.between (between_read now new 0 (Got' n) change))
-      (main_reads_one d.acts (Read 0 n) d.out d.note (IsAsked start) d.between.out_written d.between.note_written d.reads (λ is_read. asked-now))
+      (main_reads_one d.acts (Read 0 n) d.out d.note (IsAsked (old.to_come 0) start) d.between.out_written d.between.note_written d.reads (λ is_read. asked-now))
       (opens-nothing d.acts (Read 0 n ∷ []) refl)
       (ap (λ o. o.open_ids) change)
       (record { doc = ap (λ o. o.doc_faults) change; main = ap (λ o. o.main_faults) change; out = ap (λ o. o.out_faults) change; note = ap (λ o. o.note_faults) change })
@@ -260,7 +266,7 @@ module _ (start : Run) (main : Main) (old now new : Outside) (r : Running) (d : 
       let goes = (at-main start main old now r d).goes_on in
       hands-its-end start main old now new r r d written refl (d.acts ++ Read 0 0 ∷ [])
       (between-acts old now new d.acts (Read 0 0 ∷ []) d.out d.note d.between (between_read now new 0 GotEnd change))
-      (main_reads_one d.acts (Read 0 0) d.out d.note (IsAsked start) d.between.out_written d.between.note_written d.reads (λ is_read. asked-now))
+      (main_reads_one d.acts (Read 0 0) d.out d.note (IsAsked (old.to_come 0) start) d.between.out_written d.between.note_written d.reads (λ is_read. asked-now))
       (opens-nothing d.acts (Read 0 0 ∷ []) refl)
       (ap (λ o. o.open_ids) change)
       (record { doc = ap (λ o. o.doc_faults) change; main = ap (λ o. o.main_faults) change; out = ap (λ o. o.out_faults) change; note = ap (λ o. o.note_faults) change })

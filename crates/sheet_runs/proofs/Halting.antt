@@ -181,7 +181,7 @@ module _ (start : Run) (main : Main) (old now : Outside) (r : Running) (asked : 
 
   -- The host failed, or memory was wanting, where nothing is written
 
-  pub halts-quietly : (new : Outside) (s : Running) (o : Outcome) (acts : List Act) → IsWritten r → s ≡ record r { others = s.others } → Between old new acts d.out d.note → AtMainReads acts d.out d.note (IsAsked start)
+  pub halts-quietly : (new : Outside) (s : Running) (o : Outcome) (acts : List Act) → IsWritten r → s ≡ record r { others = s.others } → Between old new acts d.out d.note → AtMainReads acts d.out d.note (IsAsked (old.to_come 0) start)
       → HandsOn main r.main old acts (main_in start d.talk) (main_ends start d.talk) → OpensNames (place_in old) r.engine (names_in start d.talk) acts → AreHeld old.open_ids new.open_ids s.others.items
       → CountsBy o old new → EndsBy r.engine acts d.out (Told o) → (Told o ≡ Told outcome.Done → ⊥) → Halted start main old new s (halt.Failed o)
   halts-quietly new s o acts written same between reads hands opened held counts ends undone =
@@ -258,8 +258,8 @@ module _ (start : Run) (main : Main) (old now : Outside) (r : Running) (asked : 
         talk = d.talk;
         leads = subst (Leads start d.talk) (sym engine) d.leads;
         writes = wrote_so;
-        reads = subst (λ n. AtMainReads acts out n (IsAsked start)) (append-nil d.note)
-            (main_reads_writes d.acts Out lens d.out front d.note [] (IsAsked start) d.between.out_written d.between.note_written d.reads);
+        reads = subst (λ n. AtMainReads acts out n (IsAsked (old.to_come 0) start)) (append-nil d.note)
+            (main_reads_writes d.acts Out lens d.out front d.note [] (IsAsked (old.to_come 0) start) d.between.out_written d.between.note_written d.reads);
         hands = hands-of main r.main old acts (main_in start d.talk) (main_ends start d.talk)
             (hands-still main r.main old d.acts (writes Out lens) (main_in start d.talk) (main_ends start d.talk) (gots-writes Out lens) (sym (main_read-writes Out lens)) (none-writes Out lens) d.hands);
         whole = λ e. absurd (undone e);
@@ -306,8 +306,8 @@ module _ (start : Run) (main : Main) (old now : Outside) (r : Running) (asked : 
           (r.out.items, d.written),
           (drop taken bytes, append_assoc d.note front (drop taken bytes) ∙ ap (λ l. d.note ++ l) (take-append-drop taken bytes ∙ is) ∙ d.noted),
         );
-        reads = subst (λ o. AtMainReads acts o note (IsAsked start)) (append-nil d.out)
-            (main_reads_writes d.acts Note lens d.out [] d.note front (IsAsked start) d.between.out_written d.between.note_written d.reads);
+        reads = subst (λ o. AtMainReads acts o note (IsAsked (old.to_come 0) start)) (append-nil d.out)
+            (main_reads_writes d.acts Note lens d.out [] d.note front (IsAsked (old.to_come 0) start) d.between.out_written d.between.note_written d.reads);
         hands = hands-of main r.main old acts (main_in start d.talk) (main_ends start d.talk)
             (hands-still main r.main old d.acts (writes Note lens) (main_in start d.talk) (main_ends start d.talk) (gots-writes Note lens) (sym (main_read-writes Note lens)) (none-writes Note lens) d.hands);
         whole = λ e. absurd (not-unnoted e);
@@ -484,7 +484,7 @@ module _ (start : Run) (main : Main) (old now new : Outside) (r s : Running) (wh
   engine-at : s.engine ≡ r.engine
   engine-at = ap (λ (x : Running). x.engine) same
 
-  closes-by : (acts : List Act) → Between old new acts h.out h.note → AtMainReads acts h.out h.note (IsAsked start) → HandsMain main old acts (main_in start h.talk) (main_ends start h.talk)
+  closes-by : (acts : List Act) → Between old new acts h.out h.note → AtMainReads acts h.out h.note (IsAsked (old.to_come 0) start) → HandsMain main old acts (main_in start h.talk) (main_ends start h.talk)
       → OpensNames (place_in old) r.engine (names_in start h.talk) acts → EndsBy r.engine acts h.out h.end → Halted start main old new s why
   closes-by acts between reads hands opened ends = record {
     end = h.end;
@@ -511,7 +511,7 @@ module _ (start : Run) (main : Main) (old now new : Outside) (r s : Running) (wh
   pub closes-one : Halted start main old new s why
   closes-one = elim (between_close now new o.id (last-open old.open_ids front o now.open_ids held-at).above_zero closes) [
     | inl between ↦ closes-by (h.acts ++ Close o.id ∷ []) (between-acts old now new h.acts (Close o.id ∷ []) h.out h.note h.between between)
-        (main_reads_one h.acts (Close o.id) h.out h.note (IsAsked start) h.between.out_written h.between.note_written h.reads (λ is_read. absurd (false≢true is_read)))
+        (main_reads_one h.acts (Close o.id) h.out h.note (IsAsked (old.to_come 0) start) h.between.out_written h.between.note_written h.reads (λ is_read. absurd (false≢true is_read)))
         (hands-at main old h.acts o.id (main_in start h.talk) (main_ends start h.talk) h.hands)
         (opens-at (place_in old) r.engine (names_in start h.talk) h.acts o.id h.opened)
         (ends-at r.engine h.acts (Close o.id ∷ []) h.out h.end refl h.ends)

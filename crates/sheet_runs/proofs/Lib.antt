@@ -10,3 +10,5 @@ pub mod Feeding
 pub mod Leaving
 pub mod Stepping
 pub mod Talking
+pub mod Means
+pub mod KeptMeaning

@@ -46,7 +46,7 @@ is-other id h = grind (arith, nat_tests)
 
 pub record Quiet (start : Run) (was is : Main) (old : Outside) (given : List ℕ) (over : Bool) (out note : List ℕ) (now : Outside) (acts : List Act) (opened : List (Option ℕ)) : Type 0 where
   pub between : Between old now acts out note
-  pub reads : AtMainReads acts out note (IsAsked start)
+  pub reads : AtMainReads acts out note (IsAsked (old.to_come 0) start)
   pub hands : HandsOn was is old acts given over
   pub opened_is : opens acts ≡ opened
   pub counts : SameCounts old now
@@ -57,7 +57,7 @@ module _ (start : Run) (was is : Main) (old : Outside) (given : List ℕ) (over 
       → Quiet start was is old given over out note new (acts ++ act ∷ []) (opened ++ opens (act ∷ []))
   one-act act between gots none no_read counts = record {
     between = between-acts old now new acts (act ∷ []) out note q.between between;
-    reads = main_reads_one acts act out note (IsAsked start) q.between.out_written q.between.note_written q.reads (λ is_read. absurd (false≢true (sym no_read ∙ is_read)));
+    reads = main_reads_one acts act out note (IsAsked (old.to_come 0) start) q.between.out_written q.between.note_written q.reads (λ is_read. absurd (false≢true (sym no_read ∙ is_read)));
     hands = hands-still was is old acts (act ∷ []) given over gots none (ap (λ b. b || false) no_read) q.hands;
     opened_is = opens-then acts (act ∷ []) ∙ ap (λ l. l ++ opens (act ∷ [])) q.opened_is;
     counts = counts-then old now new q.counts counts;

@@ -75,7 +75,7 @@ hands-of (Sample pieces) OfHost old acts handed ended h = absurd h
 -- A run that begins
 
 module _ (engine : Run) (main : Main) (r : Running) (fresh : IsFresh engine main r) (begun : IsBegun r.engine) where
-  by-start : (P : Run → Type 0) → P (at_start begun.0 r.engine.limits) → P r.engine
+  by-start : (P : Run → Type 0) → P (at_start begun.0 r.engine.limits r.engine.machine) → P r.engine
   by-start P p = subst P (sym begun.1) p
 
   pub begins : (o : Outside) → r.engine.limits.input ≤ 2 ^ 50 → Handing r.engine r.main o o r piece.Start
@@ -181,8 +181,8 @@ module _ (start : Run) (main : Main) (old now new : Outside) (r s : Running) (as
         stands = subst Stands (sym engine) d.stands;
         written = ap (λ l. (d.out ++ bytes) ++ l) gone ∙ append-nil (d.out ++ bytes) ∙ ap (λ l. d.out ++ l) is ∙ d.written;
         noted = ap (λ (s : Running). d.note ++ s.notes.items) same ∙ d.noted;
-        reads = subst (λ n. AtMainReads acts (d.out ++ bytes) n (IsAsked start)) (append-nil d.note)
-            (main_reads_writes d.acts Out lens d.out bytes d.note [] (IsAsked start) d.between.out_written d.between.note_written d.reads);
+        reads = subst (λ n. AtMainReads acts (d.out ++ bytes) n (IsAsked (old.to_come 0) start)) (append-nil d.note)
+            (main_reads_writes d.acts Out lens d.out bytes d.note [] (IsAsked (old.to_come 0) start) d.between.out_written d.between.note_written d.reads);
         hands = subst (λ m. HandsOn main m old acts (main_in start d.talk) (main_ends start d.talk)) (sym (ap (λ (s : Running). s.main) same))
             (hands-still main r.main old d.acts (writes Out lens) (main_in start d.talk) (main_ends start d.talk) (gots-writes Out lens) (sym (main_read-writes Out lens)) (none-writes Out lens) d.hands);
         beside = subst (HandsOthersOn old new.to_come (beside_in none_beside start d.talk)) (sym others)
@@ -217,8 +217,8 @@ module _ (start : Run) (main : Main) (old now new : Outside) (r s : Running) (as
         stands = subst Stands (sym engine) d.stands;
         written = ap (λ (s : Running). d.out ++ s.out.items) same ∙ d.written;
         noted = ap (λ l. (d.note ++ bytes) ++ l) gone ∙ append-nil (d.note ++ bytes) ∙ ap (λ l. d.note ++ l) is ∙ d.noted;
-        reads = subst (λ o. AtMainReads acts o (d.note ++ bytes) (IsAsked start)) (append-nil d.out)
-            (main_reads_writes d.acts Note lens d.out [] d.note bytes (IsAsked start) d.between.out_written d.between.note_written d.reads);
+        reads = subst (λ o. AtMainReads acts o (d.note ++ bytes) (IsAsked (old.to_come 0) start)) (append-nil d.out)
+            (main_reads_writes d.acts Note lens d.out [] d.note bytes (IsAsked (old.to_come 0) start) d.between.out_written d.between.note_written d.reads);
         hands = subst (λ m. HandsOn main m old acts (main_in start d.talk) (main_ends start d.talk)) (sym (ap (λ (s : Running). s.main) same))
             (hands-still main r.main old d.acts (writes Note lens) (main_in start d.talk) (main_ends start d.talk) (gots-writes Note lens) (sym (main_read-writes Note lens)) (none-writes Note lens) d.hands);
         beside = subst (HandsOthersOn old new.to_come (beside_in none_beside start d.talk)) (sym others)

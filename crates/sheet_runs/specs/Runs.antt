@@ -26,16 +26,18 @@ use Rattle.sheet_runs.specs.declared.run.Ran.{Ran}
 
 -- an engine of some sheet that hasn't begun
 abbrev pub IsBegun : Run → Type 0
-IsBegun run = (sheet : model.Sheet) × (run ≡ at_start sheet run.limits)
+IsBegun run = (sheet : model.Sheet) × (run ≡ at_start sheet run.limits run.machine)
 
 -- At a read of the main document: the engine asked for it, all that it was handed before is all that was read before, and all that it
 -- settled was written.
-pub record IsAsked (start : Run) (taken : Taken) : Type 0 where
+pub record IsAsked (told : Option (List ℕ)) (start : Run) (taken : Taken) : Type 0 where
   pub talk : List Exchange
   pub run : Run
   pub leads : Leads start talk run
   pub asks : run.stage ≡ AsksMain
   pub read : length (main_in start talk) ≡ taken.main_read
+  -- it was handed first bytes of the main document
+  pub front : (main : List ℕ) → told ≡ Some main → Begins (main_in start talk) main
   pub out : taken.out ≡ bytes_in talk
   pub note : taken.note ≡ notes_in talk
 
@@ -124,7 +126,7 @@ pub record RunsSheet (start : Run) (main : Main) (old new : Outside) (ran : Ran)
   pub run : Run
   pub leads : Leads start talk run
   pub writes : Writes ran.end talk out note
-  pub reads : AtMainReads acts out note (IsAsked start)
+  pub reads : AtMainReads acts out note (IsAsked (old.to_come 0) start)
   pub hands : HandsMain main old acts (main_in start talk) (main_ends start talk)
   -- where the run is done the main document was handed in to its end
   pub whole : ran.end ≡ Told Done → main_ends start talk ≡ true

@@ -1,5 +1,6 @@
 -- What an engine was handed and what it gave, one piece after another.
 use Rattle.std.specs.Prelude.{◌≡◌, ℕ, Bool, true, false, ◌||◌, List, [], ◌∷◌, ◌++◌}
+use Rattle.run_engine.specs.Does.{Does, InOrder}
 use Rattle.run_engine.specs.Run.{Absents, Document, HasHead, IsSameRun, Main, MayCome, Run, Says, Stage, Stands, Wants}
 use Rattle.run_engine.specs.Taking as taking
 use Rattle.run_engine.specs.Taking.{handed}
@@ -24,6 +25,7 @@ pub record Gives (r : Run) (x : Exchange) : Type 0 where
   pub took : taking.Takes x.run.stage (handed r x.piece) x.run.documents
   pub absent : Absents x.piece x.run.stage
   pub head : HasHead x.piece [] x.run.stage x.bytes
+  pub does : InOrder r → Does x.piece r x.run [] x.bytes [] x.notes
 
 -- so an engine comes from one run to another
 abbrev pub Leads : (start : Run) → List Exchange → (run : Run) → Type 0

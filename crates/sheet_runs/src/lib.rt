@@ -3,6 +3,7 @@
 
 mod chunk;
 mod failing;
+pub mod law;
 mod main_document;
 mod other;
 mod run;

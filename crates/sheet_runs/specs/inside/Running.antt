@@ -138,7 +138,7 @@ pub record Driving (start : Run) (main : Main) (old now : Outside) (r : Running)
   pub stands : Stands r.engine
   pub written : out ++ r.out.items ≡ bytes_in talk
   pub noted : note ++ r.notes.items ≡ notes_in talk
-  pub reads : AtMainReads acts out note (IsAsked start)
+  pub reads : AtMainReads acts out note (IsAsked (old.to_come 0) start)
   pub hands : HandsOn main r.main old acts (main_in start talk) (main_ends start talk)
   pub beside : HandsOthersOn old now.to_come (beside_in none_beside start talk) r.others.items
   pub opened : opens acts ≡ map (place_in old) (names_in start talk)
@@ -167,7 +167,7 @@ pub record Handing (start : Run) (main : Main) (old now : Outside) (r : Running)
   pub no_notes : r.notes.items ≡ []
   pub written : out ≡ bytes_in talk
   pub noted : note ≡ notes_in talk
-  pub reads : AtMainReads acts out note (IsAsked start)
+  pub reads : AtMainReads acts out note (IsAsked (old.to_come 0) start)
   pub handed_in : List ℕ
   pub handed_is : handed_in ≡ main_in start talk ++ main_bytes r.engine.stage p
   pub ended : Bool
@@ -223,7 +223,7 @@ pub record Halted (start : Run) (main : Main) (old now : Outside) (r : Running) 
   pub talk : List Exchange
   pub leads : Leads start talk r.engine
   pub writes : Writes end talk out note
-  pub reads : AtMainReads acts out note (IsAsked start)
+  pub reads : AtMainReads acts out note (IsAsked (old.to_come 0) start)
   pub hands : HandsMain main old acts (main_in start talk) (main_ends start talk)
   pub whole : end ≡ Told ended.Done → main_ends start talk ≡ true
   pub beside : HandsOthers old (beside_in none_beside start talk)

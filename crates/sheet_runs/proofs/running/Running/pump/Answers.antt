@@ -1,4 +1,5 @@
-use Rattle.std.proofs.Common.{ap, refl, subst, sym}
+use Rattle.std.proofs.Common.{[], ap, refl, subst, sym}
+use Rattle.run_engine.specs.Does.{Does}
 use Rattle.run_engine.specs.Run.{HasHead}
 use Rattle.sheet_runs.specs.declared.running.Running.{Running}
 use Rattle.sheet_runs.proofs.Stepping.{pumps}
@@ -16,6 +17,9 @@ returns-clause-driven c = λ start main old now h.
       took = e.took;
       absent = e.absent;
       head = subst (λ before. HasHead c.args.piece before c.pump.new.self.stage c.pump.new.out.items) h.nothing e.head;
+      does = λ order.
+          subst (λ before. Does c.args.piece c.args.self.now.engine c.pump.new.self before c.pump.new.out.items [] c.pump.new.notes.items) h.nothing
+          (subst (λ before. Does c.args.piece c.args.self.now.engine c.pump.new.self c.args.self.now.out.items c.pump.new.out.items before c.pump.new.notes.items) h.no_notes (e.does order));
     }) refl
 
 pub returns-clause-pumps : goal.returns-clause-pumps
