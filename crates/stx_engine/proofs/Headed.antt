@@ -1,5 +1,5 @@
 -- What a whole call did, by what its run and its last line did.
-use Rattle.std.proofs.Common.{◌≡◌, ◌≢◌, ◌⊎◌, inl, inr, ℕ, ◌+◌, ◌<◌, ◌==◌, if◌then◌else◌, Bool, true, false, List, [], ◌∷◌, ◌++◌, length, Option, Some, None, IsSome, arith, refl, sym, ap, ◌∙◌, subst}
+use Rattle.std.proofs.Common.{◌≡◌, ◌≢◌, ◌⊎◌, inl, inr, ℕ, ◌+◌, ◌<◌, ◌==◌, if◌then◌else◌, Bool, true, false, List, [], ◌∷◌, ◌++◌, length, take, Option, Some, None, IsSome, arith, refl, sym, ap, ◌∙◌, subst}
 use Rattle.std.specs.Option.{option_and_then}
 use Rattle.std.proofs.lemmas.Bool.{eqb-true, false≢true}
 use Rattle.std.proofs.lemmas.List.{append-nil}
@@ -20,6 +20,8 @@ use Rattle.stx_engine.specs.Answer.{Answer, answer, loaded, sheet_named}
 use Rattle.stx_engine.specs.Driving.{UnlessFailed}
 use Rattle.stx_engine.specs.Headline.{AsksSettled, BeginsWell, EndsInLine, GivesAnswer, IsFailure, IsPlainStatus, IsStatus, NotesAfterFailure, NotesFailure, NotesItsFailure, OpensFirst, ReadsSheetFirst, ReadsToEnd, RefusesUnnamed, RoseFor, SomeGreater, SomeRose, Tells, TellsMain}
 use Rattle.fault_report.specs.Line.{line_of, status_of}
+use Rattle.sheet_runs.specs.Meant.{IsSettledOn}
+use Rattle.stx_engine.specs.Kept.{Asked_for, Keeps, RunsOrdinary, given_of, whole}
 use Rattle.stx_engine.specs.Running.{Asks, CountsIn, FailedIn, FailedOn, FailedOnSheet, HasHead, IfDocFailed, IsAnswered, LoadsFirst, OpensNames, RefusesWords, Reports, Runs, RunsMain, RunsTold, TakesParts, unwritten_status}
 use Rattle.fault_report.specs.declared.outcome.HostFault.{HostFault}
 use Rattle.fault_report.specs.declared.outcome.HostFault.TheVariants as fault
@@ -39,7 +41,7 @@ some_rose fault.Read old new rose = inr (inl rose)
 some_rose fault.Write old new rose = inr (inr (inl rose))
 
 -- documents are told, with the ids that are open
-told_of : (ids : Option (List ℕ)) (documents : Option (List Doc)) (docs : List Doc) → IsSome ids → documents ≡ Some docs → option_and_then (λ ids. documents) ids ≡ Some docs
+pub told_of : (ids : Option (List ℕ)) (documents : Option (List Doc)) (docs : List Doc) → IsSome ids → documents ≡ Some docs → option_and_then (λ ids. documents) ids ≡ Some docs
 told_of None documents docs some e = absurd (false≢true some)
 told_of (Some ids) documents docs some e = e
 
@@ -577,3 +579,70 @@ module _ (words : List (List ℕ)) (old mid new : Outside) (end : RunEnd) (r : R
           let log : List Act = since old.log new.log in
           subst (λ note. NotesFailure (IsFailure (FailedOnSheet reads words docs log) old new log (since old.out new.out)) old new note result a)
           (sym (note_is main on ∙ ap (λ l. l ++ line.note) (told.answered reads a is).quiet)) (notes some)
+
+    -- A run of a sheet that takes the nodes of the main document alone
+    module _ (reads : Reads) (k : Asked_for) (o : RunsOrdinary reads words docs main k old mid end) where
+      same-acts : r.acts ≡ o.acts
+      same-acts = sym (since_told old.log mid.log r.acts tells.log r.between.log) ∙ since_told old.log mid.log o.acts tells.log o.between.log
+
+      same-out : r.out ≡ o.out
+      same-out = sym (since_told old.out mid.out r.out tells.out r.between.out_lane) ∙ since_told old.out mid.out o.out tells.out o.between.out_lane
+
+      same-note : r.note ≡ o.note
+      same-note = sym (since_told old.note mid.note r.note tells.note r.between.note_lane) ∙ since_told old.note mid.note o.note tells.note o.between.note_lane
+
+      abbrev Settles : Taken → Type 0
+      Settles taken = IsSettledOn (given_of k) (take taken.main_read main) taken
+
+      asked-so : AtMainReads r.acts r.out r.note (λ taken. IsSettledOn (given_of k) (take taken.main_read main) taken)
+      asked-so =
+          subst (λ acts. AtMainReads acts r.out r.note Settles) (sym same-acts)
+          (subst (λ out. AtMainReads o.acts out r.note Settles) (sym same-out) (subst (λ note. AtMainReads o.acts o.out note Settles) (sym same-note) o.asks))
+
+      opened-so : OpensNames docs (loaded reads docs k.command).opened (outcome_in end) r.acts
+      opened-so = subst (OpensNames docs (loaded reads docs k.command).opened (outcome_in end)) (sym same-acts) o.opened
+
+      failed-so : IfDocFailed (outcome_in end) (FailedOnSheet reads words docs r.acts)
+      failed-so = subst (λ acts. IfDocFailed (outcome_in end) (FailedOnSheet reads words docs acts)) (sym same-acts) o.failed
+
+      gives-whole :
+          (SomeRose old new → ⊥) → result ≢ 7
+          → (since old.out new.out ≡ (whole k main).out) × (since old.note new.note ≡ (whole k main).notes ++ line_in (whole k main).end) × (result ≡ status_in (whole k main).end)
+      gives-whole none memory = elim line.end [
+        | inl all ↦ elim is_ended [
+          | inl f ↦ absurd (memory (failure_status f.0 f.1.0 f.1.1 ∙ failure_rose f.0 f.1.1 none))
+          | inr other ↦ elim other [
+            | inl own ↦
+                let same = answered end own ((o.out ≡ (whole k main).out) × ((o.note ≡ (whole k main).notes) × (end ≡ (whole k main).end))) o.ends in (
+                  out_is main on ∙ same-out ∙ same.0,
+                  note_is main on ∙ ap (λ l. r.note ++ l) all.0 ∙ ap (λ l. l ++ line_in end) (same-note ∙ same.1.0) ∙ ap (λ e. (whole k main).notes ++ line_in e) same.1.1,
+                  all.1 ∙ ap status_in same.1.1,
+                )
+            | inr u ↦ absurd (none (some_noted old new (unnoted_rose u.0 u.1)))
+          ]
+        ]
+        | inr cut ↦ absurd (none (some_noted old new (cut_rose cut.2 cut.3)))
+      ]
+
+      pub keeps : Keeps old new reads words docs main result k
+      keeps = record {
+        gives = gives-whole;
+        asks = reads_later main on Settles asked-so;
+        begins = subst (λ out. Begins out (whole k main).out) (sym (out_is main on ∙ same-out)) o.begins.0;
+        opens =
+            subst (OpensFirst docs (loaded reads docs k.command).opened result) (sym (log_is main on))
+            (opens_by_status (loaded reads docs k.command).opened acts (opened-so.0, opened-so.1, opens-then r.acts line.lens ∙ opened-so.2, opened-so.3));
+        fails = λ some kept. elim line.end [
+          | inl all ↦
+              let f = whole_failure all some kept in (
+                r.note,
+                subst (λ note. Begins note (whole k main).notes) (sym same-note) o.begins.1,
+                f.0,
+                failure_is (FailedOnSheet reads words docs) f.0
+                    (there (FailedOnSheet reads words docs r.acts) (FailedOnSheet reads words docs acts) (failed-on-sheet-then reads words docs r.acts line.lens) failed-so f.0 f.1.0 f.1.1),
+                f.1.2,
+                note_is main on ∙ ap (λ l. r.note ++ l) f.1.3,
+              )
+          | inr cut ↦ absurd (kept (cut_rose cut.2 cut.3))
+        ];
+      }

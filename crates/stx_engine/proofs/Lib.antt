@@ -11,6 +11,8 @@ pub mod Beginnings
 pub mod Prefixes
 pub mod Driven
 pub mod Ran
+pub mod Begun
+pub mod Kept
 pub mod RanAny
 pub mod LastLine
 pub mod Headed

@@ -222,7 +222,7 @@ module _ (words : List Word) (c : Command) (asked_for : command_of words ≡ Som
     in-order r l =
         let told = subst (λ t. IfSome t (λ docs. (reads : Reads) → OpensInOrder (place docs) (loaded reads docs c).opened r l.acts)) documents l.did.opens in told reads
 
-    agrees : (answer : Result model.Sheet SheetFault) (files : List Seen) → (is : IsLoaded (documents_told old) standard_limits c.sheet answer files) → loaded reads docs c ≡ loads (names_of files) answer
+    pub agrees : (answer : Result model.Sheet SheetFault) (files : List Seen) → (is : IsLoaded (documents_told old) standard_limits c.sheet answer files) → loaded reads docs c ≡ loads (names_of files) answer
     agrees answer files is = is.gives (document docs) (subst (λ t. IfSome t (λ docs. AreOf (document docs) files)) documents is.told_of) reads
 
     -- the files of a sheet that is accepted
@@ -260,7 +260,7 @@ module _ (words : List Word) (c : Command) (asked_for : command_of words ≡ Som
   -- Loading stopped
 
   module _ (old new : Outside) where
-    opens-stopped : (o : Outcome) (l : Loads c old new (Err o)) (docs : List Doc) → documents_told old ≡ Some docs → (reads : Reads) → OpensNames docs (loaded reads docs c).opened o l.acts
+    pub opens-stopped : (o : Outcome) (l : Loads c old new (Err o)) (docs : List Doc) → documents_told old ≡ Some docs → (reads : Reads) → OpensNames docs (loaded reads docs c).opened o l.acts
     opens-stopped o l docs documents reads = by o l.answers (in-order old new docs documents reads (Err o) l) where
       by : (o : Outcome) → LoadAnswers (documents_told old) standard_limits c.sheet (Err o) → OpensInOrder (place docs) (loaded reads docs c).opened (Err o) l.acts → OpensNames docs (loaded reads docs c).opened o l.acts
       by (Sheet fault) h e = ((loaded reads docs c).opened, begins_all (loaded reads docs c).opened, e, refl)
@@ -298,7 +298,7 @@ module _ (words : List Word) (c : Command) (asked_for : command_of words ≡ Som
     failed-stopped (Xml file fault) acts h = absurd h
     failed-stopped (Fuel file offset) acts h = absurd h
 
-    failed-on-sheet : (o : Outcome) (l : Loads c old new (Err o)) (docs : List Doc) → documents_told old ≡ Some docs → (reads : Reads) → IfDocFailed o (FailedOnSheet reads words docs l.acts)
+    pub failed-on-sheet : (o : Outcome) (l : Loads c old new (Err o)) (docs : List Doc) → documents_told old ≡ Some docs → (reads : Reads) → IfDocFailed o (FailedOnSheet reads words docs l.acts)
     failed-on-sheet o l docs documents reads = by o (in-order old new docs documents reads (Err o) l) where
       by : (o : Outcome) → OpensInOrder (place docs) (loaded reads docs c).opened (Err o) l.acts → IfDocFailed o (FailedOnSheet reads words docs l.acts)
       by (Host file fault.Doc offset) e = (c, asked_for, e)

@@ -1,5 +1,5 @@
 -- What a run of any sheet did.
-use Rattle.std.proofs.Common.{◌≡◌, ◌⊎◌, inl, inr, ℕ, ◌+◌, ◌||◌, true, false, List, [], ◌∷◌, ◌++◌, length, Option, Some, None, IsSome, IfSome, Ok, arith, refl, sym, ap, ◌∙◌, subst}
+use Rattle.std.proofs.Common.{◌≡◌, ◌⊎◌, inl, inr, ℕ, ◌+◌, ◌||◌, true, false, List, [], ◌∷◌, ◌++◌, length, map, Option, Some, None, IsSome, IfSome, Ok, arith, refl, sym, ap, ◌∙◌, subst}
 use Rattle.std.specs.List.{list_any}
 use Rattle.std.specs.Option.{option_and_then}
 use Rattle.std.proofs.lemmas.Bool.{false≢true}
@@ -19,7 +19,7 @@ use Rattle.fault_report.specs.declared.outcome.HostFault.TheVariants as fault
 use Rattle.fault_report.specs.declared.outcome.Outcome.{Outcome}
 use Rattle.fault_report.specs.declared.outcome.Outcome.TheVariants as outcome
 use Rattle.run_engine.specs.Run as spec
-use Rattle.run_engine.specs.Run.{HasHead as Heads, MayCome, Run, Stage, Stands, StandsAt, at_start, head}
+use Rattle.run_engine.specs.Run.{HasHead as Heads, IsAtStart, MayCome, Run, Stage, Stands, StandsAt, head}
 use Rattle.run_engine.specs.declared.piece.Piece.{Piece}
 use Rattle.run_engine.specs.declared.piece.Piece.TheVariants as piece
 use Rattle.sheet_files.specs.Opened.{documents_told}
@@ -36,7 +36,7 @@ use Rattle.sheet_runs.specs.declared.run.Ran.{Ran}
 use Rattle.stx_engine.specs.Answer.{Answer, accepted, answer, loaded, mode_answer, sheet_answer, sheet_named}
 use Rattle.sample_maker.specs.Document.{pieces}
 use Rattle.stx_engine.specs.Accepted.{DocumentsAreTaken}
-use Rattle.stx_engine.specs.Doing.{Checks, Does, DoesCommand, GoesOn, Loads, Passes, PassesSample, RunsIt, RunsOnSample, Stops}
+use Rattle.stx_engine.specs.Doing.{Checks, Does, DoesCommand, GoesOn, Loads, Passes, PassesSample, RunsIt, RunsOnSample, Stops, param_of}
 use Rattle.stx_engine.specs.Driving.{UnlessFailed}
 use Rattle.stx_engine.specs.Plain.{pass_of}
 use Rattle.stx_engine.specs.RunEnd.{end_of_run, end_of_sample, outcome_in}
@@ -120,8 +120,8 @@ over-once : (o p : Outcome) → spec.Over o ≡ spec.Over p → o ≡ p
 over-once o p e = cc
 
 -- where the main document is asked for the head was written
-asked-head : (start : Run) → start.stage ≡ spec.New → (taken : Taken) → IsAsked start taken → HasHead taken
-asked-head start new taken a =
+asked-head : (told : Option (List ℕ)) (start : Run) → start.stage ≡ spec.New → (taken : Taken) → IsAsked told start taken → HasHead taken
+asked-head told start new taken a =
     subst (Begins head) (sym a.out) (leads-head start a.run a.talk new a.leads (main-no-new a.run.stage a.asks) (main-no-lack a.run.stage a.asks))
 
 -- an instruction's fault stands in a file of the sheet
@@ -139,9 +139,12 @@ told-both (Some ids) None docs e P p = absurd (none-some docs e)
 told-both (Some ids) (Some all) docs e P p = subst P (same_Some all docs e) p
 
 module _ (words : List Word) (c : Command) (asked_for : command_of words ≡ Some c) (old mid new : Outside) (x : Loaded) (l : Loads c old mid (Ok x)) (main_of : Main) (ran : Ran)
-    (r : RunsSheet (at_start x.sheet c.limits) main_of mid new ran) where
-  abbrev start : Run
-  start = at_start x.sheet c.limits
+    (start : Run) (b : IsAtStart x.sheet (map param_of c.params) c.limits start) (r : RunsSheet start main_of mid new ran) where
+  new-stage : start.stage ≡ spec.New
+  new-stage = ap (λ (r : Run). r.stage) b.is
+
+  sheet-files : start.files ≡ x.sheet.files
+  sheet-files = ap (λ (r : Run). r.files) b.is
 
   -- the end that is told
   counts-told : (e : End) → CountsAt e mid new → CountsIn (end_of_run e) old new
@@ -185,6 +188,8 @@ module _ (words : List Word) (c : Command) (asked_for : command_of words ≡ Som
         asked_for = asked_for;
         accepts = accepted-is words c asked_for old mid docs documents reads x l;
         does_more = none;
+        start = start;
+        begun = b;
         leads = r.leads;
         handed = told-both old.open_ids old.documents docs documents (λ docs. AreAsTold docs beside) handed-so;
         fails = h;
@@ -221,12 +226,12 @@ module _ (words : List Word) (c : Command) (asked_for : command_of words ≡ Som
   own-told (ends.Told outcome.Done) h = tt
   own-told (ends.Told outcome.Usage) h = tt
   own-told (ends.Told (outcome.Sheet why)) h = tt
-  own-told (ends.Told (outcome.Run file code offset)) h = own-at start r.run r.talk (outcome.Run file code offset) refl r.leads h
+  own-told (ends.Told (outcome.Run file code offset)) h = subst (λ files. spec.IsAt files file offset) sheet-files (own-at start r.run r.talk (outcome.Run file code offset) new-stage r.leads h)
   own-told (ends.Told (outcome.Xml file why)) h = tt
-  own-told (ends.Told (outcome.Fuel file offset)) h = own-at start r.run r.talk (outcome.Fuel file offset) refl r.leads h
+  own-told (ends.Told (outcome.Fuel file offset)) h = subst (λ files. spec.IsAt files file offset) sheet-files (own-at start r.run r.talk (outcome.Fuel file offset) new-stage r.leads h)
 
   head-at : (o : Outcome) → r.run.stage ≡ spec.Over o → (o ≡ outcome.Memory → ⊥) → Begins head (bytes_in r.talk)
-  head-at o is some = leads-head start r.run r.talk refl r.leads (over-no-new r.run.stage o is) (λ e. some (over-once o outcome.Memory (sym is ∙ e)))
+  head-at o is some = leads-head start r.run r.talk new-stage r.leads (over-no-new r.run.stage o is) (λ e. some (over-once o outcome.Memory (sym is ∙ e)))
 
   begins-told : (e : End) → EndsBy r.run r.acts r.out e → Writes e r.talk r.out r.note → UnlessFailed (outcome_in (end_of_run e)) ((r.out ≡ []) ⊎ Begins head r.out)
   begins-told ends.Unnoted h w = tt
@@ -246,7 +251,7 @@ module _ (words : List Word) (c : Command) (asked_for : command_of words ≡ Som
     not-done e = cc
 
   asks-told : AtMainReads (l.acts ++ r.acts) r.out r.note HasHead
-  asks-told = reads_after words c asked_for old mid new x l r.acts r.out r.note HasHead (λ k is_read. asked-head start refl _ (r.reads k is_read))
+  asks-told = reads_after words c asked_for old mid new x l r.acts r.out r.note HasHead (λ k is_read. asked-head (mid.to_come 0) start new-stage _ (r.reads k is_read))
 
   -- it isn't answered
   unanswered : (mode : Mode) → c.mode ≡ mode → (mode ≡ Check → ⊥) → pass_of x.sheet ≡ None → (reads : Reads) (docs : List Doc) → documents_told old ≡ Some docs → (main : List ℕ) (a : Answer) → answer reads words docs main ≡ Some a → ⊥
@@ -273,36 +278,37 @@ module _ (words : List Word) (c : Command) (asked_for : command_of words ≡ Som
 -- The main document was read by the sheet
 
 module _ (words : List Word) (c : Command) (asked_for : command_of words ≡ Some c) (old mid new : Outside) (x : Loaded) (l : Loads c old mid (Ok x)) (ran : Ran) where
-  pub ran-any : c.mode ≡ AsksRun → pass_of x.sheet ≡ None → RunsSheet (at_start x.sheet c.limits) main.Host mid new ran → Runs words old new (end_of_run ran.end)
-  ran-any plain none r = record {
+  pub ran-any :
+      c.mode ≡ AsksRun → pass_of x.sheet ≡ None → (start : Run) (b : IsAtStart x.sheet (map param_of c.params) c.limits start) → RunsSheet start main.Host mid new ran → Runs words old new (end_of_run ran.end)
+  ran-any plain none start b r = record {
     acts = l.acts ++ r.acts;
     out = r.out;
     note = r.note;
     between = between_after words c asked_for old mid new x l r.acts r.out r.note r.between;
-    ended = main_ends (at_start x.sheet c.limits) r.talk;
-    once = once_after words c asked_for old mid new x l (main_ends (at_start x.sheet c.limits) r.talk) r.acts r.hands.0;
+    ended = main_ends start r.talk;
+    once = once_after words c asked_for old mid new x l (main_ends start r.talk) r.acts r.hands.0;
     ids = r.ids ∙ l.ids;
-    counts = counts-told words c asked_for old mid new x l main.Host ran r ran.end r.counts;
-    failed = failed-told words c asked_for old mid new x l main.Host ran r ran.end r.ends;
-    refuses = refuses-told words c asked_for old mid new x l main.Host ran r ran.end r.ends;
+    counts = counts-told words c asked_for old mid new x l main.Host ran start b r ran.end r.counts;
+    failed = failed-told words c asked_for old mid new x l main.Host ran start b r ran.end r.ends;
+    refuses = refuses-told words c asked_for old mid new x l main.Host ran start b r ran.end r.ends;
     takes = λ no_run. absurd (asks_some words c asked_for AsksRun plain refl no_run);
     told = λ docs document documents told. record {
-      answered = λ reads a e. absurd (unanswered words c asked_for old mid new x l main.Host ran r AsksRun plain (λ e. cc) none reads docs documents document a e);
+      answered = λ reads a e. absurd (unanswered words c asked_for old mid new x l main.Host ran start b r AsksRun plain (λ e. cc) none reads docs documents document a e);
       sheet = λ reads. loads_sheet words c asked_for old mid new x l docs documents reads r.acts (outcome_in (end_of_run ran.end)) (answer reads words docs document)
-          (λ said. absurd (unsaid words c asked_for old mid new x l main.Host ran r AsksRun plain (λ e. cc) none reads docs documents document said));
-      failed = λ reads. failed-on words c asked_for old mid new x l main.Host ran r none docs documents reads ran.end r.ends;
+          (λ said. absurd (unsaid words c asked_for old mid new x l main.Host ran start b r AsksRun plain (λ e. cc) none reads docs documents document said));
+      failed = λ reads. failed-on words c asked_for old mid new x l main.Host ran start b r none docs documents reads ran.end r.ends;
       own = λ reads. for_command words c asked_for (λ c. IsOwn (accepted (loaded reads docs c).result) (end_of_run ran.end))
-          (own-in words c asked_for old mid new x l main.Host ran r docs documents reads (end_of_run ran.end) (own-told words c asked_for old mid new x l main.Host ran r ran.end r.ends));
+          (own-in words c asked_for old mid new x l main.Host ran start b r docs documents reads (end_of_run ran.end) (own-told words c asked_for old mid new x l main.Host ran start b r ran.end r.ends));
     };
     main_told = λ document told. record {
       all = λ asks done.
-          let whole = r.whole (done-so words c asked_for old mid new x l main.Host ran r ran.end done) in
+          let whole = r.whole (done-so words c asked_for old mid new x l main.Host ran start b r ran.end done) in
           let handed = r.hands.2 document (main_after words c asked_for old mid new x l document told) in (
             whole,
             omega (arith, nothing_read l.acts l.did.no_main_read, main_read-append l.acts r.acts, r.hands.1, ap length (handed.1 whole)),
           );
-      begins = begins-told words c asked_for old mid new x l main.Host ran r ran.end r.ends r.writes;
-      asks = asks-told words c asked_for old mid new x l main.Host ran r;
+      begins = begins-told words c asked_for old mid new x l main.Host ran start b r ran.end r.ends r.writes;
+      asks = asks-told words c asked_for old mid new x l main.Host ran start b r;
     };
   }
 
@@ -355,34 +361,35 @@ module _ (words : List Word) (c : Command) (asked_for : command_of words ≡ Som
     own-on (ends.Told (outcome.Xml file why)) h = h
     own-on (ends.Told (outcome.Fuel file offset)) h = h
 
-    unread : (r : RunsSheet (at_start x.sheet c.limits) of mid new ran) → list_any is_main_read (l.acts ++ r.acts) ≡ false
-    unread r = list_any-append is_main_read l.acts r.acts ∙ ap (λ b. b || list_any is_main_read r.acts) l.did.no_main_read ∙ r.hands.0
+    unread : (start : Run) (r : RunsSheet start of mid new ran) → list_any is_main_read (l.acts ++ r.acts) ≡ false
+    unread start r = list_any-append is_main_read l.acts r.acts ∙ ap (λ b. b || list_any is_main_read r.acts) l.did.no_main_read ∙ r.hands.0
 
-    pub ran-any-sampled : c.mode ≡ Sample records → pass_of x.sheet ≡ None → RunsSheet (at_start x.sheet c.limits) of mid new ran → Runs words old new end
-    ran-any-sampled sample none r = record {
+    pub ran-any-sampled :
+        c.mode ≡ Sample records → pass_of x.sheet ≡ None → (start : Run) (b : IsAtStart x.sheet (map param_of c.params) c.limits start) → RunsSheet start of mid new ran → Runs words old new end
+    ran-any-sampled sample none start b r = record {
       acts = l.acts ++ r.acts;
       out = r.out;
       note = r.note;
       between = between_after words c asked_for old mid new x l r.acts r.out r.note r.between;
       ended = false;
-      once = none_once (l.acts ++ r.acts) (unread r);
+      once = none_once (l.acts ++ r.acts) (unread start r);
       ids = r.ids ∙ l.ids;
-      counts = counts-on ran.end (counts-told words c asked_for old mid new x l of ran r ran.end r.counts);
-      failed = subst (λ o. FailedIn o (l.acts ++ r.acts) r.out) (sym (outcome-same ran.end)) (failed-told words c asked_for old mid new x l of ran r ran.end r.ends);
-      refuses = refuses-on ran.end (refuses-told words c asked_for old mid new x l of ran r ran.end r.ends);
+      counts = counts-on ran.end (counts-told words c asked_for old mid new x l of ran start b r ran.end r.counts);
+      failed = subst (λ o. FailedIn o (l.acts ++ r.acts) r.out) (sym (outcome-same ran.end)) (failed-told words c asked_for old mid new x l of ran start b r ran.end r.ends);
+      refuses = refuses-on ran.end (refuses-told words c asked_for old mid new x l of ran start b r ran.end r.ends);
       takes = λ no_run. absurd (asks_some words c asked_for (Sample records) sample refl no_run);
       told = λ docs document documents told. record {
-        answered = λ reads a e. absurd (unanswered words c asked_for old mid new x l of ran r (Sample records) sample (λ e. cc) none reads docs documents document a e);
+        answered = λ reads a e. absurd (unanswered words c asked_for old mid new x l of ran start b r (Sample records) sample (λ e. cc) none reads docs documents document a e);
         sheet = λ reads. loads_sheet words c asked_for old mid new x l docs documents reads r.acts (outcome_in end) (answer reads words docs document)
-            (λ said. absurd (unsaid words c asked_for old mid new x l of ran r (Sample records) sample (λ e. cc) none reads docs documents document said));
-        failed = λ reads. subst (λ o. IfDocFailed o (FailedOn reads words docs (l.acts ++ r.acts))) (sym (outcome-same ran.end)) (failed-on words c asked_for old mid new x l of ran r none docs documents reads ran.end r.ends);
+            (λ said. absurd (unsaid words c asked_for old mid new x l of ran start b r (Sample records) sample (λ e. cc) none reads docs documents document said));
+        failed = λ reads. subst (λ o. IfDocFailed o (FailedOn reads words docs (l.acts ++ r.acts))) (sym (outcome-same ran.end)) (failed-on words c asked_for old mid new x l of ran start b r none docs documents reads ran.end r.ends);
         own = λ reads. for_command words c asked_for (λ c. IsOwn (accepted (loaded reads docs c).result) end)
-            (own-in words c asked_for old mid new x l of ran r docs documents reads end (own-on ran.end (own-told words c asked_for old mid new x l of ran r ran.end r.ends)));
+            (own-in words c asked_for old mid new x l of ran start b r docs documents reads end (own-on ran.end (own-told words c asked_for old mid new x l of ran start b r ran.end r.ends)));
       };
       main_told = λ document told. record {
         all = λ asks is. absurd (unasked words c asked_for (Sample records) sample refl asks);
-        begins = subst (λ o. UnlessFailed o ((r.out ≡ []) ⊎ Begins head r.out)) (sym (outcome-same ran.end)) (begins-told words c asked_for old mid new x l of ran r ran.end r.ends r.writes);
-        asks = no_main_reads (l.acts ++ r.acts) r.out r.note HasHead (unread r);
+        begins = subst (λ o. UnlessFailed o ((r.out ≡ []) ⊎ Begins head r.out)) (sym (outcome-same ran.end)) (begins-told words c asked_for old mid new x l of ran start b r ran.end r.ends r.writes);
+        asks = no_main_reads (l.acts ++ r.acts) r.out r.note HasHead (unread start r);
       };
     }
 
@@ -426,10 +433,10 @@ module _ (words : List Word) (c : Command) (asked_for : command_of words ≡ Som
       subst (λ o. Runs words old o e) (sym same) (subst (Runs words old mid) (sym is) (ran-checked words c asked_for old mid alone x l))
   ran-does mid new x l e (Passes plain pass passes o d is) = subst (Runs words old new) (sym is) (ran-driven words c asked_for old mid new x l plain pass passes o d taken)
   ran-does mid new x l e (PassesSample records sample pass passes d) = ran-sampled words c asked_for old mid new x l records sample pass passes e d taken
-  ran-does mid new x l e (RunsIt plain none ran (inl r) is) = subst (Runs words old new) (sym is) (ran-any words c asked_for old mid new x l ran plain none r)
+  ran-does mid new x l e (RunsIt plain none ran (inl r) is) = subst (Runs words old new) (sym is) (ran-any words c asked_for old mid new x l ran plain none r.0 r.1.0 r.1.1)
   ran-does mid new x l e (RunsIt plain none ran (inr lacks) is) =
       subst (Runs words old new) (sym (is ∙ ap end_of_run lacks.1)) (ran-lacking words c asked_for old mid new x l ran lacks.0)
-  ran-does mid new x l e (RunsOnSample records sample none ran (inl r) is) = subst (Runs words old new) (sym is) (ran-any-sampled words c asked_for old mid new x l ran records (pieces records) sample none r)
+  ran-does mid new x l e (RunsOnSample records sample none ran (inl r) is) = subst (Runs words old new) (sym is) (ran-any-sampled words c asked_for old mid new x l ran records (pieces records) sample none r.0 r.1.0 r.1.1)
   ran-does mid new x l e (RunsOnSample records sample none ran (inr lacks) is) =
       subst (Runs words old new) (sym (is ∙ ap (end_of_sample records ran) lacks.1)) (ran-lacking words c asked_for old mid new x l ran lacks.0)
 

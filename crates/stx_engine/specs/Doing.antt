@@ -1,5 +1,5 @@
 -- What is done with a sheet, by what is asked for.
-use Rattle.std.specs.Prelude.{◌≡◌, ℕ, ◌+◌, ◌<◌, ◌≤◌, ◌^◌, ◌⊎◌, List, Some, None, Ok, Err}
+use Rattle.std.specs.Prelude.{◌≡◌, ℕ, ◌+◌, ◌<◌, ◌≤◌, ◌^◌, ◌⊎◌, List, map, Some, None, Ok, Err}
 use Rattle.std.specs.declared.result.Result.{Result}
 use Rattle.stx_base.specs.StandardLimits.{standard_limits}
 use Rattle.stx_host.specs.Outside.{Outside}
@@ -15,7 +15,7 @@ use Rattle.stx_engine.specs.declared.asked.Asked.{Asked}
 use Rattle.command_words.specs.declared.command.Mode.TheVariants.{Run as AsksRun, Check, Sample}
 use Rattle.fault_report.specs.declared.outcome.Outcome.{Outcome}
 use Rattle.fault_report.specs.declared.outcome.Outcome.TheVariants.{Done, Usage, Memory}
-use Rattle.run_engine.specs.Run.{at_start}
+use Rattle.run_engine.specs.Run.{IsAtStart, Run}
 use Rattle.sample_maker.specs.Document.{pieces}
 use Rattle.sheet_files.specs.Loading.{LoadActs, LoadAnswers, LoadCounts}
 use Rattle.sheet_files.specs.Opened.{documents_told}
@@ -57,9 +57,9 @@ pub record AreUsual (limits : Limits) : Type 0 where
   pub input : limits.input ≤ 2 ^ 50
 
 -- a run of any sheet came to this, or there was no memory to begin it
-abbrev pub RunsAny : Limits → Sheet → Main → (old new : Outside) → Ran → Type 0
-RunsAny limits sheet main old new ran =
-    RunsSheet (at_start sheet limits) main old new ran ⊎ ((new ≡ old) × (ran.end ≡ ends.Told Memory))
+abbrev pub RunsAny : List Param → Limits → Sheet → Main → (old new : Outside) → Ran → Type 0
+RunsAny params limits sheet main old new ran =
+    ((start : Run) × (IsAtStart sheet params limits start × RunsSheet start main old new ran)) ⊎ ((new ≡ old) × (ran.end ≡ ends.Told Memory))
 
 -- what was done with a sheet that was accepted
 pub data Does (c : Command) (sheet : Sheet) (old new : Outside) (end : RunEnd) : Type 0 where
@@ -71,9 +71,9 @@ pub data Does (c : Command) (sheet : Sheet) (old new : Outside) (end : RunEnd) :
   PassesSample : (records : ℕ) → c.mode ≡ Sample records → (pass : Kinds) → pass_of sheet ≡ Some pass → DrivesSample c.limits pass c.sheet records old new end
       → Does c sheet old new end
   -- it was run by the sheet
-  RunsIt : c.mode ≡ AsksRun → pass_of sheet ≡ None → (ran : Ran) → RunsAny c.limits sheet main.Host old new ran → end ≡ end_of_run ran.end
+  RunsIt : c.mode ≡ AsksRun → pass_of sheet ≡ None → (ran : Ran) → RunsAny (map param_of c.params) c.limits sheet main.Host old new ran → end ≡ end_of_run ran.end
       → Does c sheet old new end
-  RunsOnSample : (records : ℕ) → c.mode ≡ Sample records → pass_of sheet ≡ None → (ran : Ran) → RunsAny c.limits sheet (main.Sample (pieces records)) old new ran
+  RunsOnSample : (records : ℕ) → c.mode ≡ Sample records → pass_of sheet ≡ None → (ran : Ran) → RunsAny (map param_of c.params) c.limits sheet (main.Sample (pieces records)) old new ran
       → end ≡ end_of_sample records ran ran.end → Does c sheet old new end
 
 -- what was done where the words are accepted

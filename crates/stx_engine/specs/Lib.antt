@@ -8,6 +8,7 @@ pub mod Ending
 pub mod Engine
 pub mod Growing
 pub mod Headline
+pub mod Kept
 pub mod Meaning
 pub mod More
 pub mod Nesting

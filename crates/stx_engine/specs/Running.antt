@@ -26,6 +26,7 @@ use Rattle.sheet_runs.specs.Runs.{AreAsTold, FailsOn}
 use Rattle.sheet_runs.specs.Talk.{Exchange, Leads, beside_in, none_beside}
 use Rattle.run_engine.specs.Run.{head}
 use Rattle.stx_engine.specs.Answer.{Answer, Plan, accepted, answer, asked, asks_any_run, asks_run, loaded, sheet_named}
+use Rattle.stx_engine.specs.Doing.{param_of}
 use Rattle.stx_engine.specs.Driving.{FailedAt, IsSettledAt, ReadsAll, UnlessFailed, is_doc_read}
 use Rattle.stx_engine.specs.Plain.{pass_of}
 use Rattle.stx_engine.specs.RunEnd.{line_in, outcome_in, status_in}
@@ -53,12 +54,14 @@ pub record FailedOnOther (reads : Reads) (words : List (List ℕ)) (docs : List 
   pub command : Command
   pub sheet : model.Sheet
   pub talk : List Exchange
+  pub start : engine.Run
   pub run : engine.Run
   pub asked_for : command_of words ≡ Some command
   pub accepts : (loaded reads docs command).result ≡ Ok sheet
   pub does_more : pass_of sheet ≡ None
-  pub leads : Leads (engine.at_start sheet command.limits) talk run
-  pub handed : AreAsTold docs (beside_in none_beside (engine.at_start sheet command.limits) talk)
+  pub begun : engine.IsAtStart sheet (map param_of command.params) command.limits start
+  pub leads : Leads start talk run
+  pub handed : AreAsTold docs (beside_in none_beside start talk)
   pub fails : FailsOn run file offset
 
 abbrev pub FailedOn : Reads → (words : List (List ℕ)) → List Doc → List Act → (file : List ℕ) → (offset : ℕ) → Type 0

@@ -4,7 +4,7 @@ ghost use Rattle.stx_base.specs.declared.limits.Limits.{Limits};
 ghost use Rattle.stx_host.specs.Before.{since};
 ghost use Rattle.stx_host.specs.declared.act.Doc.{Doc};
 ghost use Rattle.command_words.specs.declared.command.Mode.TheVariants as mode;
-ghost use Rattle.run_engine.specs.Run.{at_start};
+ghost use Rattle.run_engine.specs.Run.{IsAtStart};
 ghost use Rattle.sheet_loader.specs.Values.{Reads};
 ghost use Rattle.sheet_model.specs.Sound.{IsSound};
 ghost use Rattle.stx_engine.specs.Answer.{Answer, answer};
@@ -12,6 +12,7 @@ ghost use Rattle.stx_engine.specs.Doing.{AreUsual, Does, DoesCommand, DoesWords,
 ghost use Rattle.stx_engine.specs.Driving.{Drives, DrivesSample};
 ghost use Rattle.stx_engine.specs.Engine.{GoesOn, IsWaiting, Means};
 ghost use Rattle.stx_engine.specs.Headline.{AsksSettled, BeginsWell, DoesAll, EndsInLine, GivesAnswer, IsPlainStatus, IsStatus, NotesAfterFailure, NotesItsFailure, OpensFirst, ReadsSheetFirst, ReadsToEnd, RefusesUnnamed, Tells, TellsMain};
+ghost use Rattle.stx_engine.specs.Kept.{Asked_for, AsksOrdinary, Keeps};
 ghost use Rattle.stx_engine.specs.Nesting.{EndsHaveStarts};
 ghost use Rattle.stx_engine.specs.Running.{Reports, Runs};
 ghost use Rattle.stx_engine.specs.Words.{spelled};
@@ -28,14 +29,14 @@ use crate::run_end::{HOST_FAILED, RunEnd, Summary, end_of_run, end_of_sample};
 use command_words::{Command, Mode, Param as Given, WordsFault, read_words};
 use fault_report::{HostFault, OUT_OF_MEMORY, Outcome};
 use run_engine::Engine as SheetEngine;
-use sample_maker::make_sample;
+use sample_maker::{law as sample_law, make_sample};
 use sheet_files::{Loaded, load_sheet};
 use sheet_model::{Kinds, Sheet};
-use sheet_runs::{End, Main, PIECE, Ran, failure, next_chunk, run_sheet, write};
+use sheet_runs::{End, Main, PIECE, Ran, failure, law as sheet_law, next_chunk, run_sheet, write};
 use std::alloc::Global;
 use stx_base::{Limits, List, Memory};
 use stx_host::{Got, Host, Lane};
-use template_machine::Param;
+use template_machine::{Param, law as machine_law};
 
 /// The status where memory was wanting.
 const MEMORY_WANTING: u8 = 7;
@@ -63,6 +64,9 @@ pub fn transform<H: Host>(alloc: Global, words: &[String], host: &mut H) -> u8
     ensures failure { (reads : Reads) (docs : List Doc) (main : List ℕ) (a : Answer) → Tells (H.outside host.old) docs main → answer reads (spelled words.now) docs main ≡ Some a → NotesAfterFailure (H.outside host.old) (H.outside host.new) reads (spelled words.now) docs result a }
     // Then no part is refused, and no fuel is spent.
     ensures plain { (reads : Reads) (docs : List Doc) (main : List ℕ) (a : Answer) → Tells (H.outside host.old) docs main → answer reads (spelled words.now) docs main ≡ Some a → IsPlainStatus result }
+    // Of sheets that take the nodes of the main document alone, each list in order, and do more than to pass them through, in the same way:
+    // before each read, in the end, and after any stop what is written is what the sheet means on the document's tree.
+    ensures keeps { (reads : Reads) (docs : List Doc) (main : List ℕ) (k : Asked_for) → Tells (H.outside host.old) docs main → AsksOrdinary reads (spelled words.now) docs k → Keeps (H.outside host.old) (H.outside host.new) reads (spelled words.now) docs main result k }
     // Whatever the sheet does: its files are opened before all else, in their order, and read no further than it takes to decide it;
     ensures sheet { (reads : Reads) (docs : List Doc) (main : List ℕ) → Tells (H.outside host.old) docs main → ReadsSheetFirst (H.outside host.old) (H.outside host.new) reads (spelled words.now) docs main result }
     // the output begins with its head, which is written before the main document is read;
@@ -78,6 +82,9 @@ pub fn transform<H: Host>(alloc: Global, words: &[String], host: &mut H) -> u8
     ensures ids { (H.outside host.new).open_ids ≡ (H.outside host.old).open_ids }
 {
     law::documents();
+    machine_law::one_meaning();
+    sheet_law::meant();
+    sample_law::pieces();
     let end = run(alloc, words, host);
     match end.line(alloc) {
         Ok(line) => report(line.as_str(), end.status(), host),
@@ -220,7 +227,7 @@ fn passing(alloc: Global, asked: Asked, pass: Kinds) -> Engine
 fn run_any<H: Host>(alloc: Global, asked: Asked, sheet: Sheet, main: Main, host: &mut H) -> Ran
     requires sound { IsSound sheet }
     requires limits { AreUsual asked.limits }
-    ensures { RunsAny asked.limits sheet main (H.outside host.old) (H.outside host.new) result }
+    ensures { RunsAny (map param_of asked.params) asked.limits sheet main (H.outside host.old) (H.outside host.new) result }
 {
     match engine_of(alloc, asked, sheet) {
         Ok(engine) => run_sheet(alloc, engine, main, host),
@@ -235,7 +242,7 @@ fn run_any<H: Host>(alloc: Global, asked: Asked, sheet: Sheet, main: Main, host:
 fn engine_of(alloc: Global, asked: Asked, sheet: Sheet) -> Result<SheetEngine, Memory>
     requires sound { IsSound sheet }
     requires limits { AreUsual asked.limits }
-    ensures { IfOk result (λ engine. engine ≡ at_start sheet asked.limits) }
+    ensures { IfOk result (IsAtStart sheet (map param_of asked.params) asked.limits) }
 {
     let Asked {
         name,
@@ -317,7 +324,7 @@ fn drive_sample<H: Host>(alloc: Global, engine: Engine, records: u64, host: &mut
     requires waits { IsWaiting engine }
     ensures { (limits : Limits) (pass : Kinds) → Means limits pass engine → DrivesSample limits pass engine.sheet records (H.outside host.old) (H.outside host.new) result }
 {
-    sample_maker::law::pieces();
+    sample_law::pieces();
     let mut engine = engine;
     let mut sample = make_sample(records);
     let mut settled = Vec::new(alloc);

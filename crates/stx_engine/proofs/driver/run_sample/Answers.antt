@@ -1,6 +1,6 @@
-use Rattle.std.proofs.Common.{arith, refl, subst, sym}
+use Rattle.std.proofs.Common.{arith, map, refl, subst, sym}
 use Rattle.sheet_runs.specs.declared.main_document.Main.TheVariants as main
-use Rattle.stx_engine.specs.Doing.{PassesSample, RunsAny, RunsOnSample}
+use Rattle.stx_engine.specs.Doing.{PassesSample, RunsAny, RunsOnSample, param_of}
 use Rattle.stx_engine.specs.Driving.{DrivesSample}
 use Rattle.stx_engine.specs.Engine.{GoesOn}
 use Rattle.stx_engine.proofs.driver.run_sample.Goals as goal
@@ -21,4 +21,4 @@ returns-in-None g c =
     let old = g.H.Host.outside c.args.host.now in
     let new = g.H.Host.outside c.run_any.new.host in
     RunsOnSample c.args.records refl (sym c.in-None.ensures) c.run_any.result
-    (subst (λ pieces. RunsAny c.args.asked.limits c.args.sheet (main.Sample pieces) old new c.run_any.result) c.make_sample.ensures c.run_any.ensures) c.end_of_sample.ensures
+    (subst (λ pieces. RunsAny (map param_of c.args.asked.params) c.args.asked.limits c.args.sheet (main.Sample pieces) old new c.run_any.result) c.make_sample.ensures c.run_any.ensures) c.end_of_sample.ensures

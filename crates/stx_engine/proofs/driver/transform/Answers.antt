@@ -6,7 +6,8 @@ use Rattle.stx_engine.specs.Running.{Reports, Runs}
 use Rattle.stx_engine.specs.Words.{spelled}
 use Rattle.stx_engine.specs.declared.run_end.RunEnd.{RunEnd}
 use Rattle.stx_engine.specs.declared.run_end.RunEnd.TheVariants.{Told, Unnoted}
-use Rattle.stx_engine.proofs.Headed.{asks_settled, begins_output, begins_well, ends_in_line, gives_answer, gives_ids_back, is_plain, is_status, notes_failure, notes_its_failure, opens_first, reads_sheet_first, reads_to_end, refuses_unnamed}
+use Rattle.stx_engine.proofs.Headed.{asks_settled, begins_output, begins_well, ends_in_line, gives_answer, gives_ids_back, is_plain, keeps, is_status, notes_failure, notes_its_failure, opens_first, reads_sheet_first, reads_to_end, refuses_unnamed, told_of}
+use Rattle.stx_engine.proofs.Kept.{kept-lacking, kept-words}
 use Rattle.stx_engine.proofs.LastLine.{ran-wanting-line}
 use Rattle.stx_engine.proofs.Nested.{answer-nests}
 use Rattle.stx_engine.proofs.driver.transform.Goals as goal
@@ -33,6 +34,9 @@ returns-in-Ok g c =
       opened = λ reads docs main a tells is. opens_first words old mid new end r result reports docs main tells reads a is;
       failure = λ reads docs main a tells is. notes_failure words old mid new end r result reports docs main tells reads a is;
       plain = λ reads docs main a tells is. is_plain words old mid new end r result reports docs main tells reads a is;
+      keeps = λ reads docs main k tells asks.
+          keeps words old mid new end r result reports docs main tells reads k
+          (kept-words c.meant.ensures.keeps c.one_meaning.ensures.some c.one_meaning.ensures.function c.pieces.ensures.joined reads words docs main k asks old (told_of old.open_ids old.documents docs tells.open_ids tells.documents) tells.main_document mid end c.run-end.ensures.does);
       sheet = λ reads docs main tells. reads_sheet_first words old mid new end r result reports docs main tells reads;
       begins = λ main tells. begins_well words old mid new end r result reports main tells;
       line = λ reads docs main tells. ends_in_line words old mid new end r result reports docs main tells reads;
@@ -65,6 +69,10 @@ returns g c =
       opened = λ reads docs main a tells is. opens_first words old mid new end r result reports docs main tells reads a is;
       failure = λ reads docs main a tells is. notes_failure words old mid new end r result reports docs main tells reads a is;
       plain = λ reads docs main a tells is. is_plain words old mid new end r result reports docs main tells reads a is;
+      keeps = λ reads docs main k tells asks.
+          keeps words old mid new end r result reports docs main tells reads k
+          (kept-lacking reads words docs main k old mid c.run-end.result
+          (kept-words c.meant.ensures.keeps c.one_meaning.ensures.some c.one_meaning.ensures.function c.pieces.ensures.joined reads words docs main k asks old (told_of old.open_ids old.documents docs tells.open_ids tells.documents) tells.main_document mid c.run-end.result c.run-end.ensures.does));
       sheet = λ reads docs main tells. reads_sheet_first words old mid new end r result reports docs main tells reads;
       begins = λ main tells. begins_well words old mid new end r result reports main tells;
       line = λ reads docs main tells. ends_in_line words old mid new end r result reports docs main tells reads;
