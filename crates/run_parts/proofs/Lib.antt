@@ -1,0 +1,6 @@
+mod Following
+pub mod Sound
+mod Ordered
+mod Walk
+mod Acts
+mod Kept

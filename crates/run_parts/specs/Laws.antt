@@ -1,0 +1,36 @@
+-- What laws of the definitions say.
+use Rattle.std.specs.Prelude.{◌≡◌, true, List, None}
+use Rattle.std.specs.List.{list_all}
+use Rattle.stx_base.specs.Course.{Ends}
+use Rattle.instr_code.specs.Code.{code_of}
+use Rattle.result_writer.specs.Target.{Left, first_fault, nothing, text_from}
+use Rattle.template_machine.specs.Ending.{Ending, Said}
+use Rattle.template_machine.specs.Job.{Given}
+use Rattle.template_machine.specs.Meaning.{code, meaning}
+use Rattle.template_machine.specs.Ordinary.{IsOrdinary}
+use Rattle.template_machine.specs.Written.{settled_by}
+use Rattle.xml_events.specs.Tree.{Forest}
+use Rattle.run_parts.specs.Parts.{parts_of}
+use Rattle.run_parts.specs.Sound.{declares_names, holds_sections, is_sound_part}
+
+-- The bytes of what is said are those of its parts.
+abbrev pub SettlesParts : Type 0
+SettlesParts = (l : Left) (said : List Said) → settled_by l said ≡ text_from l (parts_of said)
+
+-- No part has a fault behind those before it, whatever the sheet does: a run stops at the first one that has.
+abbrev pub PutsAccepted : Type 0
+PutsAccepted =
+    (given : Given) (tree : Forest) (said : List Said) (e : Ending)
+    → Ends (code given) (meaning given tree) said e
+    → first_fault given.limits.elements nothing (parts_of said) ≡ None
+
+-- Where the sheet takes the nodes of the main document alone, each list in order, and no part goes elsewhere than to the output, all parts are
+-- sound on a document that declares names as prefixes, and whose CDATA sections have texts that ones may have.
+abbrev pub PutsSound : Type 0
+PutsSound =
+    (given : Given) (tree : Forest) (said : List Said) (e : Ending)
+    → IsOrdinary (code_of given.sheet)
+    → declares_names tree ≡ true
+    → holds_sections tree ≡ true
+    → Ends (code given) (meaning given tree) said e
+    → list_all is_sound_part (parts_of said) ≡ true

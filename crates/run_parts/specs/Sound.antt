@@ -1,0 +1,34 @@
+-- Parts of which more is known than that a result accepts them, and documents whose copies are such parts.
+use Rattle.std.specs.Prelude.{Bool, true, ◌&&◌}
+use Rattle.std.specs.List.{list_all}
+use Rattle.stx_base.specs.Character.{is_cdata_text}
+use Rattle.stx_base.specs.declared.part.Part.{Part}
+use Rattle.stx_base.specs.declared.part.Part.TheVariants as part
+use Rattle.result_writer.specs.Allowed.{is_prefix}
+use Rattle.xml_events.specs.Tree.{Leaf, CData, Forest, End, Cut, Single, Nested}
+
+-- what no fault of a part speaks of: the prefixes that are in force where an element comes from are names, or none, and a
+-- CDATA section may have its text
+abbrev pub is_sound_part : Part → Bool
+is_sound_part (part.Start name scope) = list_all (λ b. is_prefix b.prefix) scope
+is_sound_part (part.CData text) = is_cdata_text text
+is_sound_part p = true
+
+-- all prefixes that are declared are names, or none
+abbrev pub declares_names : Forest → Bool
+declares_names (End m offset) = true
+declares_names (Cut why) = true
+declares_names (Single m leaf next) = declares_names next
+declares_names (Nested m e kids next) = list_all (λ b. is_prefix b.prefix) e.decls && (declares_names kids && declares_names next)
+
+-- a leaf that is a CDATA section has a text that one may have
+abbrev pub is_sound_leaf : Leaf → Bool
+is_sound_leaf (CData offset text) = is_cdata_text text
+is_sound_leaf leaf = true
+
+-- so it is with all leaves of a list, and of the lists in it
+abbrev pub holds_sections : Forest → Bool
+holds_sections (End m offset) = true
+holds_sections (Cut why) = true
+holds_sections (Single m leaf next) = is_sound_leaf leaf && holds_sections next
+holds_sections (Nested m e kids next) = holds_sections kids && holds_sections next
