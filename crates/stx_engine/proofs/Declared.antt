@@ -1,52 +1,28 @@
 -- The prefixes of a run's parts are names, where those of its document are.
 use Rattle.std.proofs.Common.{◌≡◌, ℕ, Bool, true, false, not, ◌&&◌, List, [], ◌∷◌, ◌++◌, Option, Some, None, map, refl, ap, ◌∙◌}
-use Rattle.std.specs.Prelude.{if◌then◌else◌, filter}
+use Rattle.std.specs.Prelude.{filter}
 use Rattle.std.specs.List.{list_all}
 use Rattle.std.proofs.lemmas.Bool.{and_from, and_parts}
 use Rattle.stx_base.specs.declared.name.Attr.{Attr}
 use Rattle.stx_base.specs.declared.name.Binding.{Binding}
 use Rattle.stx_base.specs.declared.name.Name.{Name}
 use Rattle.stx_base.specs.declared.part.Part.{Part}
-use Rattle.result_writer.specs.Allowed.{is_empty, is_prefix}
+use Rattle.result_writer.specs.Allowed.{is_empty}
 use Rattle.result_writer.specs.Laws.{WritesPrefixes}
-use Rattle.result_writer.specs.Table.{has_prefix, in_order, placed, precedes}
+use Rattle.result_writer.specs.Table.{has_prefix}
 use Rattle.result_writer.specs.Target.{Left, fault, first_fault, next, nothing, or_else}
 use Rattle.result_writer.specs.declared.fault.ResultFault.{ResultFault}
 use Rattle.xml_events.specs.Tree.{Why, Leaf, Chars, CData, Comment, Pi, Forest, End, Cut, Single, Nested, Stage, Waiting, Ready, Entered}
-use Rattle.stx_engine.specs.Accepted.{RunsNest, declares_names}
+use Rattle.run_parts.specs.Sound.{declares_names, is_sound_part}
+use Rattle.run_parts.proofs.Sound.{filter_named, named, order_named}
+use Rattle.stx_engine.specs.Accepted.{RunsNest}
 use Rattle.stx_engine.specs.Meaning.{attribute_part, copied_attrs, end_parts, leaf_parts, parts_if, start_parts}
-use Rattle.stx_engine.specs.Output.{is_sound_part, output}
+use Rattle.stx_engine.specs.Output.{output}
 use Rattle.stx_engine.specs.Passed.{Passed, once_ready, passed, put, run_from, then_put, unless_refused, unless_stopped, with_first}
 use Rattle.stx_engine.specs.Scope.{scope_within}
 use Rattle.sheet_model.specs.declared.pass.Kinds.{Kinds}
 use Rattle.stx_engine.proofs.Beginnings.{run-passed}
 use Rattle.stx_engine.proofs.Parts.{parts-nest}
-
-abbrev named : Binding → Bool
-named b = is_prefix b.prefix
-
-filter_named : (q : Binding → Bool) (bs : List Binding) → list_all named bs ≡ true → list_all named (filter q bs) ≡ true
-filter_named q [] h = refl
-filter_named q (b ∷ bs) h =
-    let both = and_parts (named b) (list_all named bs) h in
-    by_test (q b) both.0 (filter_named q bs both.1) where
-      by_test : (t : Bool) → named b ≡ true → list_all named (filter q bs) ≡ true → list_all named (if t then b ∷ filter q bs else filter q bs) ≡ true
-      by_test true is all = and_from _ _ is all
-      by_test false is all = all
-
-placed_named : (b : Binding) (cs : List Binding) → named b ≡ true → list_all named cs ≡ true → list_all named (placed b cs) ≡ true
-placed_named b [] h k = and_from _ _ h refl
-placed_named b (c ∷ cs) h k =
-    let both = and_parts (named c) (list_all named cs) k in
-    by_test (precedes b.prefix c.prefix) (placed_named b cs h both.1) both.0 where
-      by_test : (t : Bool) → list_all named (placed b cs) ≡ true → named c ≡ true → list_all named (if t then b ∷ c ∷ cs else c ∷ placed b cs) ≡ true
-      by_test true all is = and_from _ _ h k
-      by_test false all is = and_from _ _ is all
-
-order_named : (sorted bs : List Binding) → list_all named sorted ≡ true → list_all named bs ≡ true → list_all named (in_order sorted bs) ≡ true
-order_named sorted [] h k = h
-order_named sorted (b ∷ bs) h k =
-    let both = and_parts (named b) (list_all named bs) k in order_named (placed b sorted) bs (placed_named b sorted both.0 h) both.1
 
 within_named : (scope decls : List Binding) → list_all named scope ≡ true → list_all named decls ≡ true → list_all named (scope_within scope decls) ≡ true
 within_named scope decls h k =

@@ -24,7 +24,8 @@ use Rattle.xml_events.specs.Before.{Before, behind_text, without_text, at_start,
 use Rattle.xml_events.specs.Document.{Closes, Item, Opens, Says, Stands, at_end, completes, cuts, doc, element_at, inner, items_of, judged, lists_of, outer, reading, readied, stops, text_before, text_items, with_item, with_items}
 use Rattle.xml_events.specs.Lexed.{answered, lexed_from, lexed_within, unread}
 use Rattle.xml_events.specs.Tree.{Why, Need, Bad, Mark, Fresh, Leaf, Chars, CData, Comment, Pi, Element, Forest, End, Cut, Single, Nested, Future}
-use Rattle.stx_engine.specs.Accepted.{DocumentsAreTaken, DocumentsNest, declares_names, is_good, is_good_element, is_good_leaf}
+use Rattle.run_parts.specs.Sound.{declares_names}
+use Rattle.stx_engine.specs.Accepted.{DocumentsAreTaken, DocumentsNest, is_good, is_good_element, is_good_leaf}
 use Rattle.xml_tokens.specs.Judged.{is_target}
 use Rattle.xml_tokens.specs.Sayable.{LexemesAreSayable, is_comment, is_data, is_literal, is_sayable}
 use Rattle.stx_engine.proofs.Accepted.{takes-good}

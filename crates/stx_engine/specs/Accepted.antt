@@ -4,10 +4,11 @@ use Rattle.std.specs.List.{list_all}
 use Rattle.stx_base.specs.Course.{Begins}
 use Rattle.stx_base.specs.declared.limits.Limits.{Limits}
 use Rattle.stx_base.specs.declared.name.Attr.{Attr}
-use Rattle.result_writer.specs.Allowed.{are_chars, is_good_attribute, is_good_comment, is_good_data, is_good_name, is_good_target, is_prefix}
+use Rattle.result_writer.specs.Allowed.{are_chars, is_good_attribute, is_good_comment, is_good_data, is_good_name, is_good_target}
 use Rattle.result_writer.specs.declared.fault.ResultFault.{ResultFault}
 use Rattle.xml_events.specs.Tree.{Leaf, Chars, CData, Comment, Pi, Element, Forest, End, Cut, Single, Nested}
 use Rattle.stx_host.specs.declared.act.Doc.{Doc}
+use Rattle.run_parts.specs.Sound.{declares_names}
 use Rattle.sheet_loader.specs.Values.{Reads}
 use Rattle.stx_engine.specs.Answer.{Answer, answer, result_of, run_of, run_on}
 use Rattle.stx_engine.specs.Meaning.{Refused, outcome}
@@ -37,13 +38,6 @@ is_good room (Nested m e kids next) = nat_lt 0 room && (is_good_element e && (is
 -- No result refuses a part of such a document, where so many of its elements may be open.
 abbrev pub TakesGood : Type 0
 TakesGood = (limit : ℕ) (pass : Kinds) (tree : Forest) (fault : ResultFault) → is_good limit tree ≡ true → (run_of (outcome limit pass tree)).ending ≢ Refused fault
-
--- all prefixes that are declared are names, or none
-abbrev pub declares_names : Forest → Bool
-declares_names (End m offset) = true
-declares_names (Cut why) = true
-declares_names (Single m leaf next) = declares_names next
-declares_names (Nested m e kids next) = list_all (λ b. is_prefix b.prefix) e.decls && (declares_names kids && declares_names next)
 
 -- No end tag in a result of such a document lacks its start tag, wherever the result stops.
 abbrev pub RunsNest : Type 0
