@@ -1,5 +1,5 @@
 -- What a whole call did, by what its run and its last line did.
-use Rattle.std.proofs.Common.{◌≡◌, ◌≢◌, ◌⊎◌, inl, inr, ℕ, ◌+◌, ◌<◌, ◌==◌, if◌then◌else◌, Bool, true, false, List, [], ◌∷◌, ◌++◌, length, take, Option, Some, None, IsSome, arith, refl, sym, ap, ◌∙◌, subst}
+use Rattle.std.proofs.Common.{◌≡◌, ◌≢◌, ◌⊎◌, inl, inr, ℕ, ◌<◌, ◌==◌, if◌then◌else◌, Bool, true, false, List, [], ◌∷◌, ◌++◌, length, take, Option, Some, None, IsSome, arith, refl, sym, ap, ◌∙◌, subst}
 use Rattle.std.specs.Option.{option_and_then}
 use Rattle.std.proofs.lemmas.Bool.{eqb-true, false≢true}
 use Rattle.std.proofs.lemmas.List.{append-nil}
@@ -22,6 +22,7 @@ use Rattle.stx_engine.specs.Headline.{AsksSettled, BeginsWell, EndsInLine, Gives
 use Rattle.fault_report.specs.Line.{line_of, status_of}
 use Rattle.sheet_runs.specs.Meant.{IsSettledOn}
 use Rattle.stx_engine.specs.Kept.{Asked_for, Keeps, RunsOrdinary, given_of, whole}
+use Rattle.stx_engine.specs.Nesting.{EndsHaveStarts}
 use Rattle.stx_engine.specs.Running.{Asks, CountsIn, FailedIn, FailedOn, FailedOnSheet, HasHead, IfDocFailed, IsAnswered, LoadsFirst, OpensNames, RefusesWords, Reports, Runs, RunsMain, RunsTold, TakesParts, unwritten_status}
 use Rattle.fault_report.specs.declared.outcome.HostFault.{HostFault}
 use Rattle.fault_report.specs.declared.outcome.HostFault.TheVariants as fault
@@ -624,11 +625,15 @@ module _ (words : List (List ℕ)) (old mid new : Outside) (end : RunEnd) (r : R
         | inr cut ↦ absurd (none (some_noted old new (cut_rose cut.2 cut.3)))
       ]
 
-      pub keeps : Keeps old new reads words docs main result k
-      keeps = record {
+      begins-whole : Begins (since old.out new.out) (whole k main).out
+      begins-whole = subst (λ out. Begins out (whole k main).out) (sym (out_is main on ∙ same-out)) o.begins.0
+
+      pub keeps : ((front : List ℕ) → Begins front (whole k main).out → EndsHaveStarts front) → Keeps old new reads words docs main result k
+      keeps nests = record {
         gives = gives-whole;
         asks = reads_later main on Settles asked-so;
-        begins = subst (λ out. Begins out (whole k main).out) (sym (out_is main on ∙ same-out)) o.begins.0;
+        begins = begins-whole;
+        nested = nests (since old.out new.out) begins-whole;
         opens =
             subst (OpensFirst docs (loaded reads docs k.command).opened result) (sym (log_is main on))
             (opens_by_status (loaded reads docs k.command).opened acts (opened-so.0, opened-so.1, opens-then r.acts line.lens ∙ opened-so.2, opened-so.3));

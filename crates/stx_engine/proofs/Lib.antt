@@ -30,6 +30,7 @@ pub mod Named
 pub mod SayableParts
 pub mod Sound
 pub mod Nested
+pub mod OrdinaryNests
 pub mod Stopped
 pub mod Copied
 pub mod Untold

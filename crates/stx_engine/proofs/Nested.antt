@@ -19,7 +19,7 @@ use Rattle.stx_engine.specs.Plain.{pass_of}
 use Rattle.sheet_model.specs.declared.pass.Kinds.{Kinds}
 use Rattle.stx_engine.proofs.Matching.{Matched, front_matched, nothing_matched}
 
-nothing-nests : (front : List ℕ) → Begins front [] → EndsHaveStarts front
+pub nothing-nests : (front : List ℕ) → Begins front [] → EndsHaveStarts front
 nothing-nests front b = front_matched front b.0 (subst (Matched []) (sym b.1) (nothing_matched []))
 
 only : (a b : Answer) (front : List ℕ) → Some a ≡ Some b → (Begins front a.out → EndsHaveStarts front) → Begins front b.out → EndsHaveStarts front

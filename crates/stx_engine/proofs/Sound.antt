@@ -5,7 +5,7 @@ use Rattle.std.specs.List.{list_all}
 use Rattle.std.specs.Option.{option_or}
 use Rattle.std.proofs.lemmas.Bool.{and_from, and_parts}
 use Rattle.std.proofs.lemmas.Bool.Decides.{nat_tests}
-use Rattle.stx_base.specs.Character.{is_char, is_name}
+use Rattle.stx_base.specs.Character.{is_char, is_name, is_space}
 use Rattle.stx_base.specs.declared.fault.XmlKind.{XmlKind}
 use Rattle.stx_base.specs.declared.fault.XmlKind.TheVariants.{Misplaced, Mismatch, TooDeep, Truncated}
 use Rattle.stx_base.specs.declared.limits.Limits.{Limits}
@@ -20,8 +20,8 @@ use Rattle.xml_tokens.specs.declared.lexeme.RawAttr.{RawAttr}
 use Rattle.xml_tokens.specs.declared.lexeme.Step.{Step}
 use Rattle.xml_tokens.specs.declared.lexeme.Step.TheVariants as step
 use Rattle.xml_names.specs.Tag.{name_fault, resolved}
-use Rattle.xml_events.specs.Before.{Before, behind_text, without_text, at_start, before_next, fault_of, is_complete, is_full, is_innermost, is_inside, is_misplaced, outer_names, unfit}
-use Rattle.xml_events.specs.Document.{Closes, Item, Opens, Says, Stands, at_end, completes, cuts, doc, element_at, inner, items_of, judged, lists_of, outer, reading, readied, stops, text_before, text_items, with_item, with_items}
+use Rattle.xml_events.specs.Before.{Before, behind_text, without_text, before_next, fault_of, is_complete, is_full, is_innermost, is_inside, is_misplaced, outer_names, starting, unfit}
+use Rattle.xml_events.specs.Document.{Closes, Item, Opens, Says, Stands, at_end, completes, cuts, doc, doc_for, element_at, inner, items_of, judged, lists_of, outer, reading, readied, stops, stripped, text_before, text_items, with_item, with_items}
 use Rattle.xml_events.specs.Lexed.{answered, lexed_from, lexed_within, unread}
 use Rattle.xml_events.specs.Tree.{Why, Need, Bad, Mark, Fresh, Leaf, Chars, CData, Comment, Pi, Element, Forest, End, Cut, Single, Nested, Future}
 use Rattle.run_parts.specs.Sound.{declares_names}
@@ -302,15 +302,50 @@ readied-declares (Nested m e kids next) =
     ap (λ t. list_all (λ (b : Binding). is_prefix b.prefix) e.decls && (t && declares_names (readied next))) (readied-declares kids)
     ∙ ap (λ t. list_all (λ (b : Binding). is_prefix b.prefix) e.decls && (declares_names kids && t)) (readied-declares next)
 
-doc-sound : LexemesAreSayable → (limits : Limits) (bytes : List ℕ) (ended : Bool) → Sound limits.depth (doc limits false bytes ended)
-doc-sound said limits bytes ended =
+-- the list of the document node, before nodes are marked
+abbrev read : Limits → (cdata : Bool) → (bytes : List ℕ) → (ended : Bool) → Forest
+read limits cdata bytes ended = let r = unread limits bytes ended in inner (lists_of (reading limits (fed r) (lexed_from r).last (starting cdata) (lexed_from r).lexemes))
+
+read-sound : LexemesAreSayable → (limits : Limits) (cdata : Bool) (bytes : List ℕ) (ended : Bool) → Sound limits.depth (read limits cdata bytes ended)
+read-sound said limits cdata bytes ended =
     let r = unread limits bytes ended in
     let lexed = lexed_from r in
-    let lists = lists_of (reading limits (fed r) lexed.last at_start lexed.lexemes) in
-    let all = reading-sound limits (fed r) lexed.last at_start lexed.lexemes (lexemes-said said (suc (length r.unread)) r refl) refl (omega arith) in
+    let lists = lists_of (reading limits (fed r) lexed.last (starting cdata) lexed.lexemes) in
+    let all = reading-sound limits (fed r) lexed.last (starting cdata) lexed.lexemes (lexemes-said said (suc (length r.unread)) r refl) refl (omega arith) in
     let room : limits.depth - 0 ≡ limits.depth = omega arith in
-    let first = inner-sound limits.depth lists (subst (λ n. AreSound n lists) room all) in
-    (readied-good limits.depth (inner lists) ∙ first.0, readied-declares (inner lists) ∙ first.1)
+    inner-sound limits.depth lists (subst (λ n. AreSound n lists) room all)
+
+doc-sound : LexemesAreSayable → (limits : Limits) (bytes : List ℕ) (ended : Bool) → Sound limits.depth (doc limits false bytes ended)
+doc-sound said limits bytes ended =
+    let list = read limits false bytes ended in
+    let first = read-sound said limits false bytes ended in
+    (readied-good limits.depth list ∙ first.0, readied-declares list ∙ first.1)
+
+-- a list declares no more without some of its texts
+stripped-declares : (f : Forest) → declares_names f ≡ true → declares_names (stripped f) ≡ true
+stripped-declares (End m offset) h = refl
+stripped-declares (Cut why) h = refl
+stripped-declares (Single m (Chars offset text) next) h = by_test (list_all is_space text) (stripped-declares next h) where
+  by_test : (t : Bool) → declares_names (stripped next) ≡ true → declares_names (if t then stripped next else Single m (Chars offset text) (stripped next)) ≡ true
+  by_test true k = k
+  by_test false k = k
+stripped-declares (Single m (CData offset text) next) h = stripped-declares next h
+stripped-declares (Single m (Comment offset text) next) h = stripped-declares next h
+stripped-declares (Single m (Pi offset target text) next) h = stripped-declares next h
+stripped-declares (Nested m e kids next) h =
+    let b = and_parts (list_all (λ (b : Binding). is_prefix b.prefix) e.decls) (declares_names kids && declares_names next) h in
+    let c = and_parts (declares_names kids) (declares_names next) b.1 in
+    and_from _ _ b.0 (and_from _ _ (stripped-declares kids c.0) (stripped-declares next c.1))
+
+finished-declares : (strip : Bool) (f : Forest) → declares_names f ≡ true → declares_names (if strip then stripped f else f) ≡ true
+finished-declares true f h = stripped-declares f h
+finished-declares false f h = h
+
+-- so it is however a document is read
+pub all-declare : LexemesAreSayable → (limits : Limits) (strip cdata : Bool) (bytes : List ℕ) (ended : Bool) → declares_names (doc_for limits strip cdata bytes ended) ≡ true
+all-declare said limits strip cdata bytes ended =
+    let list = read limits cdata bytes ended in
+    readied-declares (if strip then stripped list else list) ∙ finished-declares strip list (read-sound said limits cdata bytes ended).1
 
 -- more room does no harm
 more-room : (r s : ℕ) (f : Forest) → r ≤ s → is_good r f ≡ true → is_good s f ≡ true

@@ -1,6 +1,6 @@
 -- What the program answers to runs of sheets that take the nodes of the main document alone, each list in order, and that do more than to pass
 -- them through: what the sheet means.
-use Rattle.std.specs.Prelude.{◌≡◌, ◌≢◌, ℕ, ◌⊎◌, true, List, [], ◌++◌, map, take, Option, Some, None, Ok}
+use Rattle.std.specs.Prelude.{◌≡◌, ◌≢◌, ℕ, ◌⊎◌, true, List, [], ◌++◌, map, take, Some, None, Ok}
 use Rattle.stx_base.specs.Course.{Answer as Came, Begins, Given as Gave, Over, Unknown}
 use Rattle.stx_host.specs.Before.{AtMainReads, Between, since}
 use Rattle.stx_host.specs.Outside.{Outside, Rose}
@@ -22,7 +22,7 @@ use Rattle.fault_report.specs.declared.outcome.Outcome.TheVariants.{Memory}
 use Rattle.command_words.specs.Words.{command_of}
 use Rattle.command_words.specs.declared.command.Command.{Command}
 use Rattle.command_words.specs.declared.command.Mode.{Mode}
-use Rattle.command_words.specs.declared.command.Mode.TheVariants.{Run as AsksRun, Sample}
+use Rattle.command_words.specs.declared.command.Mode.TheVariants.{Sample}
 use Rattle.run_engine.specs.Does.{told_as}
 use Rattle.run_engine.specs.Run.{head}
 use Rattle.sheet_runs.specs.Meant.{IsSettledOn, tree_of}
@@ -30,6 +30,7 @@ use Rattle.stx_engine.specs.Answer.{is_any_run, loaded}
 use Rattle.stx_engine.specs.Doing.{param_of}
 use Rattle.stx_engine.specs.Driving.{UnlessFailed}
 use Rattle.stx_engine.specs.Headline.{IsFailure, OpensFirst, SomeRose}
+use Rattle.stx_engine.specs.Nesting.{EndsHaveStarts}
 use Rattle.stx_engine.specs.Plain.{pass_of}
 use Rattle.stx_engine.specs.RunEnd.{line_in, on_sample, outcome_in, sample_of, status_in, summary_of}
 use Rattle.stx_engine.specs.Running.{FailedOnSheet, IfDocFailed, OpensNames}
@@ -85,6 +86,10 @@ abbrev pub whole : Asked_for → (main : List ℕ) → Whole
 whole k main =
     whole_by (given_of k) k.command.mode (meant.outcome (given_of k) (tree_of (given_of k) (record { bytes = document_of k.command.mode main; ended = true })))
 
+-- No end tag in that lacks its start tag, wherever it stops.
+abbrev pub OrdinaryNests : Type 0
+OrdinaryNests = (k : Asked_for) (main front : List ℕ) → IsOrdinary (code_of k.sheet) → Begins front (whole k main).out → EndsHaveStarts front
+
 -- what such a run did, and how it ended, before the last line is written
 pub record RunsOrdinary (reads : Reads) (words : List (List ℕ)) (docs : List Doc) (main : List ℕ) (k : Asked_for) (old new : Outside) (end : RunEnd) : Type 0 where
   pub acts : List Act
@@ -106,6 +111,8 @@ pub record Keeps (old new : Outside) (reads : Reads) (words : List (List ℕ)) (
   pub asks : AtMainReads (since old.log new.log) (since old.out new.out) (since old.note new.note) (λ taken. IsSettledOn (given_of k) (take taken.main_read main) taken)
   -- after any stop the output is a beginning of that
   pub begins : Begins (since old.out new.out) (whole k main).out
+  -- no end tag in it lacks its start tag
+  pub nested : EndsHaveStarts (since old.out new.out)
   -- only the files of the sheet are opened, in their order
   pub opens : OpensFirst docs (loaded reads docs k.command).opened status (since old.log new.log)
   -- where the host failed or memory was wanting, `Note` has a beginning of the messages, and then a line that says which and where, unless it

@@ -82,6 +82,7 @@ pub fn transform<H: Host>(alloc: Global, words: &[String], host: &mut H) -> u8
     ensures ids { (H.outside host.new).open_ids ≡ (H.outside host.old).open_ids }
 {
     law::documents();
+    law::ordinary();
     machine_law::one_meaning();
     sheet_law::meant();
     sample_law::pieces();

@@ -9,6 +9,7 @@ ghost use Rattle.stx_engine.specs.Passed.{passed, run_from};
 ghost use Rattle.stx_engine.specs.Accepted.{AnswersAreTaken, AnswersNest, DocumentsAreTaken, DocumentsNest, RunsNest, TakesGood};
 ghost use Rattle.stx_engine.specs.Copies.{CopiesAll, CopiesNothing, WritesDocuments, WritesTexts};
 ghost use Rattle.stx_engine.specs.Ending.{BeginningIsOpen, WholeIsOver};
+ghost use Rattle.stx_engine.specs.Kept.{OrdinaryNests};
 ghost use Rattle.stx_engine.specs.Nesting.{EndsHaveStarts};
 ghost use Rattle.stx_engine.specs.Growing.{AnswerStays, BytesStay, RunStays};
 ghost use Rattle.stx_engine.specs.Older.{RunsAsBefore};
@@ -72,6 +73,17 @@ pub fn documents()
 {
     xml_tokens::laws::said();
     result_writer::law::prefixes_are_names();
+}
+
+/// No end tag in what an ordinary sheet means on a document lacks its start tag, wherever it stops.
+pub fn ordinary()
+    ensures { OrdinaryNests }
+{
+    xml_tokens::laws::said();
+    result_writer::law::prefixes_are_names();
+    run_engine::law::documents();
+    run_parts::law::accepted();
+    run_parts::law::sound();
 }
 
 /// Where a document has ended and where it hasn't.

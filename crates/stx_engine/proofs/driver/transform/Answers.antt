@@ -36,7 +36,8 @@ returns-in-Ok g c =
       plain = λ reads docs main a tells is. is_plain words old mid new end r result reports docs main tells reads a is;
       keeps = λ reads docs main k tells asks.
           keeps words old mid new end r result reports docs main tells reads k
-          (kept-words c.meant.ensures.keeps c.one_meaning.ensures.some c.one_meaning.ensures.function c.pieces.ensures.joined reads words docs main k asks old (told_of old.open_ids old.documents docs tells.open_ids tells.documents) tells.main_document mid end c.run-end.ensures.does);
+          (kept-words c.meant.ensures.keeps c.one_meaning.ensures.some c.one_meaning.ensures.function c.pieces.ensures.joined reads words docs main k asks old (told_of old.open_ids old.documents docs tells.open_ids tells.documents) tells.main_document mid end c.run-end.ensures.does)
+          (λ front begins. c.ordinary.ensures k main front asks.ordinary begins);
       sheet = λ reads docs main tells. reads_sheet_first words old mid new end r result reports docs main tells reads;
       begins = λ main tells. begins_well words old mid new end r result reports main tells;
       line = λ reads docs main tells. ends_in_line words old mid new end r result reports docs main tells reads;
@@ -72,7 +73,8 @@ returns g c =
       keeps = λ reads docs main k tells asks.
           keeps words old mid new end r result reports docs main tells reads k
           (kept-lacking reads words docs main k old mid c.run-end.result
-          (kept-words c.meant.ensures.keeps c.one_meaning.ensures.some c.one_meaning.ensures.function c.pieces.ensures.joined reads words docs main k asks old (told_of old.open_ids old.documents docs tells.open_ids tells.documents) tells.main_document mid c.run-end.result c.run-end.ensures.does));
+          (kept-words c.meant.ensures.keeps c.one_meaning.ensures.some c.one_meaning.ensures.function c.pieces.ensures.joined reads words docs main k asks old (told_of old.open_ids old.documents docs tells.open_ids tells.documents) tells.main_document mid c.run-end.result c.run-end.ensures.does))
+          (λ front begins. c.ordinary.ensures k main front asks.ordinary begins);
       sheet = λ reads docs main tells. reads_sheet_first words old mid new end r result reports docs main tells reads;
       begins = λ main tells. begins_well words old mid new end r result reports main tells;
       line = λ reads docs main tells. ends_in_line words old mid new end r result reports docs main tells reads;
