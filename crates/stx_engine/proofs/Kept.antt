@@ -1,5 +1,5 @@
 -- What a run did of a sheet that takes the nodes of the main document alone.
-use Rattle.std.proofs.Common.{◌≡◌, ◌⊎◌, inl, inr, ℕ, true, false, List, [], ◌∷◌, ◌++◌, length, map, take, Option, Some, None, Result, Ok, Err, refl, sym, ap, subst, ◌∙◌, append_assoc, append-nil}
+use Rattle.std.proofs.Common.{◌≡◌, inl, inr, ℕ, true, List, [], ◌++◌, length, map, take, Some, None, Result, Ok, Err, refl, sym, ap, subst, ◌∙◌, append-nil}
 use Rattle.std.specs.Prelude.{◌↔◌, encode_utf8_all}
 use Rattle.std.specs.List.{concat}
 use Rattle.std.proofs.lemmas.Bool.{false≢true}
@@ -8,7 +8,6 @@ use Rattle.stx_base.specs.Course.{Begins, Ends, Over}
 use Rattle.stx_base.specs.declared.fault.SheetFault.{SheetFault}
 use Rattle.xml_events.specs.Tree.{Forest}
 use Rattle.stx_host.specs.Outside.{Outside}
-use Rattle.stx_host.specs.declared.act.Act.{Act}
 use Rattle.stx_host.specs.declared.act.Doc.{Doc}
 use Rattle.stx_host.proofs.Stretches.{nothing_between}
 use Rattle.instr_code.specs.Code.{code_of}
@@ -28,14 +27,12 @@ use Rattle.fault_report.specs.declared.outcome.Outcome.{Outcome}
 use Rattle.fault_report.specs.declared.outcome.Outcome.TheVariants as outcome
 use Rattle.command_words.specs.Words.{command_of}
 use Rattle.command_words.specs.declared.command.Command.{Command}
-use Rattle.command_words.specs.declared.command.Mode.{Mode}
 use Rattle.command_words.specs.declared.command.Mode.TheVariants.{Run as AsksRun, Check, Sample}
 use Rattle.run_engine.specs.Does.{InOrder, InOrderAt, IsRunOf}
-use Rattle.run_engine.specs.Run as engine
 use Rattle.run_engine.specs.Run.{IsAtStart, Run}
 use Rattle.sample_maker.specs.Document as sample
 use Rattle.sheet_runs.specs.Meant.{EndsAsMeant, EndsMeaning, IsDocument, IsOnOther, IsSettledOn, KeepsMeaning, RunsKeepMeaning, WritesMeaning, tree_of}
-use Rattle.sheet_runs.specs.Runs.{HandsMain, RunsSheet}
+use Rattle.sheet_runs.specs.Runs.{RunsSheet}
 use Rattle.sheet_runs.specs.Talk.{main_ends, main_in}
 use Rattle.sheet_runs.specs.Writing.{counted}
 use Rattle.sheet_runs.specs.declared.main_document.Main.{Main}
@@ -51,7 +48,7 @@ use Rattle.stx_engine.specs.Plain.{pass_of}
 use Rattle.stx_engine.specs.RunEnd.{end_of_run, end_of_sample, on_sample, outcome_in, sample_of, summary_of}
 use Rattle.stx_engine.specs.Running.{FailedOnSheet, IfDocFailed, OpensNames}
 use Rattle.stx_engine.specs.declared.run_end.RunEnd.{RunEnd}
-use Rattle.stx_engine.specs.declared.run_end.RunEnd.TheVariants.{Told, Unnoted}
+use Rattle.stx_engine.specs.declared.run_end.RunEnd.TheVariants.{Told}
 use Rattle.stx_engine.proofs.Driven.{opens-append}
 use Rattle.stx_engine.proofs.Idle.{no_main_reads}
 use Rattle.stx_engine.proofs.Prefixes.{begins_nothing}

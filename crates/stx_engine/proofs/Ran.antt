@@ -1,5 +1,5 @@
 -- What a run of the program did, by what it did with the sheet.
-use Rattle.std.proofs.Common.{◌≡◌, ◌⊎◌, inl, inr, ℕ, ◌+◌, ◌==◌, ◌||◌, Bool, true, false, List, [], ◌++◌, map, drop, Option, Some, None, IsSome, IfSome, Result, Ok, Err, arith, refl, sym, ap, ◌∙◌, subst}
+use Rattle.std.proofs.Common.{◌≡◌, ◌⊎◌, inl, inr, ℕ, ◌==◌, ◌||◌, Bool, true, false, List, [], ◌++◌, map, drop, Option, Some, None, IsSome, IfSome, Result, Ok, Err, arith, refl, sym, ap, ◌∙◌, subst}
 use Rattle.std.specs.List.{list_any}
 use Rattle.std.specs.Option.{option_map, option_map_or, option_and_then}
 use Rattle.std.proofs.lemmas.Bool.{false≢true}
@@ -40,7 +40,6 @@ use Rattle.stx_engine.specs.Accepted.{DocumentsAreTaken}
 use Rattle.stx_engine.specs.Answer.{Answer, Plan, accepted, answer, answered, asked, asks_any_run, asks_run, is_any_run, is_run, loaded, mode_answer, outcome_of, plan_by, plan_of, ran, result_of, run_on, sampled, sheet_answer, sheet_named, words_answer}
 use Rattle.stx_engine.specs.Doing.{Loads}
 use Rattle.stx_engine.specs.Driving.{Drives, DrivesSample, FailedAt, RefusesSome, UnlessFailed, is_doc_read}
-use Rattle.stx_engine.specs.Output.{output}
 use Rattle.stx_engine.specs.Plain.{pass_of}
 use Rattle.stx_engine.specs.RunEnd.{line_in, on_sample, outcome_in, sample_of, status_in, summary_of}
 use Rattle.stx_engine.specs.Running.{Asks, CountsIn, FailedIn, FailedOn, FailedOnSheet, HasHead, IfDocFailed, IsAnswered, IsOwn, LoadsFirst, OpensNames, RefusesWords, Runs, TakesParts}

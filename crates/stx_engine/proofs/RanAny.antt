@@ -1,5 +1,5 @@
 -- What a run of any sheet did.
-use Rattle.std.proofs.Common.{◌≡◌, ◌⊎◌, inl, inr, ℕ, ◌+◌, ◌||◌, true, false, List, [], ◌∷◌, ◌++◌, length, map, Option, Some, None, IsSome, IfSome, Ok, arith, refl, sym, ap, ◌∙◌, subst}
+use Rattle.std.proofs.Common.{◌≡◌, ◌⊎◌, inl, inr, ℕ, ◌||◌, false, List, [], ◌∷◌, ◌++◌, length, map, Option, Some, None, IsSome, IfSome, Ok, arith, refl, sym, ap, ◌∙◌, subst}
 use Rattle.std.specs.List.{list_any}
 use Rattle.std.specs.Option.{option_and_then}
 use Rattle.std.proofs.lemmas.Bool.{false≢true}
@@ -42,7 +42,7 @@ use Rattle.stx_engine.specs.Plain.{pass_of}
 use Rattle.stx_engine.specs.RunEnd.{end_of_run, end_of_sample, outcome_in}
 use Rattle.stx_engine.specs.Running.{Asks, CountsIn, FailedIn, FailedOn, HasHead, IfDocFailed, IsOwn, LoadsFirst, OpensNames, RefusesWords, Runs}
 use Rattle.stx_engine.specs.declared.run_end.RunEnd.{RunEnd}
-use Rattle.stx_engine.specs.declared.run_end.RunEnd.TheVariants.{Told, Unnoted}
+use Rattle.stx_engine.specs.declared.run_end.RunEnd.TheVariants.{Told}
 use Rattle.stx_engine.specs.declared.run_end.Summary.{Summary}
 use Rattle.stx_engine.proofs.Idle.{no_main_reads, nothing_read}
 use Rattle.stx_engine.proofs.Prefixes.{begins_more, begins_nothing}

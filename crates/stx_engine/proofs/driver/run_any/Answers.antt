@@ -1,4 +1,4 @@
-use Rattle.std.proofs.Common.{arith, ap, inl, inr, refl, subst, sym}
+use Rattle.std.proofs.Common.{arith, ap, inl, inr, refl}
 use Rattle.run_engine.specs.Run.{Run}
 use Rattle.stx_engine.proofs.Begun.{begun-so}
 use Rattle.stx_engine.proofs.driver.run_any.Goals as goal
