@@ -219,7 +219,7 @@ fn tell_event(event: Event, out: &mut Telling) -> Result<Option<bool>, Trouble> 
     }
 }
 
-fn tell(event: &Event, out: &mut String) -> Result<(), Trouble> {
+pub fn tell(event: &Event, out: &mut String) -> Result<(), Trouble> {
     match event {
         Event::Start {
             offset,

@@ -1,6 +1,7 @@
-//! Rows of lexemes, names, events and results: what comes of each is compared with what is wanted.
+//! Rows of lexemes, names, events, results and buffers: what comes of each is compared with what is wanted.
 #![tactic(auto)]
 
+mod buffers;
 mod ends;
 mod events;
 mod lexemes;
@@ -33,6 +34,7 @@ impl Tables for Xml {
             "settled" => writer::tell_settled(alloc, row, out),
             "settled tags" => writer::judged::tell_settled_tags(alloc, row, out),
             "at once" => writer::tell_at_once(alloc, row, out),
+            "buffers" => buffers::tell(alloc, row, out),
             "characters" => writer::tell_character(alloc, row, out),
             _ => Err(Trouble::Row("a table that isn't there")),
         }

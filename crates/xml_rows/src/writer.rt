@@ -59,7 +59,7 @@ fn put_of(alloc: Global, written: &str) -> Result<Put, Trouble> {
     }
 }
 
-fn part_of(alloc: Global, written: &str) -> Result<Part, Trouble> {
+pub fn part_of(alloc: Global, written: &str) -> Result<Part, Trouble> {
     if let Some(start) = written.strip_prefix('<') {
         return start_of(alloc, start);
     }
