@@ -1,13 +1,16 @@
 //! The code of sheets: the operations of all bodies, each with its place, and a bar before each body but the first. An instruction is told as
 //! its kind and number.
 
+ghost use Rattle.std.specs.Prelude.{IfOk};
 ghost use Rattle.sheet_model.specs.Sound.{IsSound};
+ghost use Rattle.sibling_regions.specs.Standing.{ConditionsCanBeEvaluated};
 
 use crate::given::{OWN, host_of};
 use instr_code::{Code, Compiled, Op, compile};
 use rows::{Row, Trouble};
 use sheet_files::{Loaded, load_sheet};
 use sheet_model::Instr;
+use sibling_regions::law;
 use std::alloc::Global;
 use std::fmt::Write;
 use stx_base::{Limits, Text};
@@ -19,7 +22,10 @@ pub fn tell(alloc: Global, row: &Row, out: &mut String) -> Result<(), Trouble> {
     told
 }
 
-fn compiled_of(alloc: Global, row: &Row) -> Result<Compiled, Trouble> {
+/// The code of a sheet that is accepted.
+pub fn compiled_of(alloc: Global, row: &Row) -> Result<Compiled, Trouble>
+    ensures { IfOk result (λ compiled. ConditionsCanBeEvaluated compiled.code) }
+{
     let mut host = host_of(alloc, row)?;
     let name = Text::of(alloc, OWN)?;
     match load_sheet(alloc, &mut host, &name, Limits::standard()) {
@@ -33,7 +39,9 @@ fn compiled_of(alloc: Global, row: &Row) -> Result<Compiled, Trouble> {
 
 fn compiled(alloc: Global, loaded: Loaded) -> Result<Compiled, Trouble>
     requires { IsSound loaded.sheet }
+    ensures { IfOk result (λ compiled. ConditionsCanBeEvaluated compiled.code) }
 {
+    law::standing();
     let Loaded { sheet, files } = loaded;
     drop(files);
     Ok(compile(alloc, sheet)?)

@@ -1,8 +1,12 @@
-//! Rows of sheets: whether each is accepted, or its first fault, and the names of the files that are opened; and the code of those that are.
+//! Rows of sheets: whether each is accepted, or its first fault, and the names of the files that are opened; the code of those that are accepted, and
+//! the sibling regions that nodes end.
 #![tactic(auto)]
 
 mod code;
+mod frames;
 mod given;
+mod nodes;
+mod regions;
 mod told;
 
 use rows::{Row, Tables, Trouble, run_rows};
@@ -17,6 +21,7 @@ impl Tables for LoadRows {
         match row.table {
             "loads" => told::tell(alloc, row, out),
             "code" => code::tell(alloc, row, out),
+            "regions" => regions::tell(alloc, row, out),
             _ => Err(Trouble::Row("a table that isn't there")),
         }
     }
