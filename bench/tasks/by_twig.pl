@@ -61,6 +61,6 @@ my $it = $tasks{$task} or die "no task $task\n";
 binmode STDOUT, ':utf8';
 read_prices() if $task eq 'merge';
 print "<$it->{root}>";
-XML::Twig->new(twig_handlers => { $it->{record} => $it->{each} })->parse(\*STDIN);
+XML::Twig->new(keep_atts_order => 1, twig_handlers => { $it->{record} => $it->{each} })->parse(\*STDIN);
 print '</day>' if defined $day;
 print "</$it->{root}>\n";
