@@ -1,0 +1,4 @@
+mod Bytes
+mod Escaping
+mod Leaving
+mod Leaves

@@ -1,0 +1,4 @@
+//! What is written is read back as the result.
+#![tactic(auto)]
+
+pub mod law;
