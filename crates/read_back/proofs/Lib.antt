@@ -2,3 +2,4 @@ mod Bytes
 mod Escaping
 mod Leaving
 mod Leaves
+mod Tagging

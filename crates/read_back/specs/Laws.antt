@@ -1,16 +1,21 @@
 -- What laws of the definitions say.
-use Rattle.std.specs.Prelude.{◌≡◌, ◌≢◌, ℕ, Bool, true, false, List, [], None, Ok, encode_utf8_all}
+use Rattle.std.specs.Prelude.{◌≡◌, ◌≢◌, ℕ, Bool, true, false, List, [], ◌++◌, None, Ok, codes, encode_utf8_all}
 use Rattle.std.specs.List.{list_all}
 use Rattle.stx_base.specs.Character.{is_cdata_text, is_space}
 use Rattle.xml_tokens.specs.Judged.{judged}
 use Rattle.xml_tokens.specs.Texts.{said}
-use Rattle.xml_tokens.specs.declared.lexeme.Body.TheVariants.{Chars, CData, Comment, Pi}
+use Rattle.stx_base.specs.declared.name.Name.{Name}
+use Rattle.xml_tokens.specs.declared.lexeme.Body.TheVariants.{Chars, CData, Comment, End, Pi, Start}
 use Rattle.xml_tokens.specs.declared.text.Context.TheVariants as place
-use Rattle.result_writer.specs.Allowed.{are_chars}
+use Rattle.result_writer.specs.Allowed.{are_chars, is_good_name, is_prefix}
 use Rattle.result_writer.specs.Escape.{escaped}
 use Rattle.result_writer.specs.Target.{cdata_text, comment_fault, comment_text, instruction_fault, instruction_text}
 use Rattle.result_writer.specs.declared.escape.Context.TheVariants.{Content, Value}
-use Rattle.read_back.specs.Reading.{read_data}
+use Rattle.result_writer.specs.Tag.{end_tag, open_tag}
+use Rattle.result_writer.specs.declared.tag.Dressed.{Dressed}
+use Rattle.result_writer.specs.declared.tag.HeldTag.{HeldTag}
+use Rattle.read_back.specs.Reading.{raw_attrs, read_data, written_name}
+use Rattle.read_back.specs.Sound.{is_sound_attribute, is_sound_binding}
 
 -- A text is read as it was, and as blank where white space alone is written of it.
 abbrev pub ReadsTexts : Type 0
@@ -39,3 +44,19 @@ ReadsInstructions =
     (target text : List ℕ)
     → instruction_fault target text ≡ None
     → judged false (instruction_text target text) ≡ Ok (Pi target (read_data text))
+
+-- A start tag is read as this name, its declarations and its attributes, and as that of an empty element where it is one.
+abbrev pub ReadsStartTags : Type 0
+ReadsStartTags =
+    (first : Bool) (tag : HeldTag) (d : Dressed)
+    → is_good_name tag.name ≡ true
+    → list_all is_sound_attribute tag.attrs ≡ true
+    → list_all is_sound_binding d.declared ≡ true
+    → list_all is_prefix d.prefixes ≡ true
+    → let name = written_name tag.name.prefix tag.name.local in
+    (judged first (open_tag tag d ++ codes ">") ≡ Ok (Start name (raw_attrs d tag.attrs) false))
+    × (judged first (open_tag tag d ++ codes "/>") ≡ Ok (Start name (raw_attrs d tag.attrs) true))
+
+-- So is an end tag.
+abbrev pub ReadsEndTags : Type 0
+ReadsEndTags = (first : Bool) (n : Name) → is_good_name n ≡ true → judged first (end_tag n.prefix n.local) ≡ Ok (End (written_name n.prefix n.local))

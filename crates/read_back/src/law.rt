@@ -1,5 +1,5 @@
 //! Laws of the definitions, as contracts.
-ghost use Rattle.read_back.specs.Laws.{ReadsComments, ReadsInstructions, ReadsSections, ReadsTexts, ReadsValues};
+ghost use Rattle.read_back.specs.Laws.{ReadsComments, ReadsEndTags, ReadsInstructions, ReadsSections, ReadsStartTags, ReadsTexts, ReadsValues};
 
 use xml_tokens::laws as token_laws;
 
@@ -13,4 +13,12 @@ pub fn leaves()
 {
     token_laws::spelling();
     token_laws::texts();
+}
+
+/// What is written of a tag is read as its name, its declarations and its attributes.
+pub fn tags()
+    ensures start { ReadsStartTags }
+    ensures end { ReadsEndTags }
+{
+    token_laws::spelling();
 }
