@@ -3,3 +3,5 @@ mod Escaping
 mod Leaving
 mod Leaves
 mod Tagging
+mod Tests
+mod Declaring

@@ -4,6 +4,7 @@ use Rattle.std.specs.List.{list_all}
 use Rattle.stx_base.specs.Character.{is_cdata_text, is_space}
 use Rattle.xml_tokens.specs.Judged.{judged}
 use Rattle.xml_tokens.specs.Texts.{said}
+use Rattle.stx_base.specs.declared.name.Binding.{Binding}
 use Rattle.stx_base.specs.declared.name.Name.{Name}
 use Rattle.xml_tokens.specs.declared.lexeme.Body.TheVariants.{Chars, CData, Comment, End, Pi, Start}
 use Rattle.xml_tokens.specs.declared.text.Context.TheVariants as place
@@ -11,11 +12,11 @@ use Rattle.result_writer.specs.Allowed.{are_chars, is_good_name, is_prefix}
 use Rattle.result_writer.specs.Escape.{escaped}
 use Rattle.result_writer.specs.Target.{cdata_text, comment_fault, comment_text, instruction_fault, instruction_text}
 use Rattle.result_writer.specs.declared.escape.Context.TheVariants.{Content, Value}
-use Rattle.result_writer.specs.Tag.{end_tag, open_tag}
+use Rattle.result_writer.specs.Tag.{dressed, end_tag, open_tag}
 use Rattle.result_writer.specs.declared.tag.Dressed.{Dressed}
 use Rattle.result_writer.specs.declared.tag.HeldTag.{HeldTag}
 use Rattle.read_back.specs.Reading.{raw_attrs, read_data, written_name}
-use Rattle.read_back.specs.Sound.{is_sound_attribute, is_sound_binding}
+use Rattle.read_back.specs.Sound.{is_sound_attribute, is_sound_binding, is_sound_tag}
 
 -- A text is read as it was, and as blank where white space alone is written of it.
 abbrev pub ReadsTexts : Type 0
@@ -60,3 +61,10 @@ ReadsStartTags =
 -- So is an end tag.
 abbrev pub ReadsEndTags : Type 0
 ReadsEndTags = (first : Bool) (n : Name) → is_good_name n ≡ true → judged first (end_tag n.prefix n.local) ≡ Ok (End (written_name n.prefix n.local))
+
+-- A sound tag declares what a document may, with prefixes that are names, whatever is in force.
+abbrev pub DeclaresSound : Type 0
+DeclaresSound =
+    (in_force : List Binding) (tag : HeldTag)
+    → is_sound_tag tag ≡ true
+    → (list_all is_sound_binding (dressed in_force tag).declared ≡ true) × (list_all is_prefix (dressed in_force tag).prefixes ≡ true)

@@ -1,6 +1,7 @@
 //! Laws of the definitions, as contracts.
-ghost use Rattle.read_back.specs.Laws.{ReadsComments, ReadsEndTags, ReadsInstructions, ReadsSections, ReadsStartTags, ReadsTexts, ReadsValues};
+ghost use Rattle.read_back.specs.Laws.{DeclaresSound, ReadsComments, ReadsEndTags, ReadsInstructions, ReadsSections, ReadsStartTags, ReadsTexts, ReadsValues};
 
+use result_writer::law as writer_law;
 use xml_tokens::laws as token_laws;
 
 /// What is written of texts, values, sections, comments and instructions is read as these.
@@ -21,4 +22,11 @@ pub fn tags()
     ensures end { ReadsEndTags }
 {
     token_laws::spelling();
+}
+
+/// What is declared in a tag may be.
+pub fn declarations()
+    ensures { DeclaresSound }
+{
+    writer_law::prefixes_are_names();
 }
