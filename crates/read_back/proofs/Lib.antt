@@ -5,3 +5,5 @@ mod Leaves
 mod Tagging
 mod Tests
 mod Declaring
+mod Resolving
+mod Naming

@@ -1,5 +1,5 @@
 -- What laws of the definitions say.
-use Rattle.std.specs.Prelude.{◌≡◌, ◌≢◌, ℕ, Bool, true, false, List, [], ◌++◌, None, Ok, codes, encode_utf8_all}
+use Rattle.std.specs.Prelude.{◌≡◌, ◌≢◌, ℕ, ◌<◌, ◌^◌, Bool, true, false, List, [], ◌++◌, None, Ok, codes, encode_utf8_all, length, map}
 use Rattle.std.specs.List.{list_all}
 use Rattle.stx_base.specs.Character.{is_cdata_text, is_space}
 use Rattle.xml_tokens.specs.Judged.{judged}
@@ -8,9 +8,12 @@ use Rattle.stx_base.specs.declared.name.Binding.{Binding}
 use Rattle.stx_base.specs.declared.name.Name.{Name}
 use Rattle.xml_tokens.specs.declared.lexeme.Body.TheVariants.{Chars, CData, Comment, End, Pi, Start}
 use Rattle.xml_tokens.specs.declared.text.Context.TheVariants as place
+use Rattle.xml_names.specs.Scope.{declared_on}
+use Rattle.xml_names.specs.Tag.{name_fault, resolved}
 use Rattle.result_writer.specs.Allowed.{are_chars, is_good_name, is_prefix}
 use Rattle.result_writer.specs.Escape.{escaped}
-use Rattle.result_writer.specs.Target.{cdata_text, comment_fault, comment_text, instruction_fault, instruction_text}
+use Rattle.result_writer.specs.Nodes.{expanded_attr, expanded_name}
+use Rattle.result_writer.specs.Target.{AreDistinct, cdata_text, comment_fault, comment_text, instruction_fault, instruction_text}
 use Rattle.result_writer.specs.declared.escape.Context.TheVariants.{Content, Value}
 use Rattle.result_writer.specs.Tag.{dressed, end_tag, open_tag}
 use Rattle.result_writer.specs.declared.tag.Dressed.{Dressed}
@@ -68,3 +71,18 @@ DeclaresSound =
     (in_force : List Binding) (tag : HeldTag)
     → is_sound_tag tag ≡ true
     → (list_all is_sound_binding (dressed in_force tag).declared ≡ true) × (list_all is_prefix (dressed in_force tag).prefixes ≡ true)
+
+-- Where a path declares what is in force, a sound tag is read without a fault, as its own names, attributes and declarations.
+abbrev pub ResolvesNames : Type 0
+ResolvesNames =
+    (path : List (List Binding)) (tag : HeldTag)
+    → is_sound_tag tag ≡ true
+    → AreDistinct tag.attrs
+    → length tag.attrs < 2 ^ 64
+    → let d = dressed (declared_on path) tag in
+    let name = written_name tag.name.prefix tag.name.local in
+    let attrs = raw_attrs d tag.attrs in
+    (name_fault path name attrs ≡ None)
+    × (expanded_name (resolved path name attrs).name ≡ expanded_name tag.name)
+    × (map expanded_attr (resolved path name attrs).attrs ≡ map expanded_attr tag.attrs)
+    × ((resolved path name attrs).decls ≡ d.declared)

@@ -1,7 +1,8 @@
 //! Laws of the definitions, as contracts.
-ghost use Rattle.read_back.specs.Laws.{DeclaresSound, ReadsComments, ReadsEndTags, ReadsInstructions, ReadsSections, ReadsStartTags, ReadsTexts, ReadsValues};
+ghost use Rattle.read_back.specs.Laws.{DeclaresSound, ReadsComments, ReadsEndTags, ReadsInstructions, ReadsSections, ReadsStartTags, ReadsTexts, ReadsValues, ResolvesNames};
 
 use result_writer::law as writer_law;
+use xml_names::laws as name_laws;
 use xml_tokens::laws as token_laws;
 
 /// What is written of texts, values, sections, comments and instructions is read as these.
@@ -29,4 +30,14 @@ pub fn declarations()
     ensures { DeclaresSound }
 {
     writer_law::prefixes_are_names();
+}
+
+/// Each name of a tag is read with its URI.
+pub fn names()
+    ensures { ResolvesNames }
+{
+    declarations();
+    writer_law::names_are_written_once();
+    writer_law::prefixes_are_bound();
+    name_laws::qnames();
 }
