@@ -7,3 +7,5 @@ mod Tests
 mod Declaring
 mod Resolving
 mod Naming
+mod Accepted
+mod Pieces

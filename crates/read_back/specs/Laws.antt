@@ -2,6 +2,7 @@
 use Rattle.std.specs.Prelude.{◌≡◌, ◌≢◌, ℕ, ◌<◌, ◌^◌, Bool, true, false, List, [], ◌++◌, None, Ok, codes, encode_utf8_all, length, map}
 use Rattle.std.specs.List.{list_all}
 use Rattle.stx_base.specs.Character.{is_cdata_text, is_space}
+use Rattle.xml_tokens.specs.Cuts.{Cuts}
 use Rattle.xml_tokens.specs.Judged.{judged}
 use Rattle.xml_tokens.specs.Texts.{said}
 use Rattle.stx_base.specs.declared.name.Binding.{Binding}
@@ -12,14 +13,15 @@ use Rattle.xml_names.specs.Scope.{declared_on}
 use Rattle.xml_names.specs.Tag.{name_fault, resolved}
 use Rattle.result_writer.specs.Allowed.{are_chars, is_good_name, is_prefix}
 use Rattle.result_writer.specs.Escape.{escaped}
-use Rattle.result_writer.specs.Nodes.{expanded_attr, expanded_name}
+use Rattle.result_writer.specs.Nodes.{Nodes, expanded_attr, expanded_name, nodes_fault, parts_of, written}
 use Rattle.result_writer.specs.Target.{AreDistinct, cdata_text, comment_fault, comment_text, instruction_fault, instruction_text}
 use Rattle.result_writer.specs.declared.escape.Context.TheVariants.{Content, Value}
 use Rattle.result_writer.specs.Tag.{dressed, end_tag, open_tag}
 use Rattle.result_writer.specs.declared.tag.Dressed.{Dressed}
 use Rattle.result_writer.specs.declared.tag.HeldTag.{HeldTag}
+use Rattle.read_back.specs.Lexemes.{AreJudged, bodies}
 use Rattle.read_back.specs.Reading.{raw_attrs, read_data, written_name}
-use Rattle.read_back.specs.Sound.{is_sound_attribute, is_sound_binding, is_sound_tag}
+use Rattle.read_back.specs.Sound.{is_sound_attribute, is_sound_binding, is_sound_part, is_sound_tag}
 
 -- A text is read as it was, and as blank where white space alone is written of it.
 abbrev pub ReadsTexts : Type 0
@@ -86,3 +88,11 @@ ResolvesNames =
     × (expanded_name (resolved path name attrs).name ≡ expanded_name tag.name)
     × (map expanded_attr (resolved path name attrs).attrs ≡ map expanded_attr tag.attrs)
     × ((resolved path name attrs).decls ≡ d.declared)
+
+-- What is written of sound nodes is cut into shapes that say their lexemes: no piece runs into the next.
+abbrev pub WritesShapes : Type 0
+WritesShapes =
+    (limit depth : ℕ) (in_force : List Binding) (nodes : Nodes)
+    → nodes_fault limit depth nodes ≡ None
+    → list_all is_sound_part (parts_of nodes) ≡ true
+    → (shapes : List (List ℕ)) × Cuts true (written in_force nodes) shapes [] × AreJudged shapes (bodies in_force nodes)

@@ -1,9 +1,12 @@
 -- What can be written so that it is read.
-use Rattle.std.specs.Prelude.{Bool, ◌&&◌}
+use Rattle.std.specs.Prelude.{Bool, true, ◌&&◌}
 use Rattle.std.specs.List.{list_all}
+use Rattle.stx_base.specs.Character.{is_cdata_text}
 use Rattle.stx_base.specs.declared.name.Attr.{Attr}
 use Rattle.stx_base.specs.declared.name.Binding.{Binding}
 use Rattle.stx_base.specs.declared.name.Name.{Name}
+use Rattle.stx_base.specs.declared.part.Part.{Part}
+use Rattle.stx_base.specs.declared.part.Part.TheVariants as part
 use Rattle.xml_names.specs.Tag.{is_good_binding}
 use Rattle.result_writer.specs.Allowed.{are_chars, is_good_attribute, is_good_name, is_prefix}
 use Rattle.result_writer.specs.declared.tag.HeldTag.{HeldTag}
@@ -23,3 +26,11 @@ is_sound_attribute a = is_good_attribute a.name && are_chars a.name.uri && are_c
 -- a start tag of sound names, from where sound bindings are in force
 abbrev pub is_sound_tag : HeldTag → Bool
 is_sound_tag tag = is_sound_name tag.name && list_all is_sound_attribute tag.attrs && list_all is_sound_binding tag.scope
+
+-- what no fault of a part speaks of: URIs are Chars, the bindings in force where an element comes from are sound, and a CDATA section
+-- may have its text
+abbrev pub is_sound_part : Part → Bool
+is_sound_part (part.Start name scope) = are_chars name.uri && list_all is_sound_binding scope
+is_sound_part (part.Attribute name value) = are_chars name.uri
+is_sound_part (part.CData text) = is_cdata_text text
+is_sound_part p = true

@@ -1,5 +1,5 @@
 //! Laws of the definitions, as contracts.
-ghost use Rattle.read_back.specs.Laws.{DeclaresSound, ReadsComments, ReadsEndTags, ReadsInstructions, ReadsSections, ReadsStartTags, ReadsTexts, ReadsValues, ResolvesNames};
+ghost use Rattle.read_back.specs.Laws.{DeclaresSound, ReadsComments, ReadsEndTags, ReadsInstructions, ReadsSections, ReadsStartTags, ReadsTexts, ReadsValues, ResolvesNames, WritesShapes};
 
 use result_writer::law as writer_law;
 use xml_names::laws as name_laws;
@@ -40,4 +40,12 @@ pub fn names()
     writer_law::names_are_written_once();
     writer_law::prefixes_are_bound();
     name_laws::qnames();
+}
+
+/// The shapes of nodes that are written say their lexemes.
+pub fn shapes()
+    ensures { WritesShapes }
+{
+    declarations();
+    token_laws::spelling();
 }
