@@ -123,10 +123,9 @@ accepted limit depth (Nested tag kids next) h k =
     let parts = and_parts (are_chars tag.name.uri) (list_all is_sound_binding tag.scope) start.0 in
     let attrs = all_parts (map attribute_part tag.attrs) (parts_of kids ++ part.End tag.name ∷ parts_of next) start.1 in
     let inner = all_parts (parts_of kids) (part.End tag.name ∷ parts_of next) attrs.1 in
-    let all : list_all is_sound_attribute (in_one tag).attrs ≡ true = sound_all [] tag.attrs refl (attributes_sound tag.attrs second.0 attrs.0) in
-    (
+    let all : list_all is_sound_attribute (in_one tag).attrs ≡ true = sound_all [] tag.attrs refl (attributes_sound tag.attrs second.0 attrs.0) in (
       and_from (is_sound_name tag.name && list_all is_sound_attribute (in_one tag).attrs) (list_all is_sound_binding tag.scope)
-      (and_from (is_sound_name tag.name) (list_all is_sound_attribute (in_one tag).attrs) (and_from (is_good_name tag.name) (are_chars tag.name.uri) name.0 parts.0) all) parts.1,
+          (and_from (is_sound_name tag.name) (list_all is_sound_attribute (in_one tag).attrs) (and_from (is_good_name tag.name) (are_chars tag.name.uri) name.0 parts.0) all) parts.1,
       distinct_all [] tag.attrs tt,
       less depth limit within,
       accepted limit (suc depth) kids third.0 inner.0,

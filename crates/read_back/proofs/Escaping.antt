@@ -89,19 +89,23 @@ value_spelled c more char =
 pub content_text : (text : List ℕ) → list_all is_char text ≡ true → SpellsText place.Content text (escaped Content (encode_utf8_all text))
 content_text [] h = refl
 content_text (c ∷ cs) h =
-    let both = and_parts (is_char c) (list_all is_char cs) h in
-    (
-      escaped Content (encode c), escaped Content (encode_utf8_all cs), content_spelled c (escaped Content (encode_utf8_all cs)) both.0,
-      escaped-append Content (encode c) (encode_utf8_all cs), content_text cs both.1,
+    let both = and_parts (is_char c) (list_all is_char cs) h in (
+      escaped Content (encode c),
+      escaped Content (encode_utf8_all cs),
+      content_spelled c (escaped Content (encode_utf8_all cs)) both.0,
+      escaped-append Content (encode c) (encode_utf8_all cs),
+      content_text cs both.1,
     )
 
 pub value_text : (text : List ℕ) → list_all is_char text ≡ true → SpellsText place.Value text (escaped Value (encode_utf8_all text))
 value_text [] h = refl
 value_text (c ∷ cs) h =
-    let both = and_parts (is_char c) (list_all is_char cs) h in
-    (
-      escaped Value (encode c), escaped Value (encode_utf8_all cs), value_spelled c (escaped Value (encode_utf8_all cs)) both.0,
-      escaped-append Value (encode c) (encode_utf8_all cs), value_text cs both.1,
+    let both = and_parts (is_char c) (list_all is_char cs) h in (
+      escaped Value (encode c),
+      escaped Value (encode_utf8_all cs),
+      value_spelled c (escaped Value (encode_utf8_all cs)) both.0,
+      escaped-append Value (encode c) (encode_utf8_all cs),
+      value_text cs both.1,
     )
 
 -- a Char of ASCII is written as Chars
@@ -138,7 +142,6 @@ escaped_text way (c ∷ cs) h =
       one char = ⊎_elim
           (λ (low : c < 128). subst IsText (sym (low_escaped way c low)) (low_text way c (and_from _ _ (less c low) char)))
           (λ (wide : 128 ≤ c). subst IsText (sym (wide_escaped way c wide ∙ sym (append-nil (encode c)))) (text_of (c ∷ []) (and_from (is_char c) true char refl))) (cases_lt c 128)
-
 
 -- Bytes that aren't written
 

@@ -42,10 +42,12 @@ pub lines_text : (text : List ℕ) → list_all is_char_of_cdata text ≡ true �
 lines_text [] h = refl
 lines_text (c ∷ cs) h =
     let both = and_parts (is_char_of_cdata c) (list_all is_char_of_cdata cs) h in
-    let parts = and_parts (is_char c) (not (c == 0xD)) both.0 in
-    (
-      encode c, encode_utf8_all cs, itself c (encode_utf8_all cs) parts.0 (other_from c 13 (negated (c == 13) parts.1)),
-      refl, lines_text cs both.1,
+    let parts = and_parts (is_char c) (not (c == 0xD)) both.0 in (
+      encode c,
+      encode_utf8_all cs,
+      itself c (encode_utf8_all cs) parts.0 (other_from c 13 (negated (c == 13) parts.1)),
+      refl,
+      lines_text cs both.1,
     )
 
 -- Chars of which no byte is a carriage return
@@ -82,7 +84,7 @@ high_not b w h l = grind (arith, nat_tests)
 high_from : (b : ℕ) → 128 ≤ b → is_high b ≡ true
 high_from b h = grind (arith, nat_tests)
 
-encode_some : (c : ℕ) → 1 ≤ length (encode c)
+pub encode_some : (c : ℕ) → 1 ≤ length (encode c)
 encode_some c = omega (arith, length-le-encodes (c ∷ []), sized c) where
   sized : (n : ℕ) → length (encode n ++ []) ≡ length (encode n)
   sized n = ap length (append-nil (encode n))
@@ -192,10 +194,12 @@ comment_is text h =
 
 pub comment_spelled : (first : Bool) (text : List ℕ) → IsComment text → Spells first (Comment text) (comment_text text)
 comment_spelled first text is =
-    let bytes = encode_utf8_all text in
-    (
-      bytes, lines_text text (without_return text is.chars is.calm), ap is_some (no_pair 45 45 bytes 0 is.pairs),
-      last_byte 45 (length bytes - 1) bytes ∙ is.last, refl,
+    let bytes = encode_utf8_all text in (
+      bytes,
+      lines_text text (without_return text is.chars is.calm),
+      ap is_some (no_pair 45 45 bytes 0 is.pairs),
+      last_byte 45 (length bytes - 1) bytes ∙ is.last,
+      refl,
     )
 
 pub comment_bytes : (text : List ℕ) → IsComment text → IsText (comment_text text)
@@ -299,10 +303,15 @@ data_pair (c ∷ cs) h = h
 pub instruction_spelled : (target text : List ℕ) → IsInstruction target text → Spells false (Pi target (read_data text)) (instruction_text target text)
 instruction_spelled target text is =
     let name = encode_utf8_all target in
-    let bytes : list_all is_name_byte name ≡ true = (name-bytes target (name_of_ncname target (and_parts (is_ncname target) _ is.named).0)).bytes in
-    (
-      data_text text, encode_utf8_all (read_data text), is.named, data_spelled text, lines_text (read_data text) (read_calm text (without_return text is.chars is.calm)),
-      ap is_some (no_pair 63 62 (name ++ data_text text) 0 (name_pair name (data_text text) bytes (data_pair text is.pairs))), refl, refl,
+    let bytes : list_all is_name_byte name ≡ true = (name-bytes target (name_of_ncname target (and_parts (is_ncname target) _ is.named).0)).bytes in (
+      data_text text,
+      encode_utf8_all (read_data text),
+      is.named,
+      data_spelled text,
+      lines_text (read_data text) (read_calm text (without_return text is.chars is.calm)),
+      ap is_some (no_pair 63 62 (name ++ data_text text) 0 (name_pair name (data_text text) bytes (data_pair text is.pairs))),
+      refl,
+      refl,
     )
 
 data_bytes : (text : List ℕ) → list_all is_char text ≡ true → IsText (data_text text)

@@ -9,3 +9,8 @@ mod Resolving
 mod Naming
 mod Accepted
 mod Pieces
+mod Telling
+mod Elements
+mod Lifting
+mod Documents
+mod Results

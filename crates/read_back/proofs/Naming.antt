@@ -39,7 +39,7 @@ filter_map-append {X} {Y} f (x ∷ xs) ys = ap (cons_option (f x)) (filter_map-a
   by_case (Some y) = refl
 
 -- the last tag of a path
-declared_last : (path : List (List Binding)) (d : List Binding) → declared_on (path ++ d ∷ []) ≡ declared_on path ++ d
+pub declared_last : (path : List (List Binding)) (d : List Binding) → declared_on (path ++ d ∷ []) ≡ declared_on path ++ d
 declared_last [] d = append-nil d
 declared_last (t ∷ ts) d = ap (λ l. t ++ l) (declared_last ts d) ∙ sym (append_assoc t (declared_on ts) d)
 
@@ -326,12 +326,11 @@ module _ (qnames : SpelledQNamesAreRead) where
         (ap (has_twins same_expanded) read ∙ once_expanded within ps tag.attrs distinct) in
         let scope : (if has_undeclared_prefix (into path attrs) name attrs then Some kind.UndeclaredPrefix else if has_duplicate (into path attrs) attrs then Some kind.DuplicateAttribute else None) ≡ None =
         (λ i. if has_undeclared_prefix (path_is i) name attrs then Some kind.UndeclaredPrefix else if has_duplicate (path_is i) attrs then Some kind.DuplicateAttribute else None)
-        ∙ (λ i. if undeclared i then Some kind.UndeclaredPrefix else if duplicates i then Some kind.DuplicateAttribute else None) in
-        (
+        ∙ (λ i. if undeclared i then Some kind.UndeclaredPrefix else if duplicates i then Some kind.DuplicateAttribute else None) in (
           (λ i. if names i then Some kind.BadName else if bindings i then Some kind.BadBinding else if has_undeclared_prefix (into path attrs) name attrs then Some kind.UndeclaredPrefix else if has_duplicate (into path attrs) attrs then Some kind.DuplicateAttribute else None) ∙ scope,
           ap (λ l. expanded_name (element_name l name)) path_is
-          ∙ (λ i. record { uri = unwrap_or (n.bound within (written.1 i)) []; local = written.2 i; prefix = [] })
-          ∙ ap (λ u. record { uri = u; local = tag.name.local; prefix = [] }) (element_uri element path tag is),
+              ∙ (λ i. record { uri = unwrap_or (n.bound within (written.1 i)) []; local = written.2 i; prefix = [] })
+              ∙ ap (λ u. record { uri = u; local = tag.name.local; prefix = [] }) (element_uri element path tag is),
           ap (λ l. map expanded_attr (attributes l attrs)) path_is ∙ ap (map expanded_attr) read ∙ expanded_read within ps tag.attrs all,
           decls,
         )

@@ -60,13 +60,17 @@ begins_append (a ∷ as_) bs h k = h
 
 pub pieces_append : (as_ bs : List Body) (xs ys : List ℕ) → ArePieces as_ xs → ArePieces bs ys → begins_chars bs ≡ false → ArePieces (as_ ++ bs) (xs ++ ys)
 pieces_append [] bs xs ys h k f = subst (λ l. ArePieces bs (l ++ ys)) (sym h) k
-pieces_append (a ∷ as_) bs xs ys h k f =
-    (
-      h.0, h.1 ++ ys, ap (λ l. l ++ ys) h.2 ∙ append_assoc h.0 h.1 ys, h.3, by_rest (is_chars a) as_ h.4, pieces_append as_ bs h.1 ys h.5 k f,
-    ) where
-      by_rest : (t : Bool) (cs : List Body) → (t && begins_chars cs) ≡ false → (t && begins_chars (cs ++ bs)) ≡ false
-      by_rest false cs e = refl
-      by_rest true cs e = begins_append cs bs e f
+pieces_append (a ∷ as_) bs xs ys h k f = (
+  h.0,
+  h.1 ++ ys,
+  ap (λ l. l ++ ys) h.2 ∙ append_assoc h.0 h.1 ys,
+  h.3,
+  by_rest (is_chars a) as_ h.4,
+  pieces_append as_ bs h.1 ys h.5 k f,
+) where
+  by_rest : (t : Bool) (cs : List Body) → (t && begins_chars cs) ≡ false → (t && begins_chars (cs ++ bs)) ≡ false
+  by_rest false cs e = refl
+  by_rest true cs e = begins_append cs bs e f
 
 -- what follows pieces
 
@@ -124,9 +128,9 @@ module _ (whole : SpelledLexemesAreShapes) (reads : SpelledLexemesAreRead) where
   pieces_cut [] bytes h = ([], (h, refl), tt)
   pieces_cut (b ∷ bs) bytes h =
       let later = pieces_cut bs h.1 h.5 in
-      let spells = piece_spells b h.0 h.3 in
-      (
-        h.0 ∷ later.0, (h.1, h.2, whole false true b h.0 h.1 spells (piece_followed b bs h.1 h.4 h.5), later.1),
+      let spells = piece_spells b h.0 h.3 in (
+        h.0 ∷ later.0,
+        (h.1, h.2, whole false true b h.0 h.1 spells (piece_followed b bs h.1 h.4 h.5), later.1),
         (read_as reads false b h.0 (piece_text b h.0 h.3) spells, later.2),
       )
 
@@ -139,13 +143,15 @@ pub text_pieces : (text : List ℕ) (bs : List Body) (more : List ℕ) → are_c
 text_pieces [] bs more h k = k
 text_pieces (c ∷ cs) [] more h k = text_first c cs [] more h refl k
 text_pieces (c ∷ cs) (body.Chars later blank ∷ bs) more h k =
-    let text = c ∷ cs in
-    (
-      escaped Content (encode_utf8_all (text ++ later)), k.1,
+    let text = c ∷ cs in (
+      escaped Content (encode_utf8_all (text ++ later)),
+      k.1,
       ap (λ l. escaped Content (encode_utf8_all text) ++ l) (k.2 ∙ ap (λ l. l ++ k.1) k.3.2)
-      ∙ sym (append_assoc (escaped Content (encode_utf8_all text)) (escaped Content (encode_utf8_all later)) k.1)
-      ∙ ap (λ l. l ++ k.1) (sym (ap (escaped Content) (encodes-append text later) ∙ escaped-append Content (encode_utf8_all text) (encode_utf8_all later))),
-      ((λ e. absurd cc), all_append is_char text later h k.3.1, refl, refl), k.4, k.5,
+          ∙ sym (append_assoc (escaped Content (encode_utf8_all text)) (escaped Content (encode_utf8_all later)) k.1)
+          ∙ ap (λ l. l ++ k.1) (sym (ap (escaped Content) (encodes-append text later) ∙ escaped-append Content (encode_utf8_all text) (encode_utf8_all later))),
+      ((λ e. absurd cc), all_append is_char text later h k.3.1, refl, refl),
+      k.4,
+      k.5,
     )
 text_pieces (c ∷ cs) (body.CData text ∷ bs) more h k = text_first c cs (body.CData text ∷ bs) more h refl k
 text_pieces (c ∷ cs) (body.Start name attrs empty ∷ bs) more h k = text_first c cs (body.Start name attrs empty ∷ bs) more h refl k
@@ -212,15 +218,16 @@ module _ (sound : DeclaresSound) where
             let kid_bodies = bodies (inside in_force (in_one tag)) kids in
             let end = end_tag tag.name.prefix tag.name.local in
             let last = body.End (word in_force (in_one tag) h.0) in
-            let tail : ArePieces (last ∷ bodies in_force next) (end ++ written in_force next) = (end, written in_force next, refl, end_piece in_force (in_one tag) h.0, refl, behind) in
-            (
-              begun ++ codes ">", kid ++ (end ++ written in_force next),
+            let tail : ArePieces (last ∷ bodies in_force next) (end ++ written in_force next) = (end, written in_force next, refl, end_piece in_force (in_one tag) h.0, refl, behind) in (
+              begun ++ codes ">",
+              kid ++ (end ++ written in_force next),
               append_assoc begun ((codes ">" ++ kid) ++ end) (written in_force next)
-              ∙ ap (λ l. begun ++ (62 ∷ l)) (append_assoc kid end (written in_force next))
-              ∙ sym (append_assoc begun (codes ">") (kid ++ (end ++ written in_force next))),
-              start_piece in_force (in_one tag) h.0, refl,
+                  ∙ ap (λ l. begun ++ (62 ∷ l)) (append_assoc kid end (written in_force next))
+                  ∙ sym (append_assoc begun (codes ">") (kid ++ (end ++ written in_force next))),
+              start_piece in_force (in_one tag) h.0,
+              refl,
               subst (λ l. ArePieces l (kid ++ (end ++ written in_force next))) (sym (append_assoc kid_bodies (last ∷ []) (bodies in_force next)))
-              (pieces_append kid_bodies (last ∷ bodies in_force next) kid (end ++ written in_force next) inner tail refl),
+                  (pieces_append kid_bodies (last ∷ bodies in_force next) kid (end ++ written in_force next) inner tail refl),
             )
 
   pub writes_shapes : SpelledLexemesAreShapes → SpelledLexemesAreRead → WritesShapes

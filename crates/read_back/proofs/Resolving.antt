@@ -87,8 +87,7 @@ module _ (path : List (List Binding)) (p : List ℕ) (a : Attr) where
   -- the URI of an attribute with a namespace, and that its prefix is bound
   some_uri : a.name.uri ≢ [] → is_empty p ≡ false → unwrap_or (n.bound path p) [] ≡ a.name.uri → (attribute_uri path p ≡ a.name.uri) × (is_prefix_bound path p ≡ true)
   some_uri ne some e =
-      let reader : n.is_empty p ≡ false = sym (empty_same p) ∙ some in
-      (
+      let reader : n.is_empty p ≡ false = sym (empty_same p) ∙ some in (
         ap (λ t. if t then [] else unwrap_or (n.bound path p) []) reader ∙ e,
         ap (λ t. t || is_some (n.bound path p)) reader ∙ some_bound (n.bound path p) a.name.uri e ne,
       )
@@ -195,8 +194,7 @@ module _ (qnames : n_laws.SpelledQNamesAreRead) where
   read_all path (p ∷ ps) [] pick prefix sound binds = pick
   read_all path (p ∷ ps) (a ∷ attrs) pick prefix sound binds =
       let front = and_parts (is_prefix p) (list_all is_prefix ps) prefix in
-      let all = and_parts (is_sound_attribute a) (list_all is_sound_attribute attrs) sound in
-      (
+      let all = and_parts (is_sound_attribute a) (list_all is_sound_attribute attrs) sound in (
         attribute_read path p a pick.0 front.0 all.0 (binds 0 a p refl refl),
         read_all path ps attrs pick.1 front.1 all.1 (λ i b q h k. binds (suc i) b q h k),
       )

@@ -87,10 +87,12 @@ field_before r more =
 fields_spelled : (rs : List RawAttr) (empty : Bool) → list_all is_sound_raw rs ≡ true → SpellsAttributes rs empty (flat_map field rs ++ slash empty)
 fields_spelled [] empty h = ([], refl, refl)
 fields_spelled (r ∷ rs) empty h =
-    let both = and_parts (is_sound_raw r) (list_all is_sound_raw rs) h in
-    (
-      spelling r, flat_map field rs ++ slash empty, field_spelled r both.0,
-      append_assoc (field r) (flat_map field rs) (slash empty) ∙ field_before r (flat_map field rs ++ slash empty), fields_spelled rs empty both.1,
+    let both = and_parts (is_sound_raw r) (list_all is_sound_raw rs) h in (
+      spelling r,
+      flat_map field rs ++ slash empty,
+      field_spelled r both.0,
+      append_assoc (field r) (flat_map field rs) (slash empty) ∙ field_before r (flat_map field rs ++ slash empty),
+      fields_spelled rs empty both.1,
     )
 
 field_text : (r : RawAttr) → is_sound_raw r ≡ true → IsText (field r)
@@ -195,8 +197,8 @@ module _ (name : List ℕ) (is : is_name name ≡ true) (rs : List RawAttr) (sou
     encode_utf8_all name ++ (flat_map field rs ++ 47 ∷ []),
     (flat_map field rs ++ 47 ∷ [], is, refl, fields_spelled rs true sound),
     ap (λ l. 60 ∷ l) (append_assoc (encode_utf8_all name) (flat_map field rs) (47 ∷ 62 ∷ [])
-    ∙ ap (λ l. encode_utf8_all name ++ l) (sym (append_assoc (flat_map field rs) (47 ∷ []) (62 ∷ [])))
-    ∙ sym (append_assoc (encode_utf8_all name) (flat_map field rs ++ 47 ∷ []) (62 ∷ []))),
+        ∙ ap (λ l. encode_utf8_all name ++ l) (sym (append_assoc (flat_map field rs) (47 ∷ []) (62 ∷ [])))
+        ∙ sym (append_assoc (encode_utf8_all name) (flat_map field rs ++ 47 ∷ []) (62 ∷ []))),
   )
 
   front_text : IsText front
@@ -234,12 +236,11 @@ module _ (reads : SpelledLexemesAreRead) where
       let rs = raw_attrs d tag.attrs in
       let is = good_name tag.name name in
       let sound = raw_sound d tag.attrs declared prefixes attrs in
-      let body = λ (empty : Bool). Start word rs empty in
-      (
+      let body = λ (empty : Bool). Start word rs empty in (
         subst (λ l. judged first (l ++ codes ">") ≡ Ok (body false)) (sym (open_tag-is tag d))
-        (read_as reads first (body false) _ (start_text word is rs sound) (start_spelled word is rs sound first)),
+            (read_as reads first (body false) _ (start_text word is rs sound) (start_spelled word is rs sound first)),
         subst (λ l. judged first (l ++ codes "/>") ≡ Ok (body true)) (sym (open_tag-is tag d))
-        (read_as reads first (body true) _ (empty_text word is rs sound) (empty_spelled word is rs sound first)),
+            (read_as reads first (body true) _ (empty_text word is rs sound) (empty_spelled word is rs sound first)),
       )
 
   pub reads_end_tags : ReadsEndTags

@@ -1,25 +1,30 @@
 -- What laws of the definitions say.
-use Rattle.std.specs.Prelude.{◌≡◌, ◌≢◌, ℕ, ◌<◌, ◌^◌, Bool, true, false, List, [], ◌++◌, None, Ok, codes, encode_utf8_all, length, map}
+use Rattle.std.specs.Prelude.{◌≡◌, ◌≢◌, ℕ, ◌+◌, ◌<◌, ◌^◌, Bool, true, false, List, [], ◌++◌, None, Ok, codes, encode_utf8_all, length, map}
 use Rattle.std.specs.List.{list_all}
 use Rattle.stx_base.specs.Character.{is_cdata_text, is_space}
+use Rattle.stx_base.specs.declared.limits.Limits.{Limits}
+use Rattle.stx_base.specs.declared.name.Binding.{Binding}
+use Rattle.stx_base.specs.declared.name.Name.{Name}
+use Rattle.stx_base.specs.declared.part.Part.{Part}
 use Rattle.xml_tokens.specs.Cuts.{Cuts}
 use Rattle.xml_tokens.specs.Judged.{judged}
 use Rattle.xml_tokens.specs.Texts.{said}
-use Rattle.stx_base.specs.declared.name.Binding.{Binding}
-use Rattle.stx_base.specs.declared.name.Name.{Name}
 use Rattle.xml_tokens.specs.declared.lexeme.Body.TheVariants.{Chars, CData, Comment, End, Pi, Start}
 use Rattle.xml_tokens.specs.declared.text.Context.TheVariants as place
 use Rattle.xml_names.specs.Scope.{declared_on}
 use Rattle.xml_names.specs.Tag.{name_fault, resolved}
+use Rattle.xml_events.specs.Document.{doc_for}
+use Rattle.xml_events.specs.Flatten.{is_closed}
 use Rattle.result_writer.specs.Allowed.{are_chars, is_good_name, is_prefix}
 use Rattle.result_writer.specs.Escape.{escaped}
-use Rattle.result_writer.specs.Nodes.{Nodes, expanded_attr, expanded_name, nodes_fault, parts_of, written}
-use Rattle.result_writer.specs.Target.{AreDistinct, cdata_text, comment_fault, comment_text, instruction_fault, instruction_text}
+use Rattle.result_writer.specs.Nodes.{Nodes, expanded_attr, expanded_name, forest, nodes_fault, parts_of, written}
+use Rattle.result_writer.specs.Target.{AreDistinct, cdata_text, comment_fault, comment_text, instruction_fault, instruction_text, text, whole_fault}
 use Rattle.result_writer.specs.declared.escape.Context.TheVariants.{Content, Value}
 use Rattle.result_writer.specs.Tag.{dressed, end_tag, open_tag}
 use Rattle.result_writer.specs.declared.tag.Dressed.{Dressed}
 use Rattle.result_writer.specs.declared.tag.HeldTag.{HeldTag}
 use Rattle.read_back.specs.Lexemes.{AreJudged, bodies}
+use Rattle.read_back.specs.Read.{Suffices, as_read, head, is_document, nodes_of, within}
 use Rattle.read_back.specs.Reading.{raw_attrs, read_data, written_name}
 use Rattle.read_back.specs.Sound.{is_sound_attribute, is_sound_binding, is_sound_part, is_sound_tag}
 
@@ -96,3 +101,22 @@ WritesShapes =
     → nodes_fault limit depth nodes ≡ None
     → list_all is_sound_part (parts_of nodes) ≡ true
     → (shapes : List (List ℕ)) × Cuts true (written in_force nodes) shapes [] × AreJudged shapes (bodies in_force nodes)
+
+-- A result that is accepted as a whole, with its first line and one element, is read without a fault, as the nodes of its parts.
+abbrev pub ReadsResults : Type 0
+ReadsResults =
+    (limits : Limits) (limit : ℕ) (ps : List Part)
+    → whole_fault limit ps ≡ None
+    → list_all is_sound_part ps ≡ true
+    → is_document (forest ps) ≡ true
+    → let bytes = head ++ text ps in Suffices limits bytes limit
+    → let tree = doc_for limits false true bytes true in (is_closed tree ≡ true) × (nodes_of tree ≡ as_read (forest ps))
+
+-- So is any result that is accepted as a whole, between a start and an end tag.
+abbrev pub ReadsContents : Type 0
+ReadsContents =
+    (limits : Limits) (limit : ℕ) (ps : List Part)
+    → whole_fault limit ps ≡ None
+    → list_all is_sound_part ps ≡ true
+    → let bytes = codes "<r>" ++ text ps ++ codes "</r>" in Suffices limits bytes (limit + 1)
+    → let tree = doc_for limits false true bytes true in (is_closed tree ≡ true) × (nodes_of tree ≡ within (as_read (forest ps)))

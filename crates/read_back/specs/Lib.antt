@@ -1,4 +1,5 @@
 pub mod Reading
 pub mod Sound
 pub mod Lexemes
+pub mod Read
 pub mod Laws

@@ -1,7 +1,8 @@
 //! Laws of the definitions, as contracts.
-ghost use Rattle.read_back.specs.Laws.{DeclaresSound, ReadsComments, ReadsEndTags, ReadsInstructions, ReadsSections, ReadsStartTags, ReadsTexts, ReadsValues, ResolvesNames, WritesShapes};
+ghost use Rattle.read_back.specs.Laws.{DeclaresSound, ReadsComments, ReadsContents, ReadsEndTags, ReadsInstructions, ReadsResults, ReadsSections, ReadsStartTags, ReadsTexts, ReadsValues, ResolvesNames, WritesShapes};
 
 use result_writer::law as writer_law;
+use xml_events::laws as event_laws;
 use xml_names::laws as name_laws;
 use xml_tokens::laws as token_laws;
 
@@ -48,4 +49,17 @@ pub fn shapes()
 {
     declarations();
     token_laws::spelling();
+}
+
+/// What is written is read back as the result.
+pub fn results()
+    ensures whole { ReadsResults }
+    ensures content { ReadsContents }
+{
+    declarations();
+    names();
+    writer_law::nodes();
+    token_laws::spelling();
+    event_laws::shapes();
+    event_laws::first_fault();
 }
