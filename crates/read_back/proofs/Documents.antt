@@ -1,7 +1,6 @@
 -- The tree of a document by its pieces.
 use Rattle.std.proofs.Common.{◌≡◌, ℕ, zero, suc, ◌+◌, ◌-◌, ◌≤◌, Bool, true, false, not, ◌&&◌, ◌==◌, List, [], ◌∷◌, ◌++◌, Ok, length, map, drop, refl, sym, ap, ◌∙◌, arith, subst, length-append}
 use Rattle.std.specs.Prelude.{nat_lt, if◌then◌else◌}
-use Rattle.std.specs.List.{list_all}
 use Rattle.std.proofs.lemmas.Bool.{and_right}
 use Rattle.std.proofs.lemmas.Bool.Decides.{nat_tests}
 use Rattle.std.proofs.lemmas.List.{take_all}
@@ -30,7 +29,7 @@ use Rattle.read_back.specs.Read.{nodes_of}
 use Rattle.read_back.proofs.Bytes.{IsText}
 use Rattle.read_back.proofs.Leaves.{read_as}
 use Rattle.read_back.proofs.Pieces.{ArePieces, pieces_cut}
-use Rattle.read_back.proofs.Telling.{Gives, fits, lex, with_append}
+use Rattle.read_back.proofs.Telling.{Gives, lex, size, with_append}
 
 -- Shapes that say lexemes
 
@@ -126,23 +125,23 @@ ready_closed (Single m leaf next) = ready_closed next
 ready_closed (tree.Nested stage element kids next) = λ i. ready_closed kids i && ready_closed next i
 
 -- lexemes without a fault, the root among them, are the document's tree
-module _ (none : NoFault) (limits : Limits) (bytes : List ℕ) where
-  pub tree_is : (bs : List Body) (n : Nodes) → Gives limits [] [] false 0 bs n → list_all (fits limits) bs ≡ true
+module _ (none : NoFault) (limits : Limits) (cdata : Bool) (bytes : List ℕ) where
+  pub tree_is : (bs : List Body) (n : Nodes) → Gives limits cdata [] [] false 0 bs n → 0 + size bs ≤ limits.text
       → (o : ℕ → ℕ) → lexed limits bytes true ≡ record { lexemes = lex o bs; last = step.End }
-      → let t = doc_for limits false true bytes true in (is_closed t ≡ true) × (nodes_of t ≡ n)
+      → let t = doc_for limits false cdata bytes true in (is_closed t ≡ true) × (nodes_of t ≡ n)
   tree_is bs n g fit o e =
-      let size = fed (unread limits bytes true) in
+      let length_ = fed (unread limits bytes true) in
       let ls = lex o bs in
       let found = g fit o in
-      let read = none limits true size step.End ls found.1.sound in
-      let t = found.2 Fresh size [] in
-      let lists : lists_of (reading limits size step.End (starting true) ls) ≡ t.0 ∷ [] =
+      let read = none limits cdata length_ step.End ls found.1.sound in
+      let t = found.2 Fresh length_ [] in
+      let lists : lists_of (reading limits length_ step.End (starting cdata) ls) ≡ t.0 ∷ [] =
       ap lists_of read
-      ∙ ap (λ b. lists_of (record { items = all_items (starting true) ls ++ (at_end b size step.End).items; rest = (at_end b size step.End).rest })) found.1.behind
-      ∙ with_append (all_items (starting true) ls) (Closes size ∷ []) []
+      ∙ ap (λ b. lists_of (record { items = all_items (starting cdata) ls ++ (at_end b length_ step.End).items; rest = (at_end b length_ step.End).rest })) found.1.behind
+      ∙ with_append (all_items (starting cdata) ls) (Closes length_ ∷ []) []
       ∙ t.1 in
-      let whole : doc_for limits false true bytes true ≡ readied t.0 =
-      ap (λ (x : Lexed). readied (inner (lists_of (reading limits size x.last (starting true) x.lexemes)))) e
+      let whole : doc_for limits false cdata bytes true ≡ readied t.0 =
+      ap (λ (x : Lexed). readied (inner (lists_of (reading limits length_ x.last (starting cdata) x.lexemes)))) e
       ∙ ap (λ l. readied (inner l)) lists in
       (ap is_closed whole ∙ ready_closed t.0 ∙ t.3, ap nodes_of whole ∙ ready_nodes t.0 ∙ t.2)
 

@@ -1,9 +1,7 @@
 -- The lexemes of nodes tell of these nodes.
-use Rattle.std.proofs.Common.{◌≡◌, ◌≢◌, ◌⊎◌, ℕ, suc, ◌+◌, ◌<◌, ◌≤◌, ◌^◌, Bool, true, false, not, ◌&&◌, List, [], ◌∷◌, ◌++◌, length, refl, sym, ap, ◌∙◌, arith, subst, length-append, inl, inr}
-use Rattle.std.specs.Prelude.{codes, encode_utf8_all, nat_le, if◌then◌else◌}
-use Rattle.std.specs.List.{flat_map, list_all}
-use Rattle.std.proofs.lemmas.Bool.{and_from}
-use Rattle.std.proofs.lemmas.Bool.Decides.{nat_tests}
+use Rattle.std.proofs.Common.{append_assoc, append-nil, ◌≡◌, ◌⊎◌, ℕ, suc, ◌+◌, ◌<◌, ◌≤◌, ◌^◌, Bool, true, false, not, ◌&&◌, List, [], ◌∷◌, ◌++◌, length, refl, sym, ap, ◌∙◌, arith, subst, length-append, inl, inr}
+use Rattle.std.specs.Prelude.{codes, encode_utf8_all, if◌then◌else◌}
+use Rattle.std.specs.List.{flat_map}
 use Rattle.std.proofs.lemmas.Str.{length-le-encodes}
 use Rattle.stx_base.specs.declared.limits.Limits.{Limits}
 use Rattle.stx_base.specs.declared.name.Attr.{Attr}
@@ -32,7 +30,7 @@ use Rattle.read_back.proofs.Escaping.{escaped_longer}
 use Rattle.read_back.proofs.Leaving.{encode_some}
 use Rattle.read_back.proofs.Naming.{declared_last}
 use Rattle.read_back.proofs.Pieces.{ArePieces, IsPiece, begins_chars}
-use Rattle.read_back.proofs.Telling.{Gives, Names, fits, gives_comment, gives_element, gives_empty, gives_end, gives_instruction, gives_section, gives_text, is_text}
+use Rattle.read_back.proofs.Telling.{Gives, Names, chars_of, gives_comment, gives_element, gives_empty, gives_end, gives_instruction, gives_section, gives_text, size}
 
 -- Sizes
 
@@ -116,49 +114,47 @@ lines_longer (c ∷ text) bytes h =
       some _ _ _ (return_and_feed more) = omega arith
       some _ _ _ (return more other) = omega arith
 
-module _ (limits : Limits) where
-  less_fits : (n : ℕ) → n ≤ limits.text → nat_le n limits.text ≡ true
-  less_fits n h = grind (arith, nat_tests)
+piece_size : (b : Body) (front : List ℕ) → IsPiece b front → chars_of b ≤ length front
+piece_size (body.Chars text blank) front h =
+    let bytes : length front ≡ length (escaped Content (encode_utf8_all text)) = ap length h.2 in
+    omega (arith, bytes, length-le-encodes text, escaped_longer (encode_utf8_all text))
+piece_size (body.CData text) front h =
+    let inner = h.0.0 in
+    let whole : length front ≡ length (codes "<![CDATA[" ++ (inner ++ codes "]]>")) = ap length h.0.3 in
+    omega (arith, whole, lines_longer text inner h.0.1, length-append inner (codes "]]>"))
+piece_size (body.Start name attrs empty) front h = omega arith
+piece_size (body.End name) front h = omega arith
+piece_size (body.Comment text) front h = omega arith
+piece_size (body.Pi target text) front h = omega arith
+piece_size body.Doctype front h = omega arith
+piece_size body.Declaration front h = omega arith
 
-  piece_fits : (b : Body) (front : List ℕ) → IsPiece b front → length front ≤ limits.text → fits limits b ≡ true
-  piece_fits (body.Chars text blank) front h l =
-      let bytes : length front ≡ length (escaped Content (encode_utf8_all text)) = ap length h.2 in
-      less_fits (length text) (omega (arith, l, bytes, length-le-encodes text, escaped_longer (encode_utf8_all text)))
-  piece_fits (body.CData text) front h l =
-      let inner = h.0.0 in
-      let whole : length front ≡ length (codes "<![CDATA[" ++ (inner ++ codes "]]>")) = ap length h.0.3 in
-      less_fits (length text) (omega (arith, l, whole, lines_longer text inner h.0.1, length-append inner (codes "]]>")))
-  piece_fits (body.Start name attrs empty) front h l = refl
-  piece_fits (body.End name) front h l = refl
-  piece_fits (body.Comment text) front h l = refl
-  piece_fits (body.Pi target text) front h l = refl
-  piece_fits body.Doctype front h l = refl
-  piece_fits body.Declaration front h l = refl
-
-  pub pieces_fit : (bs : List Body) (bytes : List ℕ) → ArePieces bs bytes → length bytes ≤ limits.text → list_all (fits limits) bs ≡ true
-  pieces_fit [] bytes h l = refl
-  pieces_fit (b ∷ bs) bytes h l =
-      let whole : length bytes ≡ length h.0 + length h.1 = ap length h.2 ∙ length-append h.0 h.1 in
-      and_from (fits limits b) (list_all (fits limits) bs) (piece_fits b h.0 h.3 (omega (arith, l, whole))) (pieces_fit bs h.1 h.5 (omega (arith, l, whole)))
+pub pieces_size : (bs : List Body) (bytes : List ℕ) → ArePieces bs bytes → size bs ≤ length bytes
+pieces_size [] bytes h = omega arith
+pieces_size (b ∷ bs) bytes h =
+    let whole : length bytes ≡ length h.0 + length h.1 = ap length h.2 ∙ length-append h.0 h.1 in
+    omega (arith, whole, piece_size b h.0 h.3, pieces_size bs h.1 h.5)
 
 -- Texts before nodes and lexemes
 
-read_before : (text : List ℕ) (n : Nodes) → as_read (text_before text n) ≡ text_before text (as_read n)
-read_before [] n = refl
-read_before (c ∷ cs) End = refl
-read_before (c ∷ cs) (Chars more next) = refl
-read_before (c ∷ cs) (CData more next) = refl
-read_before (c ∷ cs) (Comment more next) = refl
-read_before (c ∷ cs) (Instruction target more next) = refl
-read_before (c ∷ cs) (Nested tag kids next) = refl
+-- two texts before nodes are one
+texts_join : (c : ℕ) (cs more : List ℕ) (n : Nodes) → text_before (c ∷ cs) (text_before more n) ≡ text_before (c ∷ cs ++ more) n
+texts_join c cs [] n = ap (λ l. text_before (c ∷ l) n) (sym (append-nil cs))
+texts_join c cs (d ∷ ds) End = refl
+texts_join c cs (d ∷ ds) (Chars later next) = ap (λ l. Chars (c ∷ l) next) (sym (append_assoc cs (d ∷ ds) later))
+texts_join c cs (d ∷ ds) (CData later next) = refl
+texts_join c cs (d ∷ ds) (Comment later next) = refl
+texts_join c cs (d ∷ ds) (Instruction target later next) = refl
+texts_join c cs (d ∷ ds) (Nested tag kids next) = refl
 
-node_alone : (c : ℕ) (cs : List ℕ) (n : Nodes) → is_text n ≡ false → text_before (c ∷ cs) n ≡ Chars (c ∷ cs) n
-node_alone c cs End h = refl
-node_alone c cs (Chars more next) h = absurd cc
-node_alone c cs (CData more next) h = refl
-node_alone c cs (Comment more next) h = refl
-node_alone c cs (Instruction target more next) h = refl
-node_alone c cs (Nested tag kids next) h = refl
+read_before : (cdata : Bool) (text : List ℕ) (n : Nodes) → as_read cdata (text_before text n) ≡ text_before text (as_read cdata n)
+read_before cdata [] n = refl
+read_before cdata (c ∷ cs) End = refl
+read_before cdata (c ∷ cs) (Chars more next) = sym (texts_join c cs more (as_read cdata next))
+read_before cdata (c ∷ cs) (CData more next) = refl
+read_before cdata (c ∷ cs) (Comment more next) = refl
+read_before cdata (c ∷ cs) (Instruction target more next) = refl
+read_before cdata (c ∷ cs) (Nested tag kids next) = refl
 
 pub body_alone : (c : ℕ) (cs : List ℕ) (bs : List Body) → begins_chars bs ≡ false → body_before (c ∷ cs) bs ≡ text_body (c ∷ cs) ∷ bs
 body_alone c cs [] h = refl
@@ -181,26 +177,26 @@ end_is (Nested tag kids next) e = absurd cc
 
 -- Nodes
 
-module _ (limits : Limits) (resolve : ResolvesNames) (limit : ℕ) (deep : limit ≤ limits.depth) where
+module _ (limits : Limits) (cdata : Bool) (resolve : ResolvesNames) (limit : ℕ) (deep : limit ≤ limits.depth) where
   -- lexemes that begin with no text, or a text and then such ones
   abbrev Says : (first : List ℕ) (others : List (List ℕ)) (path : List (List Binding)) → List Body → Nodes → Type 0
   Says first others path bs n =
-      ((begins_chars bs ≡ false) × (is_text n ≡ false) × ((k : ℕ) → Gives limits (first ∷ others) path true k bs n))
-      ⊎ ((text : List ℕ) × (later : List Body) × (next : Nodes) × (bs ≡ text_body text ∷ later) × (n ≡ Chars text next) × (text ≢ []) × (begins_chars later ≡ false) × (is_text next ≡ false)
-      × ((k : ℕ) → Gives limits (first ∷ others) path true k later next))
+      ((begins_chars bs ≡ false) × ((k : ℕ) → Gives limits cdata (first ∷ others) path true k bs n))
+      ⊎ ((text : List ℕ) × (later : List Body) × (next : Nodes) × (bs ≡ text_body text ∷ later) × (n ≡ text_before text next) × (begins_chars later ≡ false)
+      × ((k : ℕ) → Gives limits cdata (first ∷ others) path true k later next))
 
   module _ (first : List ℕ) (others : List (List ℕ)) (path : List (List Binding)) where
-    pub gives : (bs : List Body) (n : Nodes) → Says first others path bs n → Gives limits (first ∷ others) path true 0 bs n
-    gives bs n (inl h) = h.2 0
-    gives bs n (inr h) =
-        subst (λ l. Gives limits (first ∷ others) path true 0 l n) (sym h.3)
-        (subst (λ m. Gives limits (first ∷ others) path true 0 (text_body h.0 ∷ h.1) m) (sym h.4)
-        (gives_text limits first others path h.0 _ h.1 h.2 h.5 h.7 h.8))
+    pub gives : (bs : List Body) (n : Nodes) → Says first others path bs n → (k : ℕ) → Gives limits cdata (first ∷ others) path true k bs n
+    gives bs n (inl h) k = h.1 k
+    gives bs n (inr h) k =
+        subst (λ l. Gives limits cdata (first ∷ others) path true k l n) (sym h.3)
+        (subst (λ m. Gives limits cdata (first ∷ others) path true k (text_body h.0 ∷ h.1) m) (sym h.4)
+        (gives_text limits cdata first others path k h.0 _ h.1 h.2 h.6))
 
     text_says : (text : List ℕ) (bs : List Body) (n : Nodes) → Says first others path bs n → Says first others path (body_before text bs) (text_before text n)
     text_says [] bs n h = h
-    text_says (c ∷ cs) bs n (inl h) = inr (c ∷ cs, bs, n, body_alone c cs bs h.0, node_alone c cs n h.1, (λ e. absurd cc), h.0, h.1, h.2)
-    text_says (c ∷ cs) bs n (inr h) = inr (c ∷ cs ++ h.0, h.1, h.2, ap (body_before (c ∷ cs)) h.3, ap (text_before (c ∷ cs)) h.4, (λ e. absurd cc), h.6, h.7, h.8)
+    text_says (c ∷ cs) bs n (inl h) = inr (c ∷ cs, bs, n, body_alone c cs bs h.0, refl, h.0, h.1)
+    text_says (c ∷ cs) bs n (inr h) = inr (c ∷ cs ++ h.0, h.1, h.2, ap (body_before (c ∷ cs)) h.3, ap (text_before (c ∷ cs)) h.4 ∙ texts_join c cs h.0 h.2, h.5, h.6)
 
   -- what a start tag says
   module _ (path : List (List Binding)) (tag : HeldTag) (sound : is_sound_tag (in_one tag) ≡ true) (distinct : AreDistinct (in_one tag).attrs) (few : length (in_one tag).attrs < 2 ^ 64) where
@@ -210,7 +206,7 @@ module _ (limits : Limits) (resolve : ResolvesNames) (limit : ℕ) (deep : limit
     abbrev pub raw : List RawAttr
     raw = raw_attrs (dressed (declared_on path) (in_one tag)) (in_one tag).attrs
 
-    pub names_are : Names limits path word raw (in_one tag)
+    pub names_are : Names limits cdata path word raw (in_one tag)
     names_are = let r = resolve path (in_one tag) sound distinct few in record { fault = r.0; name = r.1; attrs = r.2 }
 
     pub path_is : declared_on (into path raw) ≡ inside (declared_on path) (in_one tag)
@@ -225,49 +221,49 @@ module _ (limits : Limits) (resolve : ResolvesNames) (limit : ℕ) (deep : limit
   element : (names : List (List ℕ)) (path : List (List Binding)) (r : Bool) (k : ℕ) (tag : HeldTag) (kids : Nodes)
       (sound : is_sound_tag (in_one tag) ≡ true) (distinct : AreDistinct (in_one tag).attrs) (few : length (in_one tag).attrs < 2 ^ 64)
       → (r && not (is_inside names)) ≡ false → length names < limits.depth
-      → Gives limits (word path tag sound distinct few ∷ names) (into path (raw path tag sound distinct few)) true 0 (bodies (declared_on (into path (raw path tag sound distinct few))) kids) (as_read (plain kids))
-      → (bs : List Body) (n : Nodes) → Gives limits names path true 0 bs n
-      → Gives limits names path r k
+      → Gives limits cdata (word path tag sound distinct few ∷ names) (into path (raw path tag sound distinct few)) true 0 (bodies (declared_on (into path (raw path tag sound distinct few))) kids) (as_read cdata (plain kids))
+      → (bs : List Body) (n : Nodes) → Gives limits cdata names path true 0 bs n
+      → Gives limits cdata names path r k
       (body.Start (word path tag sound distinct few) (raw path tag sound distinct few) (is_end kids)
       ∷ ((if is_end kids then [] else bodies (inside (declared_on path) (in_one tag)) kids ++ body.End (word path tag sound distinct few) ∷ []) ++ bs))
-      (Nested (expanded_tag (in_one tag)) (as_read (plain kids)) n)
+      (Nested (expanded_tag (in_one tag)) (as_read cdata (plain kids)) n)
   element names path r k tag kids sound distinct few free room kid bs n later = by_end (is_end kids) refl where
     by_end : (e : Bool) → is_end kids ≡ e
-        → Gives limits names path r k
+        → Gives limits cdata names path r k
         (body.Start (word path tag sound distinct few) (raw path tag sound distinct few) e
         ∷ ((if e then [] else bodies (inside (declared_on path) (in_one tag)) kids ++ body.End (word path tag sound distinct few) ∷ []) ++ bs))
-        (Nested (expanded_tag (in_one tag)) (as_read (plain kids)) n)
+        (Nested (expanded_tag (in_one tag)) (as_read cdata (plain kids)) n)
     by_end true e =
-        let none : as_read (plain kids) ≡ End = ap (λ x. as_read (plain x)) (end_is kids e) in
-        subst (λ m. Gives limits names path r k (body.Start (word path tag sound distinct few) (raw path tag sound distinct few) true ∷ bs) (Nested (expanded_tag (in_one tag)) m n)) (sym none)
-        (gives_empty limits names path r k (word path tag sound distinct few) (raw path tag sound distinct few) (in_one tag) (names_are path tag sound distinct few) free room bs n later)
+        let none : as_read cdata (plain kids) ≡ End = ap (λ x. as_read cdata (plain x)) (end_is kids e) in
+        subst (λ m. Gives limits cdata names path r k (body.Start (word path tag sound distinct few) (raw path tag sound distinct few) true ∷ bs) (Nested (expanded_tag (in_one tag)) m n)) (sym none)
+        (gives_empty limits cdata names path r k (word path tag sound distinct few) (raw path tag sound distinct few) (in_one tag) (names_are path tag sound distinct few) free room bs n later)
     by_end false e =
-        gives_element limits names path r k (word path tag sound distinct few) (raw path tag sound distinct few) (in_one tag) (names_are path tag sound distinct few) free room
-        (bodies (inside (declared_on path) (in_one tag)) kids) bs (as_read (plain kids)) n
-        (subst (λ l. Gives limits (word path tag sound distinct few ∷ names) (into path (raw path tag sound distinct few)) true 0 (bodies l kids) (as_read (plain kids))) (path_is path tag sound distinct few) kid)
+        gives_element limits cdata names path r k (word path tag sound distinct few) (raw path tag sound distinct few) (in_one tag) (names_are path tag sound distinct few) free room
+        (bodies (inside (declared_on path) (in_one tag)) kids) bs (as_read cdata (plain kids)) n
+        (subst (λ l. Gives limits cdata (word path tag sound distinct few ∷ names) (into path (raw path tag sound distinct few)) true 0 (bodies l kids) (as_read cdata (plain kids))) (path_is path tag sound distinct few) kid)
         later
 
   pub says : (first : List ℕ) (others : List (List ℕ)) (path : List (List Binding)) (nodes : Nodes) → IsAccepted limit (length (first ∷ others)) nodes → IsSmall nodes
-      → Says first others path (bodies (declared_on path) nodes) (as_read (plain nodes))
-  says first others path End h s = inl (refl, refl, λ k. gives_end limits (first ∷ others) path k)
+      → Says first others path (bodies (declared_on path) nodes) (as_read cdata (plain nodes))
+  says first others path End h s = inl (refl, λ k. gives_end limits cdata (first ∷ others) path k)
   says first others path (Chars text next) h s =
-      subst (Says first others path (body_before text (bodies (declared_on path) next))) (sym (read_before text (plain next)))
-      (text_says first others path text (bodies (declared_on path) next) (as_read (plain next)) (says first others path next h.1 s))
+      subst (Says first others path (body_before text (bodies (declared_on path) next))) (sym (read_before cdata text (plain next)))
+      (text_says first others path text (bodies (declared_on path) next) (as_read cdata (plain next)) (says first others path next h.1 s))
   says first others path (CData text next) h s =
-      let later = gives first others path (bodies (declared_on path) next) (as_read (plain next)) (says first others path next h.1 s) in
-      inl (refl, refl, λ k. gives_section limits first others path k text (bodies (declared_on path) next) (as_read (plain next)) later)
+      let later = gives first others path (bodies (declared_on path) next) (as_read cdata (plain next)) (says first others path next h.1 s) in
+      inl (refl, λ k. gives_section limits cdata first others path k text (bodies (declared_on path) next) (as_read cdata (plain next)) later)
   says first others path (Comment text next) h s =
-      let later = gives first others path (bodies (declared_on path) next) (as_read (plain next)) (says first others path next h.1 s) in
-      inl (refl, refl, λ k. gives_comment limits (first ∷ others) path true k text (bodies (declared_on path) next) (as_read (plain next)) later)
+      let later = gives first others path (bodies (declared_on path) next) (as_read cdata (plain next)) (says first others path next h.1 s) in
+      inl (refl, λ k. gives_comment limits cdata (first ∷ others) path true k text (bodies (declared_on path) next) (as_read cdata (plain next)) (later 0))
   says first others path (Instruction target text next) h s =
-      let later = gives first others path (bodies (declared_on path) next) (as_read (plain next)) (says first others path next h.1 s) in
-      inl (refl, refl, λ k. gives_instruction limits (first ∷ others) path true k target (read_data text) (bodies (declared_on path) next) (as_read (plain next)) later)
+      let later = gives first others path (bodies (declared_on path) next) (as_read cdata (plain next)) (says first others path next h.1 s) in
+      inl (refl, λ k. gives_instruction limits cdata (first ∷ others) path true k target (read_data text) (bodies (declared_on path) next) (as_read cdata (plain next)) (later 0))
   says first others path (Nested tag kids next) h s =
       let name = word path tag h.0 h.1 s.0 in
       let inner = into path (raw path tag h.0 h.1 s.0) in
-      let later = gives first others path (bodies (declared_on path) next) (as_read (plain next)) (says first others path next h.4 s.2) in
-      let kid = gives name (first ∷ others) inner (bodies (declared_on inner) kids) (as_read (plain kids)) (says name (first ∷ others) inner kids h.3 s.1) in
-      inl (refl, refl, λ k. element (first ∷ others) path true k tag kids h.0 h.1 s.0 refl (deeper (length (first ∷ others)) h.2) kid (bodies (declared_on path) next) (as_read (plain next)) later)
+      let later = gives first others path (bodies (declared_on path) next) (as_read cdata (plain next)) (says first others path next h.4 s.2) in
+      let kid = gives name (first ∷ others) inner (bodies (declared_on inner) kids) (as_read cdata (plain kids)) (says name (first ∷ others) inner kids h.3 s.1) in
+      inl (refl, λ k. element (first ∷ others) path true k tag kids h.0 h.1 s.0 refl (deeper (length (first ∷ others)) h.2) (kid 0) (bodies (declared_on path) next) (as_read cdata (plain next)) (later 0))
 
   -- A whole document
 
@@ -304,22 +300,22 @@ module _ (limits : Limits) (resolve : ResolvesNames) (limit : ℕ) (deep : limit
 
   -- outside the root
   pub outside : (r : Bool) (nodes : Nodes) → IsAccepted limit 0 nodes → IsSmall nodes → may_follow r (plain nodes) ≡ true
-      → (begins_chars (bodies [] nodes) ≡ false) × ((k : ℕ) → Gives limits [] [] r k (bodies [] nodes) (as_read (plain nodes)))
+      → (begins_chars (bodies [] nodes) ≡ false) × ((k : ℕ) → Gives limits cdata [] [] r k (bodies [] nodes) (as_read cdata (plain nodes)))
   outside false End h s f = absurd cc
-  outside true End h s f = (refl, λ k. gives_end limits [] [] k)
+  outside true End h s f = (refl, λ k. gives_end limits cdata [] [] k)
   outside r (Chars [] next) h s f = outside r next h.1 s f
   outside r (Chars (c ∷ cs) next) h s f = absurd (let clash : true ≡ false = sym f ∙ no_text r c cs (plain next) in cc)
   outside r (CData text next) h s f = absurd (no_section r text (plain next) f)
   outside r (Comment text next) h s f =
       let later = outside r next h.1 s (comment_follows r text (plain next) f) in
-      (refl, λ k. gives_comment limits [] [] r k text (bodies [] next) (as_read (plain next)) (later.1 0))
+      (refl, λ k. gives_comment limits cdata [] [] r k text (bodies [] next) (as_read cdata (plain next)) (later.1 0))
   outside r (Instruction target text next) h s f =
       let later = outside r next h.1 s (instruction_follows r target text (plain next) f) in
-      (refl, λ k. gives_instruction limits [] [] r k target (read_data text) (bodies [] next) (as_read (plain next)) (later.1 0))
+      (refl, λ k. gives_instruction limits cdata [] [] r k target (read_data text) (bodies [] next) (as_read cdata (plain next)) (later.1 0))
   outside true (Nested tag kids next) h s f = absurd cc
   outside false (Nested tag kids next) h s f =
       let name = word [] tag h.0 h.1 s.0 in
       let inner = into [] (raw [] tag h.0 h.1 s.0) in
       let later = outside true next h.4 s.2 f in
-      let kid = gives name [] inner (bodies (declared_on inner) kids) (as_read (plain kids)) (says name [] inner kids h.3 s.1) in
-      (refl, λ k. element [] [] false k tag kids h.0 h.1 s.0 refl (deeper 0 h.2) kid (bodies [] next) (as_read (plain next)) (later.1 0))
+      let kid = gives name [] inner (bodies (declared_on inner) kids) (as_read cdata (plain kids)) (says name [] inner kids h.3 s.1) in
+      (refl, λ k. element [] [] false k tag kids h.0 h.1 s.0 refl (deeper 0 h.2) (kid 0) (bodies [] next) (as_read cdata (plain next)) (later.1 0))

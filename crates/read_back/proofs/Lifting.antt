@@ -96,8 +96,9 @@ abbrev Behind : (limit : ℕ) → Left → List Part → Type 0
 Behind limit l rest = (m : Left) × (first_open limit m rest ≡ None) × (settled m.elements m.held ≡ settled l.elements l.held)
 
 -- what is left behind an end
-after_end : (limit : ℕ) (es fs : List Element) (ps : List Part) → es ≡ fs → first_open limit (record { elements = es; held = None }) ps ≡ None → first_open limit (record { elements = fs; held = None }) ps ≡ None
-after_end limit es fs ps e h = ap (λ x. first_open limit (record { elements = x; held = None }) ps) (sym e) ∙ h
+after_end : (limit : ℕ) (m : Left) (es : List Element) (ps : List Part) → closed m.elements m.held ≡ es → first_open limit (record { elements = closed m.elements m.held; held = None }) ps ≡ None
+    → first_open limit (record { elements = es; held = None }) ps ≡ None
+after_end limit m es ps e h = ap (λ x. first_open limit (record { elements = x; held = None }) ps) (sym e) ∙ h
 
 nested_fine : (limit n : ℕ) (tag : HeldTag) (kids more : Nodes) → is_good_name tag.name ≡ true → unless (nat_lt n limit) ResultDepth None ≡ None → attributes_fault tag.attrs ≡ None
     → nodes_fault limit (suc n) kids ≡ None → nodes_fault limit n more ≡ None → nodes_fault limit n (Nested tag kids more) ≡ None
@@ -135,7 +136,7 @@ judge limit l (Nested tag kids more) rest h =
     let full : Left = record { elements = es; held = Some attrs.1.0 } in
     let inside = judge limit full kids (end ∷ (parts_of more ++ rest)) (ap (first_open limit full) (sym (append_assoc (parts_of kids) (end ∷ parts_of more) rest)) ∙ attrs.1.1) in
     let out : closed inside.1.0.elements inside.1.0.held ≡ es = closed_is inside.1.0.elements inside.1.0.held _ es inside.1.2 in
-    let later = judge limit (record { elements = es; held = None }) more rest (after_end limit _ es (parts_of more ++ rest) out inside.1.1) in
+    let later = judge limit (record { elements = es; held = None }) more rest (after_end limit inside.1.0 es (parts_of more ++ rest) out inside.1.1) in
     (nested_fine limit (length es) tag kids more good.0 room attrs.0 inside.0 later.0, later.1)
 
 -- Parts as nodes

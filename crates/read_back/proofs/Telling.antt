@@ -1,9 +1,8 @@
 -- What lexemes tell of a tree.
-use Rattle.std.proofs.Common.{◌≡◌, ◌≢◌, ℕ, suc, ◌+◌, ◌<◌, Bool, true, false, not, ◌&&◌, List, [], ◌∷◌, ◌++◌, Some, None, length, map, refl, sym, ap, ◌∙◌, arith, subst, append_assoc}
+use Rattle.std.proofs.Common.{◌≤◌, ◌≡◌, ℕ, suc, ◌+◌, ◌<◌, Bool, true, false, not, ◌&&◌, List, [], ◌∷◌, ◌++◌, Some, None, length, map, refl, sym, ap, ◌∙◌, arith, subst, append_assoc}
 use Rattle.std.specs.Prelude.{nat_le, nat_lt, if◌then◌else◌}
-use Rattle.std.specs.List.{list_all}
 use Rattle.std.specs.Option.{option_or}
-use Rattle.std.proofs.lemmas.Bool.{and_parts, and_from}
+use Rattle.std.proofs.lemmas.Bool.{and_from}
 use Rattle.std.proofs.lemmas.Bool.Decides.{nat_tests}
 use Rattle.stx_base.specs.declared.fault.XmlKind.TheVariants.{Misplaced, Mismatch, TextTooLong, TooDeep}
 use Rattle.stx_base.specs.declared.limits.Limits.{Limits}
@@ -20,7 +19,7 @@ use Rattle.xml_events.specs.Laws.{AreSound, all_items, behind}
 use Rattle.xml_events.specs.Tree as tree
 use Rattle.xml_events.specs.Tree.{Element, Forest, Fresh, Future, Mark, Single, Waiting}
 use Rattle.xml_names.proofs.Paths.{take-last}
-use Rattle.result_writer.specs.Nodes.{Nodes, End, Chars, CData, Comment, Instruction, Nested, expanded_attr, expanded_name}
+use Rattle.result_writer.specs.Nodes.{Nodes, End, CData, Comment, Instruction, Nested, expanded_attr, expanded_name, text_before as node_before}
 use Rattle.result_writer.specs.declared.tag.HeldTag.{HeldTag}
 use Rattle.read_back.specs.Read.{nodes_of}
 use Rattle.read_back.proofs.Tests.{same-of}
@@ -58,24 +57,41 @@ with_append (i ∷ is) js f = ap (with_item i) (with_append is js f)
 
 -- What is before a lexeme
 
-abbrev pub at : (names : List (List ℕ)) (path : List (List Binding)) (rooted : Bool) (chars : ℕ) → Before
-at names path rooted chars = record { names = names; path = path; rooted = rooted; typed = false; chars = chars; cdata = true }
+abbrev pub at : (cdata : Bool) (names : List (List ℕ)) (path : List (List Binding)) (rooted : Bool) (chars : ℕ) → Before
+at cdata names path rooted chars = record { names = names; path = path; rooted = rooted; typed = false; chars = chars; cdata = cdata }
 
-abbrev pub is_text : Nodes → Bool
-is_text (Chars text next) = true
-is_text other = false
+-- a text before a tree is one before its nodes
+text_nodes : (offset : ℕ) (text : List ℕ) (t : Forest) → is_closed t ≡ true → (nodes_of (text_before offset text t) ≡ node_before text (nodes_of t)) × (is_closed (text_before offset text t) ≡ true)
+text_nodes offset [] (tree.End m end) h = (refl, refl)
+text_nodes offset [] (tree.Cut why) h = absurd cc
+text_nodes offset [] (Single m (tree.Chars later text) next) h = (refl, h)
+text_nodes offset [] (Single m (tree.CData later text) next) h = (refl, h)
+text_nodes offset [] (Single m (tree.Comment later text) next) h = (refl, h)
+text_nodes offset [] (Single m (tree.Pi later target text) next) h = (refl, h)
+text_nodes offset [] (tree.Nested stage element kids next) h = (refl, h)
+text_nodes offset (c ∷ cs) (tree.End m end) h = (refl, refl)
+text_nodes offset (c ∷ cs) (tree.Cut why) h = absurd cc
+text_nodes offset (c ∷ cs) (Single m (tree.Chars later text) next) h = (refl, h)
+text_nodes offset (c ∷ cs) (Single m (tree.CData later text) next) h = (refl, h)
+text_nodes offset (c ∷ cs) (Single m (tree.Comment later text) next) h = (refl, h)
+text_nodes offset (c ∷ cs) (Single m (tree.Pi later target text) next) h = (refl, h)
+text_nodes offset (c ∷ cs) (tree.Nested stage element kids next) h = (refl, h)
 
--- a text before a list that begins with no other
-text_alone : (offset : ℕ) (c : ℕ) (cs : List ℕ) (t : Forest) → is_text (nodes_of t) ≡ false → is_closed t ≡ true → text_before offset (c ∷ cs) t ≡ Single Fresh (tree.Chars offset (c ∷ cs)) t
-text_alone offset c cs (tree.End m end) h k = refl
-text_alone offset c cs (tree.Cut why) h k = absurd cc
-text_alone offset c cs (Single m (tree.Chars later text) next) h k = absurd cc
-text_alone offset c cs (Single m (tree.CData later text) next) h k = refl
-text_alone offset c cs (Single m (tree.Comment later text) next) h k = refl
-text_alone offset c cs (Single m (tree.Pi later target text) next) h k = refl
-text_alone offset c cs (tree.Nested stage element kids next) h k = refl
+-- the characters of a lexeme that is text, or may be, and of all these lexemes
+abbrev pub chars_of : Body → ℕ
+chars_of (body.Chars text blank) = length text
+chars_of (body.CData text) = length text
+chars_of other = 0
 
-module _ (limits : Limits) where
+abbrev pub size : List Body → ℕ
+size [] = 0
+size (b ∷ bs) = chars_of b + size bs
+
+size_append : (as_ bs : List Body) → size (as_ ++ bs) ≡ size as_ + size bs
+size_append [] bs = omega arith
+size_append (a ∷ as_) bs = omega (arith, size_append as_ bs)
+
+module _ (limits : Limits) (cdata : Bool) where
   -- no lexeme has a fault, and this stands behind them
   pub record Run (b : Before) (ls : List Lexeme) (c : Before) : Type 0 where
     pub sound : AreSound limits b ls
@@ -91,23 +107,15 @@ module _ (limits : Limits) where
   abbrev pub Tree : Before → List Lexeme → Nodes → Type 0
   Tree b ls n = (m : Mark) (end : ℕ) (fs : Future) → (t : Forest) × (with_items (all_items b ls) (tree.End m end ∷ fs) ≡ t ∷ fs) × (nodes_of t ≡ n) × (is_closed t ≡ true)
 
-  -- a text that isn't too long
-  abbrev pub fits : Body → Bool
-  fits (body.Chars text blank) = nat_le (length text) limits.text
-  fits (body.CData text) = nat_le (length text) limits.text
-  fits other = true
-
-  pub fits_append : (as_ bs : List Body) → list_all fits (as_ ++ bs) ≡ true → (list_all fits as_ ≡ true) × (list_all fits bs ≡ true)
-  fits_append [] bs h = (refl, h)
-  fits_append (a ∷ as_) bs h =
-      let both = and_parts (fits a) (list_all fits (as_ ++ bs)) h in
-      let later = fits_append as_ bs both.1 in
-      (and_from (fits a) (list_all fits as_) both.0 later.0, later.1)
-
-  -- the lexemes stand there without a fault, leave the same elements open, and are these nodes
+  -- where no text gets too long, the lexemes stand there without a fault, leave the same elements open, and are these nodes
   abbrev pub Gives : (names : List (List ℕ)) (path : List (List Binding)) (rooted : Bool) (chars : ℕ) → List Body → Nodes → Type 0
   Gives names path rooted chars bs n =
-      list_all fits bs ≡ true → (o : ℕ → ℕ) → (more : ℕ) × Run (at names path rooted chars) (lex o bs) (at names path true more) × Tree (at names path rooted chars) (lex o bs) n
+      chars + size bs ≤ limits.text → (o : ℕ → ℕ)
+      → (more : ℕ) × Run (at cdata names path rooted chars) (lex o bs) (at cdata names path true more) × Tree (at cdata names path rooted chars) (lex o bs) n
+
+  -- where a text begins
+  start_text : (k n l : ℕ) → k + (0 + n) ≤ l → 0 + n ≤ l
+  start_text k n l h = omega (arith, h)
 
   module _ (names : List (List ℕ)) (path : List (List Binding)) where
     pub gives_end : (k : ℕ) → Gives names path true k [] End
@@ -115,7 +123,7 @@ module _ (limits : Limits) where
 
     pub gives_comment : (r : Bool) (k : ℕ) (text : List ℕ) (bs : List Body) (n : Nodes) → Gives names path r 0 bs n → Gives names path r k (body.Comment text ∷ bs) (Comment text n)
     gives_comment r k text bs n g fit o =
-        let later = g fit (λ i. o (suc i)) in (
+        let later = g (start_text k (size bs) limits.text fit) (λ i. o (suc i)) in (
           later.0,
           record { sound = (refl, later.1.sound); behind = later.1.behind },
           λ m end fs. let t = later.2 m end fs in (Single Fresh (tree.Comment (o 0) text) t.0, ap (with_item (Stands (tree.Comment (o 0) text))) t.1, ap (Comment text) t.2, t.3),
@@ -123,47 +131,42 @@ module _ (limits : Limits) where
 
     pub gives_instruction : (r : Bool) (k : ℕ) (target text : List ℕ) (bs : List Body) (n : Nodes) → Gives names path r 0 bs n → Gives names path r k (body.Pi target text ∷ bs) (Instruction target text n)
     gives_instruction r k target text bs n g fit o =
-        let later = g fit (λ i. o (suc i)) in (
+        let later = g (start_text k (size bs) limits.text fit) (λ i. o (suc i)) in (
           later.0,
           record { sound = (refl, later.1.sound); behind = later.1.behind },
           λ m end fs. let t = later.2 m end fs in (Single Fresh (tree.Pi (o 0) target text) t.0, ap (with_item (Stands (tree.Pi (o 0) target text))) t.1, ap (Instruction target text) t.2, t.3),
         )
 
-  short : (l n : ℕ) → nat_le n l ≡ true → nat_lt l (0 + n) ≡ false
-  short l n h = grind (arith, nat_tests)
+  short : (k n m l : ℕ) → k + (n + m) ≤ l → nat_lt l (k + n) ≡ false
+  short k n m l h = grind (arith, nat_tests)
+
+  later_text : (k n m l : ℕ) → k + (n + m) ≤ l → k + n + m ≤ l
+  later_text k n m l h = omega (arith, h)
 
   -- within an element
   module _ (first : List ℕ) (others : List (List ℕ)) (path : List (List Binding)) where
     abbrev names : List (List ℕ)
     names = first ∷ others
 
-    pub gives_section : (k : ℕ) (text : List ℕ) (bs : List Body) (n : Nodes) → Gives names path true 0 bs n → Gives names path true k (body.CData text ∷ bs) (CData text n)
-    gives_section k text bs n g fit o =
-        let both = and_parts (nat_le (length text) limits.text) (list_all fits bs) fit in
-        let later = g both.1 (λ i. o (suc i)) in (
+    pub gives_text : (k : ℕ) (text : List ℕ) (blank : Bool) (bs : List Body) (n : Nodes) → ((k : ℕ) → Gives names path true k bs n) → Gives names path true k (body.Chars text blank ∷ bs) (node_before text n)
+    gives_text k text blank bs n g fit o =
+        let later = g (k + length text) (later_text k (length text) (size bs) limits.text fit) (λ i. o (suc i)) in (
           later.0,
-          record { sound = (ap (λ t. if t then Some TextTooLong else None) (short limits.text (length text) both.0), later.1.sound); behind = later.1.behind },
-          λ m end fs. let t = later.2 m end fs in (Single Fresh (tree.CData (o 0) text) t.0, ap (with_item (Stands (tree.CData (o 0) text))) t.1, ap (CData text) t.2, t.3),
-        )
-
-    pub gives_text : (text : List ℕ) (blank : Bool) (bs : List Body) (n : Nodes) → text ≢ [] → is_text n ≡ false → ((k : ℕ) → Gives names path true k bs n) → Gives names path true 0 (body.Chars text blank ∷ bs) (Chars text n)
-    gives_text [] blank bs n some apart g fit o = absurd (some refl)
-    gives_text (c ∷ cs) blank bs n some apart g fit o =
-        let text = c ∷ cs in
-        let both = and_parts (nat_le (length text) limits.text) (list_all fits bs) fit in
-        let later = g (0 + length text) both.1 (λ i. o (suc i)) in (
-          later.0,
-          record { sound = (ap (λ t. if t then Some TextTooLong else None) (short limits.text (length text) both.0), later.1.sound); behind = later.1.behind },
+          record { sound = (ap (λ t. if t then Some TextTooLong else None) (short k (length text) (size bs) limits.text fit), later.1.sound); behind = later.1.behind },
           λ m end fs.
-              let t = later.2 m end fs in (
-                Single Fresh (tree.Chars (o 0) text) t.0,
-                ap (with_item (Says (o 0) text)) t.1 ∙ ap (λ l. l ∷ fs) (text_alone (o 0) c cs t.0 (ap is_text t.2 ∙ apart) t.3),
-                ap (Chars text) t.2,
-                t.3,
+              let t = later.2 m end fs in
+              let both = text_nodes (o 0) text t.0 t.3 in (
+                text_before (o 0) text t.0,
+                ap (with_item (Says (o 0) text)) t.1,
+                both.0 ∙ ap (node_before text) t.2,
+                both.1,
               ),
         )
 
   -- An element
+
+  element_text : (k all inner behind l : ℕ) → k + (0 + all) ≤ l → all ≡ inner + (0 + behind) → (0 + inner ≤ l) × (0 + behind ≤ l)
+  element_text k all inner behind l h e = (omega (arith, h, e), omega (arith, h, e))
 
   -- what a start tag says on a path
   pub record Names (path : List (List Binding)) (word : List ℕ) (raw : List RawAttr) (tag : HeldTag) : Type 0 where
@@ -177,7 +180,7 @@ module _ (limits : Limits) where
     element = record { name = expanded_name tag.name; scope = []; attrs = map expanded_attr tag.attrs }
 
     abbrev here : Before
-    here = at names path r k
+    here = at cdata names path r k
 
     room : nat_le limits.depth (length names) ≡ false
     room = less limits.depth (length names) deep where
@@ -195,7 +198,7 @@ module _ (limits : Limits) where
 
     pub gives_empty : (bs : List Body) (n : Nodes) → Gives names path true 0 bs n → Gives names path r k (body.Start word raw true ∷ bs) (Nested element End n)
     gives_empty bs n g fit o =
-        let later = g fit (λ i. o (suc i)) in (
+        let later = g (start_text k (size bs) limits.text fit) (λ i. o (suc i)) in (
           later.0,
           record { sound = (no_fault true, later.1.sound); behind = later.1.behind },
           λ m end fs.
@@ -212,24 +215,25 @@ module _ (limits : Limits) where
         → Gives names path r k (body.Start word raw false ∷ ((kids ++ body.End word ∷ []) ++ bs)) (Nested element inside n)
     gives_element kids bs inside n g h fit o =
         let whole : (kids ++ body.End word ∷ []) ++ bs ≡ kids ++ body.End word ∷ bs = append_assoc kids (body.End word ∷ []) bs in
-        let fits_all = fits_append kids (body.End word ∷ bs) (sym (ap (list_all fits) whole) ∙ fit) in
+        let parts : size ((kids ++ body.End word ∷ []) ++ bs) ≡ size kids + (0 + size bs) = ap size whole ∙ size_append kids (body.End word ∷ bs) in
+        let fits_all = element_text k (size ((kids ++ body.End word ∷ []) ++ bs)) (size kids) (size bs) limits.text fit parts in
         let next = λ (i : ℕ). o (suc i) in
         let split = lex_append next kids (body.End word ∷ bs) in
-        let deeper = at (word ∷ names) (into path raw) true 0 in
+        let deeper = at cdata (word ∷ names) (into path raw) true 0 in
         let first = g fits_all.0 next in
         let second = h fits_all.1 (λ i. split.0 (suc i)) in
         let kid_lexemes = lex next kids in
         let last : Lexeme = record { offset = split.0 0; body = body.End word } in
         let rest = lex (λ i. split.0 (suc i)) bs in
         let all : lex next ((kids ++ body.End word ∷ []) ++ bs) ≡ kid_lexemes ++ last ∷ rest = ap (lex next) whole ∙ split.1 in
-        let within = at (word ∷ names) (into path raw) true first.0 in
-        let out : before_next within (body.End word) ≡ at names path true 0 = ap (λ q. at names q true 0) (take-last path (declarations raw)) in
+        let within = at cdata (word ∷ names) (into path raw) true first.0 in
+        let out : before_next within (body.End word) ≡ at cdata names path true 0 = ap (λ q. at cdata names q true 0) (take-last path (declarations raw)) in
         let closed : fault_of limits within (body.End word) ≡ None = ap (λ t. if t then None else Some Mismatch) (same-of word word refl) in
-        let tail : Run within (last ∷ rest) (at names path true second.0) = record {
+        let tail : Run within (last ∷ rest) (at cdata names path true second.0) = record {
           sound = (closed, subst (λ b. AreSound limits b rest) (sym out) second.1.sound);
           behind = ap (λ b. behind b rest) out ∙ second.1.behind;
         } in
-        let run = run_append deeper within (at names path true second.0) kid_lexemes (last ∷ rest) first.1 tail in (
+        let run = run_append deeper within (at cdata names path true second.0) kid_lexemes (last ∷ rest) first.1 tail in (
           second.0,
           record {
             sound = (no_fault false, subst (AreSound limits deeper) (sym all) run.sound);
@@ -253,3 +257,31 @@ module _ (limits : Limits) where
                 and_from (is_closed u.0) (is_closed t.0) u.3 t.3,
               ),
         )
+
+-- within an element a section is a node, or text like other
+pub gives_section : (limits : Limits) (cdata : Bool) (first : List ℕ) (others : List (List ℕ)) (path : List (List Binding)) (k : ℕ) (text : List ℕ) (bs : List Body) (n : Nodes)
+    → ((k : ℕ) → Gives limits cdata (first ∷ others) path true k bs n) → Gives limits cdata (first ∷ others) path true k (body.CData text ∷ bs) (if cdata then CData text n else node_before text n)
+gives_section limits true first others path k text bs n g fit o =
+    let later = g 0 (alone k (length text) (size bs) limits.text fit) (λ i. o (suc i)) in (
+      later.0,
+      record { sound = (ap (λ t. if t then Some TextTooLong else None) (short limits true 0 (length text) (size bs) limits.text (first_text k (length text) (size bs) limits.text fit)), later.1.sound); behind = later.1.behind },
+      λ m end fs. let t = later.2 m end fs in (Single Fresh (tree.CData (o 0) text) t.0, ap (with_item (Stands (tree.CData (o 0) text))) t.1, ap (CData text) t.2, t.3),
+    ) where
+      alone : (k n m l : ℕ) → k + (n + m) ≤ l → 0 + m ≤ l
+      alone k n m l h = omega (arith, h)
+
+      first_text : (k n m l : ℕ) → k + (n + m) ≤ l → 0 + (n + m) ≤ l
+      first_text k n m l h = omega (arith, h)
+gives_section limits false first others path k text bs n g fit o =
+    let later = g (k + length text) (later_text limits false k (length text) (size bs) limits.text fit) (λ i. o (suc i)) in (
+      later.0,
+      record { sound = (ap (λ t. if t then Some TextTooLong else None) (short limits false k (length text) (size bs) limits.text fit), later.1.sound); behind = later.1.behind },
+      λ m end fs.
+          let t = later.2 m end fs in
+          let both = text_nodes (o 0) text t.0 t.3 in (
+            text_before (o 0) text t.0,
+            ap (with_item (Says (o 0) text)) t.1,
+            both.0 ∙ ap (node_before text) t.2,
+            both.1,
+          ),
+    )

@@ -102,21 +102,22 @@ WritesShapes =
     → list_all is_sound_part (parts_of nodes) ≡ true
     → (shapes : List (List ℕ)) × Cuts true (written in_force nodes) shapes [] × AreJudged shapes (bodies in_force nodes)
 
--- A result that is accepted as a whole, with its first line and one element, is read without a fault, as the nodes of its parts.
+-- A result that is accepted as a whole, with its first line and one element, is read without a fault, as the nodes of its parts, whether
+-- CDATA sections are recognised or not.
 abbrev pub ReadsResults : Type 0
 ReadsResults =
-    (limits : Limits) (limit : ℕ) (ps : List Part)
+    (limits : Limits) (cdata : Bool) (limit : ℕ) (ps : List Part)
     → whole_fault limit ps ≡ None
     → list_all is_sound_part ps ≡ true
     → is_document (forest ps) ≡ true
     → let bytes = head ++ text ps in Suffices limits bytes limit
-    → let tree = doc_for limits false true bytes true in (is_closed tree ≡ true) × (nodes_of tree ≡ as_read (forest ps))
+    → let tree = doc_for limits false cdata bytes true in (is_closed tree ≡ true) × (nodes_of tree ≡ as_read cdata (forest ps))
 
 -- So is any result that is accepted as a whole, between a start and an end tag.
 abbrev pub ReadsContents : Type 0
 ReadsContents =
-    (limits : Limits) (limit : ℕ) (ps : List Part)
+    (limits : Limits) (cdata : Bool) (limit : ℕ) (ps : List Part)
     → whole_fault limit ps ≡ None
     → list_all is_sound_part ps ≡ true
     → let bytes = codes "<r>" ++ text ps ++ codes "</r>" in Suffices limits bytes (limit + 1)
-    → let tree = doc_for limits false true bytes true in (is_closed tree ≡ true) × (nodes_of tree ≡ within (as_read (forest ps)))
+    → let tree = doc_for limits false cdata bytes true in (is_closed tree ≡ true) × (nodes_of tree ≡ within (as_read cdata (forest ps)))

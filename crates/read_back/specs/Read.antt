@@ -1,9 +1,9 @@
 -- What is read of a result (XML 1.0, 2.1; Namespaces in XML 1.0, 2.1).
-use Rattle.std.specs.Prelude.{◌≤◌, ◌<◌, ◌^◌, ℕ, Bool, true, false, List, [], codes, length, map}
+use Rattle.std.specs.Prelude.{◌≤◌, ◌<◌, ◌^◌, ℕ, Bool, true, false, if◌then◌else◌, List, [], codes, length, map}
 use Rattle.stx_base.specs.declared.limits.Limits.{Limits}
 use Rattle.xml_events.specs.Tree as tree
 use Rattle.xml_events.specs.Tree.{Forest, Single}
-use Rattle.result_writer.specs.Nodes.{Nodes, End, Chars, CData, Comment, Instruction, Nested, expanded_attr, expanded_name}
+use Rattle.result_writer.specs.Nodes.{Nodes, End, Chars, CData, Comment, Instruction, Nested, expanded_attr, expanded_name, text_before}
 use Rattle.read_back.specs.Reading.{read_data}
 
 -- the first line of each result
@@ -21,14 +21,15 @@ nodes_of (Single mark (tree.Pi offset target text) next) = Instruction target te
 nodes_of (tree.Nested stage element kids next) =
     Nested (record { name = expanded_name element.name; scope = []; attrs = map expanded_attr element.attrs }) (nodes_of kids) (nodes_of next)
 
--- nodes as they are read: white space before an instruction's data isn't part of it
-abbrev pub as_read : Nodes → Nodes
-as_read End = End
-as_read (Chars text next) = Chars text (as_read next)
-as_read (CData text next) = CData text (as_read next)
-as_read (Comment text next) = Comment text (as_read next)
-as_read (Instruction target text next) = Instruction target (read_data text) (as_read next)
-as_read (Nested tag kids next) = Nested tag (as_read kids) (as_read next)
+-- Nodes as they are read: white space before an instruction's data isn't part of it, and where CDATA sections aren't recognised they are
+-- text like other, which is one with that beside it.
+abbrev pub as_read : (cdata : Bool) → Nodes → Nodes
+as_read cdata End = End
+as_read cdata (Chars text next) = text_before text (as_read cdata next)
+as_read cdata (CData text next) = if cdata then CData text (as_read cdata next) else text_before text (as_read cdata next)
+as_read cdata (Comment text next) = Comment text (as_read cdata next)
+as_read cdata (Instruction target text next) = Instruction target (read_data text) (as_read cdata next)
+as_read cdata (Nested tag kids next) = Nested tag (as_read cdata kids) (as_read cdata next)
 
 -- nodes in an element `r`
 abbrev pub within : Nodes → Nodes
