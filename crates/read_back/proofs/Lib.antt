@@ -14,3 +14,4 @@ mod Elements
 mod Lifting
 mod Documents
 mod Results
+mod Same

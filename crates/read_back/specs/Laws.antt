@@ -24,7 +24,7 @@ use Rattle.result_writer.specs.Tag.{dressed, end_tag, open_tag}
 use Rattle.result_writer.specs.declared.tag.Dressed.{Dressed}
 use Rattle.result_writer.specs.declared.tag.HeldTag.{HeldTag}
 use Rattle.read_back.specs.Lexemes.{AreJudged, bodies}
-use Rattle.read_back.specs.Read.{Suffices, as_read, head, is_document, nodes_of, within}
+use Rattle.read_back.specs.Read.{Suffices, as_read, head, is_bare, is_document, nodes_of, within}
 use Rattle.read_back.specs.Reading.{raw_attrs, read_data, written_name}
 use Rattle.read_back.specs.Sound.{is_sound_attribute, is_sound_binding, is_sound_part, is_sound_tag}
 
@@ -101,6 +101,11 @@ WritesShapes =
     → nodes_fault limit depth nodes ≡ None
     → list_all is_sound_part (parts_of nodes) ≡ true
     → (shapes : List (List ℕ)) × Cuts true (written in_force nodes) shapes [] × AreJudged shapes (bodies in_force nodes)
+
+-- Where no instruction's data begins with white space, and CDATA sections are recognised, nodes are read as they are: those of parts, in
+-- which no two texts touch and none is empty.
+abbrev pub ReadsTheSame : Type 0
+ReadsTheSame = (ps : List Part) → is_bare (forest ps) ≡ true → as_read true (forest ps) ≡ forest ps
 
 -- A result that is accepted as a whole, with its first line and one element, is read without a fault, as the nodes of its parts, whether
 -- CDATA sections are recognised or not.

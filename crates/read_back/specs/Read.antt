@@ -1,5 +1,7 @@
 -- What is read of a result (XML 1.0, 2.1; Namespaces in XML 1.0, 2.1).
-use Rattle.std.specs.Prelude.{◌≤◌, ◌<◌, ◌^◌, ℕ, Bool, true, false, if◌then◌else◌, List, [], codes, length, map}
+use Rattle.std.specs.Prelude.{◌≤◌, ◌<◌, ◌^◌, ℕ, Bool, true, false, if◌then◌else◌, not, ◌&&◌, List, [], codes, length, map, slice_get}
+use Rattle.std.specs.Option.{option_map_or}
+use Rattle.stx_base.specs.Character.{is_space}
 use Rattle.stx_base.specs.declared.limits.Limits.{Limits}
 use Rattle.xml_events.specs.Tree as tree
 use Rattle.xml_events.specs.Tree.{Forest, Single}
@@ -30,6 +32,15 @@ as_read cdata (CData text next) = if cdata then CData text (as_read cdata next) 
 as_read cdata (Comment text next) = Comment text (as_read cdata next)
 as_read cdata (Instruction target text next) = Instruction target (read_data text) (as_read cdata next)
 as_read cdata (Nested tag kids next) = Nested tag (as_read cdata kids) (as_read cdata next)
+
+-- no instruction's data begins with white space
+abbrev pub is_bare : Nodes → Bool
+is_bare End = true
+is_bare (Chars text next) = is_bare next
+is_bare (CData text next) = is_bare next
+is_bare (Comment text next) = is_bare next
+is_bare (Instruction target text next) = not (option_map_or is_space (slice_get text 0) false) && is_bare next
+is_bare (Nested tag kids next) = is_bare kids && is_bare next
 
 -- nodes in an element `r`
 abbrev pub within : Nodes → Nodes

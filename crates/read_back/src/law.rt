@@ -1,5 +1,5 @@
 //! Laws of the definitions, as contracts.
-ghost use Rattle.read_back.specs.Laws.{DeclaresSound, ReadsComments, ReadsContents, ReadsEndTags, ReadsInstructions, ReadsResults, ReadsSections, ReadsStartTags, ReadsTexts, ReadsValues, ResolvesNames, WritesShapes};
+ghost use Rattle.read_back.specs.Laws.{DeclaresSound, ReadsComments, ReadsContents, ReadsEndTags, ReadsInstructions, ReadsResults, ReadsSections, ReadsStartTags, ReadsTexts, ReadsTheSame, ReadsValues, ResolvesNames, WritesShapes};
 
 use result_writer::law as writer_law;
 use xml_events::laws as event_laws;
@@ -53,12 +53,14 @@ pub fn shapes()
 
 /// What is written is read back as the result.
 pub fn results()
+    ensures same { ReadsTheSame }
     ensures whole { ReadsResults }
     ensures content { ReadsContents }
 {
     declarations();
     names();
     writer_law::nodes();
+    writer_law::nodes_of_parts();
     token_laws::spelling();
     event_laws::shapes();
     event_laws::first_fault();
