@@ -14,7 +14,7 @@ use Rattle.result_writer.specs.Nodes.{Nodes, End, Chars, CData, Comment, Instruc
 use Rattle.result_writer.specs.Target.{AreDistinct, chars_fault, comment_fault, instruction_fault, or_else, same_name, unless, with_attribute}
 use Rattle.result_writer.specs.declared.fault.ResultFault.{ResultFault}
 use Rattle.result_writer.specs.declared.fault.ResultFault.TheVariants.{BadChar, BadName, ResultDepth}
-use Rattle.read_back.specs.Sound.{is_sound_attribute, is_sound_binding, is_sound_name, is_sound_part, is_sound_tag}
+use Rattle.read_back.specs.Sound.{is_sound_attribute, is_sound_binding, is_sound_name, is_readable_part, is_sound_tag}
 use Rattle.read_back.proofs.Leaving.{IsComment, IsInstruction, comment_is, instruction_is}
 use Rattle.read_back.proofs.Tests.{both_ways, same-of, same-true, true_or_false}
 
@@ -86,29 +86,29 @@ sound_all before (a ∷ attrs) h k =
     let both = and_parts (is_sound_attribute a) (list_all is_sound_attribute attrs) k in
     sound_all (with_attribute before a.name a.value) attrs (sound_with before a h both.0) both.1
 
-attributes_sound : (attrs : List Attr) → attributes_fault attrs ≡ None → list_all is_sound_part (map attribute_part attrs) ≡ true → list_all is_sound_attribute attrs ≡ true
+attributes_sound : (attrs : List Attr) → attributes_fault attrs ≡ None → list_all is_readable_part (map attribute_part attrs) ≡ true → list_all is_sound_attribute attrs ≡ true
 attributes_sound [] h k = refl
 attributes_sound (a ∷ attrs) h k =
     let none = neither _ (attributes_fault attrs) h in
     let good = passed (is_good_attribute a.name) BadName _ none.0 in
     let chars = (passed (are_chars a.value) BadChar None good.1).0 in
-    let both = and_parts (are_chars a.name.uri) (list_all is_sound_part (map attribute_part attrs)) k in
+    let both = and_parts (are_chars a.name.uri) (list_all is_readable_part (map attribute_part attrs)) k in
     and_from (is_sound_attribute a) (list_all is_sound_attribute attrs) (and_from (is_good_attribute a.name && are_chars a.name.uri) (are_chars a.value) (and_from (is_good_attribute a.name) (are_chars a.name.uri) good.0 both.0) chars) (attributes_sound attrs none.1 both.1)
 
-all_parts : (xs ys : List Part) → list_all is_sound_part (xs ++ ys) ≡ true → (list_all is_sound_part xs ≡ true) × (list_all is_sound_part ys ≡ true)
+all_parts : (xs ys : List Part) → list_all is_readable_part (xs ++ ys) ≡ true → (list_all is_readable_part xs ≡ true) × (list_all is_readable_part ys ≡ true)
 all_parts [] ys h = (refl, h)
 all_parts (x ∷ xs) ys h =
-    let both = and_parts (is_sound_part x) (list_all is_sound_part (xs ++ ys)) h in
+    let both = and_parts (is_readable_part x) (list_all is_readable_part (xs ++ ys)) h in
     let later = all_parts xs ys both.1 in
-    (and_from (is_sound_part x) (list_all is_sound_part xs) both.0 later.0, later.1)
+    (and_from (is_readable_part x) (list_all is_readable_part xs) both.0 later.0, later.1)
 
-pub accepted : (limit depth : ℕ) (nodes : Nodes) → nodes_fault limit depth nodes ≡ None → list_all is_sound_part (parts_of nodes) ≡ true → IsAccepted limit depth nodes
+pub accepted : (limit depth : ℕ) (nodes : Nodes) → nodes_fault limit depth nodes ≡ None → list_all is_readable_part (parts_of nodes) ≡ true → IsAccepted limit depth nodes
 accepted limit depth End h k = tt
 accepted limit depth (Chars text next) h k =
     let none = neither (chars_fault text) (nodes_fault limit depth next) h in
     ((passed (are_chars text) BadChar None none.0).0, accepted limit depth next none.1 k)
 accepted limit depth (CData text next) h k =
-    let both = and_parts (is_cdata_text text) (list_all is_sound_part (parts_of next)) k in (both.0, accepted limit depth next h both.1)
+    let both = and_parts (is_cdata_text text) (list_all is_readable_part (parts_of next)) k in (both.0, accepted limit depth next h both.1)
 accepted limit depth (Comment text next) h k =
     let none = neither (comment_fault text) (nodes_fault limit depth next) h in (comment_is text none.0, accepted limit depth next none.1 k)
 accepted limit depth (Instruction target text next) h k =

@@ -12,7 +12,7 @@ use Rattle.result_writer.specs.Target.{Element, Left, attribute_fault, chars_fau
 use Rattle.result_writer.specs.declared.fault.ResultFault.{ResultFault}
 use Rattle.result_writer.specs.declared.fault.ResultFault.TheVariants.{BadChar, BadName, ResultDepth}
 use Rattle.result_writer.specs.declared.tag.HeldTag.{HeldTag}
-use Rattle.read_back.specs.Sound.{is_sound_part}
+use Rattle.read_back.specs.Sound.{is_readable_part}
 use Rattle.read_back.proofs.Accepted.{neither, passed}
 
 -- Faults other than those of ends
@@ -163,10 +163,10 @@ lists_unprefixed (p ∷ ps) = ap (part_before (unprefixed p) (attrs_of (map unpr
   one (part.Comment content) = refl
   one (part.Pi target content) = refl
 
-sound_unprefixed : (ps : List Part) → list_all is_sound_part (map unprefixed ps) ≡ list_all is_sound_part ps
+sound_unprefixed : (ps : List Part) → list_all is_readable_part (map unprefixed ps) ≡ list_all is_readable_part ps
 sound_unprefixed [] = refl
-sound_unprefixed (p ∷ ps) = ap (λ t. is_sound_part (unprefixed p) && t) (sound_unprefixed ps) ∙ ap (λ t. t && list_all is_sound_part ps) (one p) where
-  one : (p : Part) → is_sound_part (unprefixed p) ≡ is_sound_part p
+sound_unprefixed (p ∷ ps) = ap (λ t. is_readable_part (unprefixed p) && t) (sound_unprefixed ps) ∙ ap (λ t. t && list_all is_readable_part ps) (one p) where
+  one : (p : Part) → is_readable_part (unprefixed p) ≡ is_readable_part p
   one (part.Start name scope) = refl
   one (part.Attribute name value) = refl
   one (part.End name) = refl
@@ -178,11 +178,11 @@ sound_unprefixed (p ∷ ps) = ap (λ t. is_sound_part (unprefixed p) && t) (soun
 -- the nodes of accepted parts
 pub record AreOf (limit : ℕ) (ps : List Part) (nodes : Nodes) : Type 0 where
   pub fine : nodes_fault limit 0 nodes ≡ None
-  pub sound : list_all is_sound_part (parts_of nodes) ≡ true
+  pub sound : list_all is_readable_part (parts_of nodes) ≡ true
   pub text : text ps ≡ written [] nodes
   pub forest : forest ps ≡ plain nodes
 
-pub nodes_of_parts : AcceptsNodes → ReadsNodes → (limit : ℕ) (ps : List Part) → whole_fault limit ps ≡ None → list_all is_sound_part ps ≡ true → (nodes : Nodes) × AreOf limit ps nodes
+pub nodes_of_parts : AcceptsNodes → ReadsNodes → (limit : ℕ) (ps : List Part) → whole_fault limit ps ≡ None → list_all is_readable_part ps ≡ true → (nodes : Nodes) × AreOf limit ps nodes
 nodes_of_parts accepts reads limit ps h k =
     let found = accepts limit ps h in
     let nodes = found.0 in
@@ -193,7 +193,7 @@ nodes_of_parts accepts reads limit ps h k =
       nodes,
       record {
         fine = (judge limit nothing nodes [] (ap (first_open limit nothing) (append-nil (parts_of nodes)) ∙ these)).0;
-        sound = sym (sound_unprefixed (parts_of nodes)) ∙ ap (list_all is_sound_part) (sym same) ∙ sound_unprefixed ps ∙ k;
+        sound = sym (sound_unprefixed (parts_of nodes)) ∙ ap (list_all is_readable_part) (sym same) ∙ sound_unprefixed ps ∙ k;
         text = found.2;
         forest = ap inner (sym (lists_unprefixed ps) ∙ ap lists same ∙ lists_unprefixed (parts_of nodes)) ∙ reads nodes;
       },

@@ -26,7 +26,7 @@ use Rattle.result_writer.specs.declared.tag.HeldTag.{HeldTag}
 use Rattle.read_back.specs.Lexemes.{AreJudged, bodies}
 use Rattle.read_back.specs.Read.{Suffices, as_read, head, is_bare, is_document, nodes_of, within}
 use Rattle.read_back.specs.Reading.{raw_attrs, read_data, written_name}
-use Rattle.read_back.specs.Sound.{is_sound_attribute, is_sound_binding, is_sound_part, is_sound_tag}
+use Rattle.read_back.specs.Sound.{is_sound_attribute, is_sound_binding, is_readable_part, is_sound_tag}
 
 -- A text is read as it was, and as blank where white space alone is written of it.
 abbrev pub ReadsTexts : Type 0
@@ -99,7 +99,7 @@ abbrev pub WritesShapes : Type 0
 WritesShapes =
     (limit depth : ℕ) (in_force : List Binding) (nodes : Nodes)
     → nodes_fault limit depth nodes ≡ None
-    → list_all is_sound_part (parts_of nodes) ≡ true
+    → list_all is_readable_part (parts_of nodes) ≡ true
     → (shapes : List (List ℕ)) × Cuts true (written in_force nodes) shapes [] × AreJudged shapes (bodies in_force nodes)
 
 -- Where no instruction's data begins with white space, and CDATA sections are recognised, nodes are read as they are: those of parts, in
@@ -113,7 +113,7 @@ abbrev pub ReadsResults : Type 0
 ReadsResults =
     (limits : Limits) (cdata : Bool) (limit : ℕ) (ps : List Part)
     → whole_fault limit ps ≡ None
-    → list_all is_sound_part ps ≡ true
+    → list_all is_readable_part ps ≡ true
     → is_document (forest ps) ≡ true
     → let bytes = head ++ text ps in Suffices limits bytes limit
     → let tree = doc_for limits false cdata bytes true in (is_closed tree ≡ true) × (nodes_of tree ≡ as_read cdata (forest ps))
@@ -123,6 +123,6 @@ abbrev pub ReadsContents : Type 0
 ReadsContents =
     (limits : Limits) (cdata : Bool) (limit : ℕ) (ps : List Part)
     → whole_fault limit ps ≡ None
-    → list_all is_sound_part ps ≡ true
+    → list_all is_readable_part ps ≡ true
     → let bytes = codes "<r>" ++ text ps ++ codes "</r>" in Suffices limits bytes (limit + 1)
     → let tree = doc_for limits false cdata bytes true in (is_closed tree ≡ true) × (nodes_of tree ≡ within (as_read cdata (forest ps)))

@@ -29,8 +29,8 @@ is_sound_tag tag = is_sound_name tag.name && list_all is_sound_attribute tag.att
 
 -- what no fault of a part speaks of: URIs are Chars, the bindings in force where an element comes from are sound, and a CDATA section
 -- may have its text
-abbrev pub is_sound_part : Part → Bool
-is_sound_part (part.Start name scope) = are_chars name.uri && list_all is_sound_binding scope
-is_sound_part (part.Attribute name value) = are_chars name.uri
-is_sound_part (part.CData text) = is_cdata_text text
-is_sound_part p = true
+abbrev pub is_readable_part : Part → Bool
+is_readable_part (part.Start name scope) = are_chars name.uri && list_all is_sound_binding scope
+is_readable_part (part.Attribute name value) = are_chars name.uri
+is_readable_part (part.CData text) = is_cdata_text text
+is_readable_part p = true
