@@ -55,7 +55,7 @@ lacks_with (x ∷ xs) name value n h k =
       by_test true f g later = or_from (same_name x.name n) (list_any (λ b. same_name b.name n) xs) f g
       by_test false f g later = or_from (same_name x.name n) (list_any (λ b. same_name b.name n) (with_attribute xs name value)) f later
 
-distinct_with : (attrs : List Attr) (name : Name) (value : List ℕ) → AreDistinct attrs → AreDistinct (with_attribute attrs name value)
+pub distinct_with : (attrs : List Attr) (name : Name) (value : List ℕ) → AreDistinct attrs → AreDistinct (with_attribute attrs name value)
 distinct_with [] name value h = (refl, tt)
 distinct_with (x ∷ xs) name value h = by_test (same_name x.name name) refl (distinct_with xs name value h.1) where
   by_test : (v : Bool) → same_name x.name name ≡ v → AreDistinct (with_attribute xs name value)
@@ -67,7 +67,7 @@ distinct_all : (before attrs : List Attr) → AreDistinct before → AreDistinct
 distinct_all before [] h = h
 distinct_all before (a ∷ attrs) h = distinct_all (with_attribute before a.name a.value) attrs (distinct_with before a.name a.value h)
 
-sound_with : (attrs : List Attr) (a : Attr) → list_all is_sound_attribute attrs ≡ true → is_sound_attribute a ≡ true → list_all is_sound_attribute (with_attribute attrs a.name a.value) ≡ true
+pub sound_with : (attrs : List Attr) (a : Attr) → list_all is_sound_attribute attrs ≡ true → is_sound_attribute a ≡ true → list_all is_sound_attribute (with_attribute attrs a.name a.value) ≡ true
 sound_with [] a h k = and_from (is_sound_attribute a) true k refl
 sound_with (x ∷ xs) a h k =
     let both = and_parts (is_sound_attribute x) (list_all is_sound_attribute xs) h in

@@ -15,3 +15,4 @@ mod Lifting
 mod Documents
 mod Results
 mod Same
+mod Following
