@@ -14,8 +14,8 @@ use Rattle.result_writer.specs.Allowed.{are_chars, is_good_attribute, is_good_na
 use Rattle.result_writer.specs.Target.{AreDistinct, Element, Left, added, closed, fault, first_fault, in_force, left_by, next, nothing, same_name, settled, with_attribute}
 use Rattle.result_writer.specs.Table as writer
 use Rattle.result_writer.specs.declared.tag.HeldTag.{HeldTag}
-use Rattle.read_back.specs.Laws.{ResolvesNames}
-use Rattle.read_back.specs.PathLaws.{IsRead, KnowsBindings, KnowsPath, ReadsHeldTags}
+use Rattle.read_back.specs.Laws.{IsRead, ResolvesNames}
+use Rattle.read_back.specs.PathLaws.{KnowsBindings, KnowsPath, ReadsHeldTags}
 use Rattle.read_back.specs.Paths.{path_behind, path_from, path_into, path_of, path_out_of}
 use Rattle.read_back.specs.Sound.{is_sound_attribute, is_sound_binding, is_sound_name, is_readable_part, is_sound_tag}
 use Rattle.read_back.proofs.Accepted.{distinct_with, neither, passed, sound_with}

@@ -79,20 +79,26 @@ DeclaresSound =
     → is_sound_tag tag ≡ true
     → (list_all is_sound_binding (dressed in_force tag).declared ≡ true) × (list_all is_prefix (dressed in_force tag).prefixes ≡ true)
 
--- Where a path declares what is in force, a sound tag is read without a fault, as its own names, attributes and declarations.
-abbrev pub ResolvesNames : Type 0
-ResolvesNames =
-    (path : List (List Binding)) (tag : HeldTag)
-    → is_sound_tag tag ≡ true
-    → AreDistinct tag.attrs
-    → length tag.attrs < 2 ^ 64
-    → let d = dressed (declared_on path) tag in
+-- A tag that is written where these bindings are in force is read on the path without a fault, as its own names, attributes and
+-- declarations.
+abbrev pub IsRead : (path : List (List Binding)) → (in_force : List Binding) → HeldTag → Type 0
+IsRead path in_force tag =
+    let d = dressed in_force tag in
     let name = written_name tag.name.prefix tag.name.local in
     let attrs = raw_attrs d tag.attrs in
     (name_fault path name attrs ≡ None)
     × (expanded_name (resolved path name attrs).name ≡ expanded_name tag.name)
     × (map expanded_attr (resolved path name attrs).attrs ≡ map expanded_attr tag.attrs)
     × ((resolved path name attrs).decls ≡ d.declared)
+
+-- Where a path declares what is in force, a sound tag is read so.
+abbrev pub ResolvesNames : Type 0
+ResolvesNames =
+    (path : List (List Binding)) (tag : HeldTag)
+    → is_sound_tag tag ≡ true
+    → AreDistinct tag.attrs
+    → length tag.attrs < 2 ^ 64
+    → IsRead path (declared_on path) tag
 
 -- What is written of sound nodes is cut into shapes that say their lexemes: no piece runs into the next.
 abbrev pub WritesShapes : Type 0
