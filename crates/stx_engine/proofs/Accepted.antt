@@ -16,13 +16,11 @@ use Rattle.result_writer.specs.declared.fault.ResultFault.{ResultFault}
 use Rattle.result_writer.specs.declared.fault.ResultFault.TheVariants.{BadName, BadChar, BadComment, BadPi, ResultDepth, UnclosedResult, WrongEnd}
 use Rattle.result_writer.specs.declared.tag.HeldTag.{HeldTag}
 use Rattle.xml_events.specs.Tree.{Why, Leaf, Chars, CData, Comment, Pi, Element, Forest, End, Cut, Single, Nested, Stage, Waiting, Ready, Entered}
-use Rattle.stx_engine.specs.Accepted.{TakesGood, is_good, is_good_attr, is_good_element, is_good_leaf}
-use Rattle.stx_engine.specs.Meaning.{Complete, Refused, attribute_part, copied_attrs, end_parts, leaf_parts, parts_if, start_parts}
-use Rattle.stx_engine.specs.Opens.{named, names_by, names_of}
-use Rattle.stx_engine.specs.Passed.{Passed, once_ready, passed, put, run_from, then_put, unless_refused, unless_stopped, with_first}
-use Rattle.stx_engine.specs.Scope.{scope_within}
+use Rattle.stx_engine.specs.inside.Accepted.{TakesGood, is_good, is_good_attr, is_good_element, is_good_leaf}
+use Rattle.stx_engine.specs.inside.Passed.{Complete, Passed, Refused, attribute_part, copied_attrs, end_parts, leaf_parts, once_ready, parts_if, passed, put, run_from, start_parts, then_put, unless_refused, unless_stopped, with_first}
+use Rattle.stx_engine.specs.inside.Opens.{named, names_by, names_of}
+use Rattle.stx_engine.specs.inside.Scope.{scope_within}
 use Rattle.sheet_model.specs.declared.pass.Kinds.{Kinds}
-use Rattle.stx_engine.proofs.Beginnings.{run-passed}
 use Rattle.stx_engine.proofs.Copying.{settled-names}
 
 -- Open elements
@@ -229,4 +227,4 @@ pub takes-good : TakesGood
 takes-good limit p tree f good h =
     let q = passed p [] tree in
     let all = taken limit p [] tree limit nothing [] refl good (omega arith) in
-    not-refused limit nothing q.parts q.stop f all.faultless all.behind (sym (ap (λ r. r.ending) (run-passed limit p tree)) ∙ h)
+    not-refused limit nothing q.parts q.stop f all.faultless all.behind h

@@ -1,12 +1,12 @@
 -- What an engine gives from its start on.
-use Rattle.std.proofs.Common.{◌≡◌, ℕ, suc, ◌+◌, ◌-◌, Bool, true, false, not, ◌&&◌, List, [], ◌∷◌, Option, Some, None, length, take, drop, map, reverse, refl, sym, ap, ◌∙◌, arith, le-ltb}
+use Rattle.std.proofs.Common.{◌≡◌, ℕ, suc, ◌+◌, ◌-◌, Bool, true, false, not, ◌&&◌, List, [], ◌∷◌, Option, Some, None, length, take, drop, reverse, refl, sym, ap, ◌∙◌, arith, le-ltb}
 use Rattle.std.proofs.Math.Seq.{take-nil}
 use Rattle.std.specs.Prelude.{if◌then◌else◌, nat_lt}
 use Rattle.stx_base.specs.declared.limits.Limits.{Limits}
 use Rattle.stx_base.specs.declared.name.Binding.{Binding}
 use Rattle.stx_base.specs.declared.part.Part.{Part}
 use Rattle.stx_base.specs.declared.fault.XmlKind.TheVariants.{InputTooLong, LexemeTooLong}
-use Rattle.result_writer.specs.Target.{Left, Target, fault, fresh, next, nothing, settles, text, text_from}
+use Rattle.result_writer.specs.Target.{Left, Target, fault, fresh, next, nothing, settles, text_from}
 use Rattle.result_writer.specs.declared.fault.ResultFault.{ResultFault}
 use Rattle.xml_tokens.specs.Reader.{after, at_shape, bad, begun, due, fed, is_undecided_at, mark_len_of, step_or_need}
 use Rattle.xml_tokens.specs.Shape.{shape_len}
@@ -17,18 +17,15 @@ use Rattle.xml_events.specs.Before.{at_start}
 use Rattle.xml_events.specs.Document.{doc, finished, inner, lists_of, reading}
 use Rattle.xml_events.specs.Lexed.{answered, lexed_within}
 use Rattle.xml_events.specs.Source.{future}
-use Rattle.xml_events.specs.Tree.{Cut, Forest, Future, Need, Why}
-use Rattle.stx_engine.specs.Answer.{parts_put, run_of}
-use Rattle.stx_engine.specs.Engine.{IsWaiting, Means, more}
-use Rattle.stx_engine.specs.Meaning.{Put, outcome}
-use Rattle.stx_engine.specs.More.{Given, ahead, given, given_of, given_on, rest}
-use Rattle.stx_engine.specs.More as more
-use Rattle.stx_engine.specs.Passed.{passed, run_from, with_first}
-use Rattle.stx_engine.specs.Passed as gives
-use Rattle.stx_engine.specs.Opens.{names_in, opens_by}
+use Rattle.xml_events.specs.Tree.{Cut, Future, Need, Why}
+use Rattle.stx_engine.specs.inside.Engine.{IsWaiting, Means, more}
+use Rattle.stx_engine.specs.inside.More.{Given, ahead, given, given_of, given_on, rest}
+use Rattle.stx_engine.specs.inside.More as more
+use Rattle.stx_engine.specs.inside.Passed.{passed, run_from, with_first}
+use Rattle.stx_engine.specs.inside.Passed as gives
+use Rattle.stx_engine.specs.inside.Opens.{names_in, opens_by}
 use Rattle.stx_engine.specs.declared.engine.Engine.{Engine}
 use Rattle.sheet_model.specs.declared.pass.Kinds.{Kinds}
-use Rattle.stx_engine.proofs.Passing.{outcome-passed, run_of_tree}
 
 -- What is given is the text of what a run puts
 
@@ -40,14 +37,6 @@ given-run limit l (p ∷ ps) stop = by_fault (fault limit l p) (given-run limit 
       more.unless_refused o (ahead (settles l p) (given limit (next l p) ps stop)) ≡ record { bytes = text_from l r.parts; ending = r.ending }
   by_fault None h = ap (ahead (settles l p)) h
   by_fault (Some f) h = refl
-
-parts-back : (ps : List Part) → parts_put (map Put ps) ≡ ps
-parts-back [] = refl
-parts-back (p ∷ ps) = ap (λ l. p ∷ l) (parts-back ps)
-
-pub run-passed : (limit : ℕ) (pass : Kinds) (tree : Forest) → run_of (outcome limit pass tree) ≡ run_of_tree limit pass tree
-run-passed limit pass tree =
-    ap run_of (outcome-passed limit pass tree) ∙ ap (λ l. record { parts = l; ending = (run_of_tree limit pass tree).ending }) (parts-back (run_of_tree limit pass tree).parts)
 
 -- Nothing of a document was read
 
@@ -103,8 +92,7 @@ module _ (limits : Limits) (pass : Kinds) (e : Engine)
       let tree = doc limits false bytes ended in
       let p = passed pass [] tree in
       let given = started bytes ended ∙ given-run limits.elements nothing p.parts p.stop in
-      let run = run-passed limits.elements pass tree in
-      (ap (λ g. g.bytes) given ∙ sym (ap (λ q. text q.parts) run), ap (λ g. g.ending) given ∙ sym (ap (λ q. q.ending) run))
+      (ap (λ g. g.bytes) given, ap (λ g. g.ending) given)
 
   pub waits : IsWaiting e
   waits = record {

@@ -7,10 +7,9 @@ use Rattle.stx_base.specs.declared.name.Binding.{Binding}
 use Rattle.stx_base.specs.declared.name.Name.{Name}
 use Rattle.xml_events.specs.Document.{inner, outer}
 use Rattle.sheet_model.specs.declared.pass.Kinds.{Kinds}
-use Rattle.stx_engine.specs.Opens.{Open, first_name, names_behind, names_by, names_in, names_of, named, opens_by}
-use Rattle.stx_engine.specs.Meaning.{end_parts, leaf_parts, parts_if, start_parts}
-use Rattle.stx_engine.specs.Passed.{passed, put, then_put}
-use Rattle.stx_engine.specs.Scope.{scope_within}
+use Rattle.stx_engine.specs.inside.Opens.{Open, first_name, names_behind, names_by, names_in, names_of, named, opens_by}
+use Rattle.stx_engine.specs.inside.Passed.{end_parts, leaf_parts, parts_if, passed, put, start_parts, then_put}
+use Rattle.stx_engine.specs.inside.Scope.{scope_within}
 use Rattle.stx_base.specs.Course.{Begins}
 use Rattle.stx_base.specs.declared.part.Part.{Part}
 use Rattle.result_writer.specs.Target as target
@@ -24,10 +23,10 @@ use Rattle.xml_events.specs.declared.event.Event.TheVariants as event
 use Rattle.stx_base.specs.declared.node.First.{First}
 use Rattle.stx_base.specs.declared.part.Part.TheVariants as part
 use Rattle.stx_engine.proofs.Rest.{rest-end, rest-leaf, rest-start}
-use Rattle.stx_engine.specs.Copying.{Copying}
+use Rattle.stx_engine.specs.inside.Copying.{Copying}
 use Rattle.stx_engine.specs.declared.copier.Turn.{Turn}
 use Rattle.stx_engine.specs.declared.copier.Turn.TheVariants.{More, Over}
-use Rattle.stx_engine.specs.More.{Given, PutsAll, Puts, Takes, ahead, begin_ahead, close_ahead, end_ahead, ended, given, given_after, given_by, given_of, leaf_ahead, opens, rest, start_ahead, still, unless_refused}
+use Rattle.stx_engine.specs.inside.More.{Given, PutsAll, Puts, Takes, ahead, begin_ahead, close_ahead, end_ahead, ended, given, given_after, given_by, given_of, leaf_ahead, opens, rest, start_ahead, still, unless_refused}
 
 -- Parts
 

@@ -15,13 +15,10 @@ use Rattle.result_writer.specs.declared.fault.ResultFault.{ResultFault}
 use Rattle.xml_events.specs.Tree.{Why, Leaf, Chars, CData, Comment, Pi, Forest, End, Cut, Single, Nested, Stage, Waiting, Ready, Entered}
 use Rattle.run_parts.specs.Sound.{declares_names, is_sound_part}
 use Rattle.run_parts.proofs.Sound.{filter_named, named, order_named}
-use Rattle.stx_engine.specs.Accepted.{RunsNest}
-use Rattle.stx_engine.specs.Meaning.{attribute_part, copied_attrs, end_parts, leaf_parts, parts_if, start_parts}
-use Rattle.stx_engine.specs.Output.{output}
-use Rattle.stx_engine.specs.Passed.{Passed, once_ready, passed, put, run_from, then_put, unless_refused, unless_stopped, with_first}
-use Rattle.stx_engine.specs.Scope.{scope_within}
+use Rattle.stx_engine.specs.inside.Accepted.{RunsNest}
+use Rattle.stx_engine.specs.inside.Passed.{Passed, attribute_part, copied_attrs, end_parts, leaf_parts, once_ready, parts_if, passed, put, run_from, start_parts, then_put, unless_refused, unless_stopped, with_first}
+use Rattle.stx_engine.specs.inside.Scope.{scope_within}
 use Rattle.sheet_model.specs.declared.pass.Kinds.{Kinds}
-use Rattle.stx_engine.proofs.Beginnings.{run-passed}
 use Rattle.stx_engine.proofs.Parts.{parts-nest}
 
 within_named : (scope decls : List Binding) → list_all named scope ≡ true → list_all named decls ≡ true → list_all named (scope_within scope decls) ≡ true
@@ -113,6 +110,4 @@ pub runs-nest : WritesPrefixes → RunsNest
 runs-nest prefixes limit p tree front declares begins =
     let q = passed p [] tree in
     let r = run_from limit nothing q.parts q.stop in
-    let same = ap (λ x. output x.parts) (run-passed limit p tree) in
-    parts-nest prefixes limit r.parts front (put-faultless limit nothing q.parts q.stop) (put-all limit nothing q.parts q.stop (all-passed p [] tree refl declares))
-    (begins.0, begins.1 ∙ same)
+    parts-nest prefixes limit r.parts front (put-faultless limit nothing q.parts q.stop) (put-all limit nothing q.parts q.stop (all-passed p [] tree refl declares)) begins

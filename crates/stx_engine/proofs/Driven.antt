@@ -20,15 +20,17 @@ use Rattle.stx_host.proofs.CopiedSoFar.{and_nothing_more, fits_of, given_of, mai
 use Rattle.stx_host.proofs.Stretches.{between_joins, between_read, between_writes, between_fault, nothing_between, main_read-append, main_read-writes, main_reads_one, main_reads_writes}
 use Rattle.result_writer.specs.declared.fault.ResultFault.{ResultFault}
 use Rattle.run_engine.specs.Run.{head}
-use Rattle.stx_engine.specs.Answer.{code_of, outcome_of, result_of, run_on}
+use Rattle.template_machine.specs.Ending.{result_code}
+use Rattle.stx_engine.specs.inside.Run.{outcome_of, result_of, run_on}
 use Rattle.sheet_runs.specs.Counts.{CountsBy, FailsBy, SameCounts}
 use Rattle.sheet_runs.specs.Reading.{EndOnce, main_gots}
 use Rattle.sheet_runs.specs.Writing.{counted}
-use Rattle.stx_engine.specs.Driving.{Drives, EndsAs, FailedAt, IsSettledAt, RefusesSome, is_doc_read}
-use Rattle.stx_engine.specs.Engine.{Appends, IsWaiting, Means, Pumps, StoppedBy, more, more_of}
+use Rattle.stx_engine.specs.inside.Driving.{Drives, EndsAs, IsSettledAt, RefusesSome}
+use Rattle.stx_engine.specs.Running.{FailedAt, is_doc_read}
+use Rattle.stx_engine.specs.inside.Engine.{Appends, IsWaiting, Means, Pumps, StoppedBy, more, more_of}
 use Rattle.sheet_files.specs.Acts.{opens}
-use Rattle.stx_engine.specs.More.{Given, ahead}
-use Rattle.stx_engine.specs.Meaning.{Complete, Ending, Refused, Unready}
+use Rattle.stx_engine.specs.inside.More.{Given, ahead}
+use Rattle.stx_engine.specs.inside.Passed.{Complete, Ending, Refused, Unready}
 use Rattle.xml_events.specs.Tree.{Need, Bad}
 use Rattle.stx_engine.specs.declared.engine.Engine.{Engine}
 use Rattle.stx_engine.specs.declared.engine.Piece.TheVariants.{Start, End}
@@ -571,7 +573,7 @@ module _ (limits : Limits) (pass : Kinds) (start : Engine) where
         by_stopped (Some (Fuel file offset)) s = absurd s
         by_stopped (Some (Run file code offset)) s =
             wrote_all (Refused s.0) (s.4 main true) (Run file code offset)
-            (ap (λ f. Run f code offset) s.1 ∙ ap (λ x. Run start.sheet x offset) s.2 ∙ ap (λ n. Run start.sheet (code_of s.0) n) s.3)
+            (ap (λ f. Run f code offset) s.1 ∙ ap (λ x. Run start.sheet x offset) s.2 ∙ ap (λ n. Run start.sheet (result_code s.0) n) s.3)
         by_stopped (Some Memory) s = tt
         by_stopped (Some Done) s = absurd s
         by_stopped (Some Usage) s = absurd s

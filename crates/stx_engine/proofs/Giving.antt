@@ -3,7 +3,7 @@ use Rattle.std.proofs.Common.{◌≡◌, List, [], ◌∷◌, ◌++◌, length, 
 use Rattle.std.proofs.lemmas.List.{append-nil}
 use Rattle.command_words.specs.declared.param.Param as given
 use Rattle.template_machine.specs.declared.turn.Param.{Param}
-use Rattle.stx_engine.specs.Doing.{param_of}
+use Rattle.stx_engine.specs.Answer.{param_of}
 
 pub one-more : (before after : List Param) (g : given.Param) (left all rest : List given.Param) (p : Param) → p ≡ param_of g → left ≡ g ∷ rest → after ≡ before ++ p ∷ [] → before ++ map param_of left ≡ map param_of all
     → after ++ map param_of rest ≡ map param_of all

@@ -1,17 +1,6 @@
 -- What a run gives of a document's first bytes stays so.
-use Rattle.std.proofs.Common.{◌≡◌, ◌≢◌, ◌⊎◌, ℕ, true, false, List, [], ◌∷◌, ◌++◌, Option, Some, None, IfSome, Result, Ok, Err, inl, inr, refl, sym, ap, subst, ◌∙◌, append_assoc, append-nil}
-use Rattle.std.specs.Option.{option_and_then}
-use Rattle.std.proofs.lemmas.Option.{none-some, same_Some}
+use Rattle.std.proofs.Common.{◌≡◌, ◌≢◌, ◌⊎◌, ℕ, false, List, [], ◌∷◌, ◌++◌, Option, Some, None, inl, inr, refl, sym, ap, subst, ◌∙◌, append_assoc, append-nil}
 use Rattle.stx_base.specs.Course.{Begins}
-use Rattle.stx_base.specs.declared.limits.Limits.{Limits}
-use Rattle.command_words.specs.Words.{command_of}
-use Rattle.command_words.specs.declared.command.Command.{Command}
-use Rattle.command_words.specs.declared.command.Mode.{Mode}
-use Rattle.command_words.specs.declared.command.Mode.TheVariants.{Run as Plain, Check, Sample}
-use Rattle.stx_base.specs.declared.fault.SheetFault.{SheetFault}
-use Rattle.sheet_loader.specs.Values.{Reads}
-use Rattle.sheet_model.specs.declared.sheet.Sheet.{Sheet}
-use Rattle.stx_host.specs.declared.act.Doc.{Doc}
 use Rattle.stx_base.specs.declared.name.Binding.{Binding}
 use Rattle.stx_base.specs.declared.part.Part.{Part}
 use Rattle.result_writer.specs.Target.{Left, fault, left_by, next, nothing, settles, text, text_from}
@@ -20,15 +9,11 @@ use Rattle.xml_events.specs.Document.{doc, stage_by}
 use Rattle.xml_events.specs.Growing.{DocumentsGrow, Grows}
 use Rattle.xml_events.specs.Tree.{Why, Need, Bad, Forest, End, Cut, Single, Nested}
 use Rattle.run_engine.specs.Run.{head}
-use Rattle.stx_engine.specs.Answer.{Plan, accepted, loaded, mode_answer, plan_by, plan_of, ran, run_of, run_on, settled, sheet_answer, words_answer}
-use Rattle.stx_engine.specs.Growing.{AnswerStays, BytesStay, OverStays, RunStays, SettledStays}
-use Rattle.stx_engine.specs.Meaning.{Unready, end_parts, leaf_parts, outcome, start_parts}
-use Rattle.stx_engine.specs.Output.{output}
-use Rattle.stx_engine.specs.Passed.{Passed, Run, once_ready, passed, put, run_from, stopped, then_put, unless_refused, unless_stopped, with_first}
-use Rattle.stx_engine.specs.Scope.{scope_within}
-use Rattle.stx_engine.specs.Plain.{pass_of}
+use Rattle.stx_engine.specs.inside.Run.{output}
+use Rattle.stx_engine.specs.inside.Growing.{BytesStay, RunStays, TreeIsOver, TreeStays}
+use Rattle.stx_engine.specs.inside.Passed.{Passed, Run, Unready, end_parts, leaf_parts, once_ready, passed, put, run_from, start_parts, stopped, then_put, unless_refused, unless_stopped, with_first}
+use Rattle.stx_engine.specs.inside.Scope.{scope_within}
 use Rattle.sheet_model.specs.declared.pass.Kinds.{Kinds}
-use Rattle.stx_engine.proofs.Beginnings.{run-passed}
 
 -- q is p, or p is stopped for want of more, and its parts are the first of q
 abbrev Longer : (p q : Passed) → Type 0
@@ -132,53 +117,22 @@ output-begins ps qs h = (
   append_assoc head (text ps) (text_from (left_by nothing ps) h.0) ∙ ap (λ t. head ++ t) (sym (text-append nothing ps h.0) ∙ ap text h.1),
 )
 
-pub settled-stays : SettledStays
-settled-stays limit p old new h =
+pub tree-stays : TreeStays
+tree-stays limit p old new h =
     let r = longer-begins limit (passed p [] old) (passed p [] new) (longer p [] old new h) in
-    let o = output-begins (run_of_passed limit (passed p [] old)).parts (run_of_passed limit (passed p [] new)).parts r in
-    subst (λ (x : Run). Begins (output x.parts) (output (run_of (outcome limit p new)).parts)) (sym (run-passed limit p old))
-    (subst (λ (x : Run). Begins (output (run_of_passed limit (passed p [] old)).parts) (output x.parts)) (sym (run-passed limit p new)) o)
+    output-begins (run_of_passed limit (passed p [] old)).parts (run_of_passed limit (passed p [] new)).parts r
 
-pub over-stays : OverStays
-over-stays limit p old new h over =
-    run-passed limit p new
-    ∙ longer-over limit (passed p [] old) (passed p [] new) (longer p [] old new h) (λ e. over (ap (λ r. r.ending) (run-passed limit p old) ∙ e))
-    ∙ sym (run-passed limit p old)
+pub tree-is-over : TreeIsOver
+tree-is-over limit p old new h over =
+    longer-over limit (passed p [] old) (passed p [] new) (longer p [] old new h) over
 
 -- Documents
 
 module _ (grow : DocumentsGrow) where
   pub bytes-stay : BytesStay
   bytes-stay limits p bytes more ended =
-      settled-stays limits.elements p (doc limits false bytes false) (doc limits false (bytes ++ more) ended) (grow limits false false bytes more ended)
+      tree-stays limits.elements p (doc limits false bytes false) (doc limits false (bytes ++ more) ended) (grow limits false false bytes more ended)
 
   pub run-stays : RunStays
   run-stays limits p bytes more ended =
-      over-stays limits.elements p (doc limits false bytes false) (doc limits false (bytes ++ more) ended) (grow limits false false bytes more ended)
-
-  by_mode : (m : Mode) (c : Command) (opened : List (List ℕ)) (o : Option Kinds) (plan : Plan) (bytes more : List ℕ) → plan_by m c.limits o ≡ Some plan
-      → IfSome (mode_answer m c.limits c.sheet opened o (bytes ++ more)) (λ a. Begins (settled plan.limits plan.pass bytes) a.out)
-  by_mode Plain c opened None plan bytes more e = absurd (none-some plan e)
-  by_mode Plain c opened (Some pass) plan bytes more e =
-      let given : Plan = record { limits = c.limits; pass = pass } in
-      subst (λ (q : Plan). Begins (settled q.limits q.pass bytes) (ran c.sheet opened (run_on c.limits pass (bytes ++ more) true)).out) (same_Some given plan e) (bytes-stay c.limits pass bytes more true)
-  by_mode Check c opened o plan bytes more e = absurd (none-some plan e)
-  by_mode (Sample records) c opened o plan bytes more e = absurd (none-some plan e)
-
-  none_planned : (m : Mode) (limits : Limits) (plan : Plan) → plan_by m limits None ≡ Some plan → ⊥
-  none_planned Plain limits plan e = none-some plan e
-  none_planned Check limits plan e = none-some plan e
-  none_planned (Sample records) limits plan e = none-some plan e
-
-  by_sheet : (c : Command) (opened : List (List ℕ)) (r : Result Sheet SheetFault) (plan : Plan) (bytes more : List ℕ) → plan_by c.mode c.limits (option_and_then pass_of (accepted r)) ≡ Some plan
-      → IfSome (sheet_answer c opened r (bytes ++ more)) (λ a. Begins (settled plan.limits plan.pass bytes) a.out)
-  by_sheet c opened (Err fault) plan bytes more e = absurd (none_planned c.mode c.limits plan e)
-  by_sheet c opened (Ok sheet) plan bytes more e = by_mode c.mode c opened (pass_of sheet) plan bytes more e
-
-  by_words : (reads : Reads) (docs : List Doc) (named : Option Command) (plan : Plan) (bytes more : List ℕ) → option_and_then (plan_of reads docs) named ≡ Some plan
-      → IfSome (words_answer reads named docs (bytes ++ more)) (λ a. Begins (settled plan.limits plan.pass bytes) a.out)
-  by_words reads docs None plan bytes more e = absurd (none-some plan e)
-  by_words reads docs (Some c) plan bytes more e = let l = loaded reads docs c in by_sheet c l.opened l.result plan bytes more e
-
-  pub answer-stays : AnswerStays
-  answer-stays reads words docs plan bytes more e = by_words reads docs (command_of words) plan bytes more e
+      tree-is-over limits.elements p (doc limits false bytes false) (doc limits false (bytes ++ more) ended) (grow limits false false bytes more ended)

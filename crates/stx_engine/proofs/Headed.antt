@@ -1,5 +1,5 @@
 -- What a whole call did, by what its run and its last line did.
-use Rattle.std.proofs.Common.{◌≡◌, ◌≢◌, ◌⊎◌, inl, inr, ℕ, ◌<◌, ◌==◌, if◌then◌else◌, Bool, true, false, List, [], ◌∷◌, ◌++◌, length, take, Option, Some, None, IsSome, arith, refl, sym, ap, ◌∙◌, subst}
+use Rattle.std.proofs.Common.{◌≡◌, ◌≢◌, ◌⊎◌, inl, inr, ℕ, ◌<◌, ◌==◌, if◌then◌else◌, Bool, true, false, List, [], ◌∷◌, ◌++◌, length, Option, Some, None, IsSome, arith, refl, sym, ap, ◌∙◌, subst}
 use Rattle.std.specs.Option.{option_and_then}
 use Rattle.std.proofs.lemmas.Bool.{eqb-true, false≢true}
 use Rattle.std.proofs.lemmas.List.{append-nil}
@@ -16,14 +16,10 @@ use Rattle.sheet_loader.specs.Values.{Reads}
 use Rattle.sheet_runs.specs.Counts.{CountsBy, SameCounts}
 use Rattle.sheet_runs.specs.Reading.{EndOnce, main_gots}
 use Rattle.run_engine.specs.Run.{head}
-use Rattle.stx_engine.specs.Answer.{Answer, answer, loaded, sheet_named}
-use Rattle.stx_engine.specs.Driving.{UnlessFailed}
+use Rattle.stx_engine.specs.Answer.{Answer, loaded, note_of, runs_none, sheet_named}
+use Rattle.stx_engine.specs.Running.{Asks, CountsIn, FailedIn, FailedOn, FailedOnSheet, HasHead, IfDocFailed, IsAnswered, LoadsFirst, OpensNames, RefusesWords, Reports, Runs, RunsAnswered, RunsMain, RunsTold, TakesParts, UnlessFailed, unwritten_status}
 use Rattle.stx_engine.specs.Headline.{AsksSettled, BeginsWell, EndsInLine, GivesAnswer, IsFailure, IsPlainStatus, IsStatus, NotesAfterFailure, NotesFailure, NotesItsFailure, OpensFirst, ReadsSheetFirst, ReadsToEnd, RefusesUnnamed, RoseFor, SomeGreater, SomeRose, Tells, TellsMain}
 use Rattle.fault_report.specs.Line.{line_of, status_of}
-use Rattle.sheet_runs.specs.Meant.{IsSettledOn}
-use Rattle.stx_engine.specs.Kept.{Asked_for, Keeps, RunsOrdinary, given_of, whole}
-use Rattle.stx_engine.specs.Nesting.{EndsHaveStarts}
-use Rattle.stx_engine.specs.Running.{Asks, CountsIn, FailedIn, FailedOn, FailedOnSheet, HasHead, IfDocFailed, IsAnswered, LoadsFirst, OpensNames, RefusesWords, Reports, Runs, RunsMain, RunsTold, TakesParts, unwritten_status}
 use Rattle.fault_report.specs.declared.outcome.HostFault.{HostFault}
 use Rattle.fault_report.specs.declared.outcome.HostFault.TheVariants as fault
 use Rattle.fault_report.specs.declared.outcome.Outcome.{Outcome}
@@ -33,7 +29,7 @@ use Rattle.stx_engine.specs.declared.run_end.RunEnd.{RunEnd}
 use Rattle.stx_engine.specs.declared.run_end.RunEnd.TheVariants.{Told, Sampled, Unnoted}
 use Rattle.stx_engine.proofs.Driven.{no_doc_read-writes, once-writes}
 use Rattle.stx_engine.proofs.LastLine.{Reported, failed-on-sheet-then, failed-on-then, failed-then, loads-so, loads-then, map_some, note-kept, opens-then, reported, rose_for}
-use Rattle.stx_engine.proofs.Prefixes.{begins_all}
+use Rattle.stx_engine.proofs.Prefixes.{begins_after, begins_all, begins_more}
 use Rattle.stx_engine.proofs.Ran.{if-doc}
 
 some_rose : (f : HostFault) (old new : Outside) → RoseFor f old new → SomeRose old new
@@ -101,10 +97,10 @@ unwritten_five n other = by_test (n == 7) refl where
 own_unwritten : (e : RunEnd) → EndsItself e → unwritten_status (status_in e) ≡ 5
 own_unwritten e own = unwritten_five (status_in e) (λ is. own_status e own (inr is))
 
--- first bytes of nothing are first bytes of anything
-begins_none : (xs ys : List ℕ) → Begins xs [] → Begins xs ys
-begins_none [] ys b = (ys, refl)
-begins_none (x ∷ xs) ys b = let e : (x ∷ xs) ++ b.0 ≡ [] = b.1 in absurd cc
+-- nothing begins nothing
+begins_nothing_is : (xs : List ℕ) → Begins xs [] → xs ≡ []
+begins_nothing_is [] b = refl
+begins_nothing_is (x ∷ xs) b = let e : (x ∷ xs) ++ b.0 ≡ [] = b.1 in absurd cc
 
 -- statuses are below 8
 below_eight : (o : Outcome) → status_of o < 8
@@ -453,23 +449,26 @@ module _ (words : List (List ℕ)) (old mid new : Outside) (end : RunEnd) (r : R
     abbrev on : TellsMain old main
     on = record { main_document = tells.main_document; log = tells.log; out = tells.out; note = tells.note }
 
-    told : RunsTold words docs main r.acts r.out r.note end
-    told = r.told docs main (told_of old.open_ids old.documents docs tells.open_ids tells.documents) tells.main_document
+    told : RunsTold words docs r.acts end
+    told = r.told docs (told_of old.open_ids old.documents docs tells.open_ids tells.documents)
 
     -- what documents were opened, by the status
     opens_by_status : (names : List (List ℕ)) (acts : List Act) → OpensNames docs names (outcome_in end) acts → OpensFirst docs names result acts
     opens_by_status names opening n = (n.0, n.1, n.2, λ five seven. not_failed (n.0 ≡ names) n.3 five seven)
 
-    pub reads_sheet_first : (reads : Reads) → ReadsSheetFirst old new reads words docs main result
+    pub reads_sheet_first : (reads : Reads) → ReadsSheetFirst old new reads words docs result
     reads_sheet_first reads =
-        let said : Option Answer = answer reads words docs main in
-        map_some (command_of words) (λ c. LoadsFirst reads docs c.sheet (OpensNames docs (loaded reads docs c).opened (outcome_in end)) said r.acts)
-        (λ c. LoadsFirst reads docs c.sheet (OpensFirst docs (loaded reads docs c).opened result) said (since old.log new.log))
+        let none_run : Bool = runs_none reads words docs in
+        map_some (command_of words) (λ c. LoadsFirst reads docs c.sheet (OpensNames docs (loaded reads docs c).opened (outcome_in end)) none_run r.acts)
+        (λ c. LoadsFirst reads docs c.sheet (OpensFirst docs (loaded reads docs c).opened result) none_run (since old.log new.log))
         (λ c h.
         let names = (loaded reads docs c).opened in
-        subst (LoadsFirst reads docs c.sheet (OpensFirst docs names result) said) (sym (log_is main on))
-        (loads-then reads docs c.sheet (OpensFirst docs names result) said r.acts (writes Note line.lens) (no_doc_read-writes Note line.lens)
-        (loads-so reads docs c.sheet (OpensNames docs names (outcome_in end)) (OpensFirst docs names result) said r.acts (opens_by_status names) h))) (told.sheet reads)
+        subst (LoadsFirst reads docs c.sheet (OpensFirst docs names result) none_run) (sym (log_is main on))
+        (loads-then reads docs c.sheet (OpensFirst docs names result) none_run r.acts (writes Note line.lens) (no_doc_read-writes Note line.lens)
+        (loads-so reads docs c.sheet (OpensNames docs names (outcome_in end)) (OpensFirst docs names result) none_run r.acts (opens_by_status names) h))) (told.sheet reads)
+
+    pub is_plain : (reads : Reads) → runs_none reads words docs ≡ true → IsPlainStatus result
+    is_plain reads none_run = of_status IsPlainStatus (plain_in end (told.takes reads none_run)) (plain_unwritten (status_in end))
 
     pub ends_in_line : (reads : Reads) → EndsInLine old new reads words docs result
     ends_in_line reads none memory = elim line.end [
@@ -513,16 +512,49 @@ module _ (words : List (List ℕ)) (old mid new : Outside) (end : RunEnd) (r : R
       | inr cut ↦ absurd (kept (cut_rose cut.2 cut.3))
     ]
 
-    module _ (reads : Reads) (a : Answer) (is : answer reads words docs main ≡ Some a) where
+    -- What is so where the answer is said
+    module _ (reads : Reads) (a : Answer) (o : RunsAnswered reads words docs main old mid end a) where
+      same-acts : r.acts ≡ o.acts
+      same-acts = sym (since_told old.log mid.log r.acts tells.log r.between.log) ∙ since_told old.log mid.log o.acts tells.log o.between.log
+
+      same-out : r.out ≡ o.out
+      same-out = sym (since_told old.out mid.out r.out tells.out r.between.out_lane) ∙ since_told old.out mid.out o.out tells.out o.between.out_lane
+
+      same-note : r.note ≡ o.note
+      same-note = sym (since_told old.note mid.note r.note tells.note r.between.note_lane) ∙ since_told old.note mid.note o.note tells.note o.between.note_lane
+
+      abbrev AsksHere : Taken → Type 0
+      AsksHere = Asks reads words docs main
+
+      asked-so : AtMainReads r.acts r.out r.note AsksHere
+      asked-so =
+          subst (λ acts. AtMainReads acts r.out r.note AsksHere) (sym same-acts)
+          (subst (λ out. AtMainReads o.acts out r.note AsksHere) (sym same-out) (subst (λ note. AtMainReads o.acts o.out note AsksHere) (sym same-note) o.asks))
+
+      opened-so : OpensNames docs a.opened (outcome_in end) r.acts
+      opened-so = subst (OpensNames docs a.opened (outcome_in end)) (sym same-acts) o.opened
+
+      failed-so : IfDocFailed (outcome_in end) (FailedOnSheet reads words docs r.acts)
+      failed-so = subst (λ acts. IfDocFailed (outcome_in end) (FailedOnSheet reads words docs acts)) (sym same-acts) o.failed
+
+      messages-so : Begins r.note a.messages
+      messages-so = subst (λ note. Begins note a.messages) (sym same-note) o.begins.1
+
+      -- an end of its own is the answer's
+      own-note : EndsItself end → r.note ++ line_in end ≡ note_of a
+      own-note own = let same = answered end own (IsAnswered o.out o.note end a) o.ends in ap (λ l. l ++ line_in end) (same-note ∙ same.messages) ∙ ap (λ e. a.messages ++ line_in e) same.is
+
       pub gives_answer : GivesAnswer old new result a
       gives_answer none memory = elim line.end [
-        | inl whole ↦ elim is_ended [
+        | inl all ↦ elim is_ended [
           | inl f ↦ absurd (memory (failure_status f.0 f.1.0 f.1.1 ∙ failure_rose f.0 f.1.1 none))
           | inr other ↦ elim other [
             | inl own ↦
-                let t = told.answered reads a is in
-                let same = answered end own (IsAnswered r.out end a) t.ends in
-                (out_is main on ∙ same.output, note_is main on ∙ ap (λ l. l ++ line.note) t.quiet ∙ whole.0 ∙ same.line, whole.1 ∙ same.code)
+                let same = answered end own (IsAnswered o.out o.note end a) o.ends in (
+                  out_is main on ∙ same-out ∙ same.output,
+                  note_is main on ∙ ap (λ l. r.note ++ l) all.0 ∙ own-note own,
+                  all.1 ∙ ap status_in same.is,
+                )
             | inr u ↦ absurd (none (some_noted old new (unnoted_rose u.0 u.1)))
           ]
         ]
@@ -530,18 +562,15 @@ module _ (words : List (List ℕ)) (old mid new : Outside) (end : RunEnd) (r : R
       ]
 
       pub asks_settled : AsksSettled old new reads words docs main
-      asks_settled = reads_later main on (Asks reads words docs main) (told.answered reads a is).asks
+      asks_settled = reads_later main on AsksHere asked-so
 
       pub begins_output : Begins (since old.out new.out) a.out
-      begins_output = subst (λ out. Begins out a.out) (sym (out_is main on)) (told.answered reads a is).prefix
+      begins_output = subst (λ out. Begins out a.out) (sym (out_is main on ∙ same-out)) o.begins.0
 
       pub opens_first : OpensFirst docs a.opened result (since old.log new.log)
       opens_first =
-          let t = (told.answered reads a is).opened in
-          subst (OpensFirst docs a.opened result) (sym (log_is main on)) (opens_by_status a.opened acts (t.0, t.1, opens-then r.acts line.lens ∙ t.2, t.3))
-
-      pub is_plain : IsPlainStatus result
-      is_plain = of_status IsPlainStatus (plain_in end (told.answered reads a is).takes) (plain_unwritten (status_in end))
+          subst (OpensFirst docs a.opened result) (sym (log_is main on))
+          (opens_by_status a.opened acts (opened-so.0, opened-so.1, opens-then r.acts line.lens ∙ opened-so.2, opened-so.3))
 
       begins_line : Begins line.note (line_in end)
       begins_line = elim line.end [ inl whole ↦ subst (λ note. Begins note (line_in end)) (sym whole.0) (begins_all (line_in end)) | inr cut ↦ cut.0 ]
@@ -554,100 +583,35 @@ module _ (words : List (List ℕ)) (old mid new : Outside) (end : RunEnd) (r : R
       ]
 
       -- it failed where the sheet was read
-      failed_so : (o : Outcome) → end ≡ Told o → Fails o → let log = since old.log new.log in IsFailure (FailedOnSheet reads words docs log) old new log (since old.out new.out) o
-      failed_so o ended failure =
-          failure_is (FailedOnSheet reads words docs) o
-          (there (FailedOnSheet reads words docs r.acts) (FailedOnSheet reads words docs acts) (failed-on-sheet-then reads words docs r.acts line.lens) (told.answered reads a is).failed o ended failure)
+      abbrev Is : Outcome → Type 0
+      Is p = let log = since old.log new.log in IsFailure (FailedOnSheet reads words docs log) old new log (since old.out new.out) p
 
-      notes : (result ≡ 5) ⊎ (result ≡ 7)
-          → let log = since old.log new.log in NotesFailure (IsFailure (FailedOnSheet reads words docs log) old new log (since old.out new.out)) old new line.note result a
+      fails-so : (p : Outcome) → end ≡ Told p → Fails p → Is p
+      fails-so p ended failure =
+          failure_is (FailedOnSheet reads words docs) p
+          (there (FailedOnSheet reads words docs r.acts) (FailedOnSheet reads words docs acts) (failed-on-sheet-then reads words docs r.acts line.lens) failed-so p ended failure)
+
+      -- nothing follows where `Note` failed before the line
+      none-behind : end ≡ Unnoted → Begins note (note_of a)
+      none-behind is =
+          let none : line.note ≡ [] = begins_nothing_is line.note (subst (λ e. Begins line.note (line_in e)) is begins_line) in
+          subst (λ l. Begins (r.note ++ l) (note_of a)) (sym none) (subst (λ n. Begins n (note_of a)) (sym (append-nil r.note)) (begins_more r.note a.messages (line_in a.end) messages-so))
+
+      notes : (result ≡ 5) ⊎ (result ≡ 7) → NotesFailure Is old new note result a
       notes some = record {
         whole = λ kept. elim line.end [
-          | inl whole ↦ let f = whole_failure whole some kept in (f.0, failed_so f.0 f.1.0 f.1.1, f.1.2, f.1.3)
+          | inl all ↦ let f = whole_failure all some kept in (r.note, messages-so, f.0, fails-so f.0 f.1.0 f.1.1, f.1.2, ap (λ l. r.note ++ l) f.1.3)
           | inr cut ↦ absurd (kept (cut_rose cut.2 cut.3))
         ];
         cut = λ rose. elim is_ended [
-          | inl f ↦ inr (f.0, failed_so f.0 f.1.0 f.1.1, sym (failure_status f.0 f.1.0 f.1.1), subst (λ e. Begins line.note (line_in e)) f.1.0 begins_line)
+          | inl f ↦
+              inr (r.note, messages-so, f.0, fails-so f.0 f.1.0 f.1.1, sym (failure_status f.0 f.1.0 f.1.1), line.note, subst (λ e. Begins line.note (line_in e)) f.1.0 begins_line, refl)
           | inr other ↦ elim other [
-            | inl own ↦ inl (own_five own some, subst (Begins line.note) (answered end own (IsAnswered r.out end a) (told.answered reads a is).ends).line begins_line)
-            | inr u ↦ inl (unnoted_status u.0, begins_none line.note a.note (subst (λ e. Begins line.note (line_in e)) u.0 begins_line))
+            | inl own ↦ inl (own_five own some, subst (Begins note) (own-note own) (begins_after r.note line.note (line_in end) begins_line))
+            | inr u ↦ inl (unnoted_status u.0, none-behind u.0)
           ]
         ];
       }
 
       pub notes_failure : NotesAfterFailure old new reads words docs result a
-      notes_failure some =
-          let log : List Act = since old.log new.log in
-          subst (λ note. NotesFailure (IsFailure (FailedOnSheet reads words docs log) old new log (since old.out new.out)) old new note result a)
-          (sym (note_is main on ∙ ap (λ l. l ++ line.note) (told.answered reads a is).quiet)) (notes some)
-
-    -- A run of a sheet that takes the nodes of the main document alone
-    module _ (reads : Reads) (k : Asked_for) (o : RunsOrdinary reads words docs main k old mid end) where
-      same-acts : r.acts ≡ o.acts
-      same-acts = sym (since_told old.log mid.log r.acts tells.log r.between.log) ∙ since_told old.log mid.log o.acts tells.log o.between.log
-
-      same-out : r.out ≡ o.out
-      same-out = sym (since_told old.out mid.out r.out tells.out r.between.out_lane) ∙ since_told old.out mid.out o.out tells.out o.between.out_lane
-
-      same-note : r.note ≡ o.note
-      same-note = sym (since_told old.note mid.note r.note tells.note r.between.note_lane) ∙ since_told old.note mid.note o.note tells.note o.between.note_lane
-
-      abbrev Settles : Taken → Type 0
-      Settles taken = IsSettledOn (given_of k) (take taken.main_read main) taken
-
-      asked-so : AtMainReads r.acts r.out r.note (λ taken. IsSettledOn (given_of k) (take taken.main_read main) taken)
-      asked-so =
-          subst (λ acts. AtMainReads acts r.out r.note Settles) (sym same-acts)
-          (subst (λ out. AtMainReads o.acts out r.note Settles) (sym same-out) (subst (λ note. AtMainReads o.acts o.out note Settles) (sym same-note) o.asks))
-
-      opened-so : OpensNames docs (loaded reads docs k.command).opened (outcome_in end) r.acts
-      opened-so = subst (OpensNames docs (loaded reads docs k.command).opened (outcome_in end)) (sym same-acts) o.opened
-
-      failed-so : IfDocFailed (outcome_in end) (FailedOnSheet reads words docs r.acts)
-      failed-so = subst (λ acts. IfDocFailed (outcome_in end) (FailedOnSheet reads words docs acts)) (sym same-acts) o.failed
-
-      gives-whole :
-          (SomeRose old new → ⊥) → result ≢ 7
-          → (since old.out new.out ≡ (whole k main).out) × (since old.note new.note ≡ (whole k main).notes ++ line_in (whole k main).end) × (result ≡ status_in (whole k main).end)
-      gives-whole none memory = elim line.end [
-        | inl all ↦ elim is_ended [
-          | inl f ↦ absurd (memory (failure_status f.0 f.1.0 f.1.1 ∙ failure_rose f.0 f.1.1 none))
-          | inr other ↦ elim other [
-            | inl own ↦
-                let same = answered end own ((o.out ≡ (whole k main).out) × ((o.note ≡ (whole k main).notes) × (end ≡ (whole k main).end))) o.ends in (
-                  out_is main on ∙ same-out ∙ same.0,
-                  note_is main on ∙ ap (λ l. r.note ++ l) all.0 ∙ ap (λ l. l ++ line_in end) (same-note ∙ same.1.0) ∙ ap (λ e. (whole k main).notes ++ line_in e) same.1.1,
-                  all.1 ∙ ap status_in same.1.1,
-                )
-            | inr u ↦ absurd (none (some_noted old new (unnoted_rose u.0 u.1)))
-          ]
-        ]
-        | inr cut ↦ absurd (none (some_noted old new (cut_rose cut.2 cut.3)))
-      ]
-
-      begins-whole : Begins (since old.out new.out) (whole k main).out
-      begins-whole = subst (λ out. Begins out (whole k main).out) (sym (out_is main on ∙ same-out)) o.begins.0
-
-      pub keeps : ((front : List ℕ) → Begins front (whole k main).out → EndsHaveStarts front) → Keeps old new reads words docs main result k
-      keeps nests = record {
-        gives = gives-whole;
-        asks = reads_later main on Settles asked-so;
-        begins = begins-whole;
-        nested = nests (since old.out new.out) begins-whole;
-        opens =
-            subst (OpensFirst docs (loaded reads docs k.command).opened result) (sym (log_is main on))
-            (opens_by_status (loaded reads docs k.command).opened acts (opened-so.0, opened-so.1, opens-then r.acts line.lens ∙ opened-so.2, opened-so.3));
-        fails = λ some kept. elim line.end [
-          | inl all ↦
-              let f = whole_failure all some kept in (
-                r.note,
-                subst (λ note. Begins note (whole k main).notes) (sym same-note) o.begins.1,
-                f.0,
-                failure_is (FailedOnSheet reads words docs) f.0
-                    (there (FailedOnSheet reads words docs r.acts) (FailedOnSheet reads words docs acts) (failed-on-sheet-then reads words docs r.acts line.lens) failed-so f.0 f.1.0 f.1.1),
-                f.1.2,
-                note_is main on ∙ ap (λ l. r.note ++ l) f.1.3,
-              )
-          | inr cut ↦ absurd (kept (cut_rose cut.2 cut.3))
-        ];
-      }
+      notes_failure some = subst (λ n. NotesFailure Is old new n result a) (sym (note_is main on)) (notes some)

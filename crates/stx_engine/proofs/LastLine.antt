@@ -1,5 +1,5 @@
 -- What the last line does behind a run.
-use Rattle.std.proofs.Common.{◌≡◌, ◌⊎◌, inl, inr, ℕ, ◌+◌, ◌<◌, ◌==◌, ◌||◌, if◌then◌else◌, false, List, [], ◌∷◌, ◌++◌, length, take, drop, sum, Option, Some, None, IfSome, arith, refl, sym, ap, ◌∙◌, subst, append_assoc, length-take}
+use Rattle.std.proofs.Common.{◌≡◌, ◌⊎◌, inl, inr, ℕ, ◌+◌, ◌<◌, ◌==◌, ◌||◌, if◌then◌else◌, Bool, false, List, [], ◌∷◌, ◌++◌, length, take, drop, sum, Option, Some, None, IfSome, arith, refl, sym, ap, ◌∙◌, subst, append_assoc, length-take}
 use Rattle.std.specs.List.{list_any}
 use Rattle.std.proofs.lemmas.List.{append-nil, take-append-drop}
 use Rattle.std.proofs.lemmas.List.Folds.{list_any-append}
@@ -16,10 +16,9 @@ use Rattle.sheet_files.specs.Acts.{given_behind, opens, read_behind}
 use Rattle.sheet_files.specs.Loading.{FailsInOrder}
 use Rattle.sheet_loader.specs.Values.{Reads}
 use Rattle.sheet_runs.specs.Counts.{CountsBy}
-use Rattle.stx_engine.specs.Answer.{Answer, answer, loaded}
-use Rattle.stx_engine.specs.Driving.{is_doc_read}
+use Rattle.stx_engine.specs.Answer.{loaded, runs_none}
+use Rattle.stx_engine.specs.Running.{CountsIn, FailedIn, FailedOn, FailedOnSheet, LoadsFirst, OpensNames, Reports, Runs, is_doc_read, unwritten_status}
 use Rattle.stx_engine.specs.Headline.{RoseFor}
-use Rattle.stx_engine.specs.Running.{CountsIn, FailedIn, FailedOn, FailedOnSheet, LoadsFirst, OpensNames, Reports, Runs, unwritten_status}
 use Rattle.fault_report.specs.declared.outcome.HostFault.{HostFault}
 use Rattle.fault_report.specs.declared.outcome.HostFault.TheVariants as fault
 use Rattle.fault_report.specs.declared.outcome.Outcome.{Outcome}
@@ -59,8 +58,8 @@ note-kept (Sampled s) old new by some = by.note
 note-kept Unnoted old new by some = absurd (omega (arith, some))
 
 -- what documents were opened so were opened so too
-pub loads-so : (reads : Reads) (docs : List Doc) (name : List ℕ) (P Q : List Act → Type 0) (said : Option Answer) (acts : List Act) → ((acts : List Act) → P acts → Q acts) → LoadsFirst reads docs name P said acts → LoadsFirst reads docs name Q said acts
-loads-so reads docs name P Q said acts so h = record {
+pub loads-so : (reads : Reads) (docs : List Doc) (name : List ℕ) (P Q : List Act → Type 0) (none_run : Bool) (acts : List Act) → ((acts : List Act) → P acts → Q acts) → LoadsFirst reads docs name P none_run acts → LoadsFirst reads docs name Q none_run acts
+loads-so reads docs name P Q none_run acts so h = record {
   loading = h.loading;
   running = h.running;
   in_turn = h.in_turn;
@@ -73,8 +72,8 @@ loads-so reads docs name P Q said acts so h = record {
 }
 
 -- more acts that read nothing may follow
-pub loads-then : (reads : Reads) (docs : List Doc) (name : List ℕ) (P : List Act → Type 0) (said : Option Answer) (acts more : List Act) → list_any is_doc_read more ≡ false → LoadsFirst reads docs name P said acts → LoadsFirst reads docs name P said (acts ++ more)
-loads-then reads docs name P said acts more none h = record {
+pub loads-then : (reads : Reads) (docs : List Doc) (name : List ℕ) (P : List Act → Type 0) (none_run : Bool) (acts more : List Act) → list_any is_doc_read more ≡ false → LoadsFirst reads docs name P none_run acts → LoadsFirst reads docs name P none_run (acts ++ more)
+loads-then reads docs name P none_run acts more none h = record {
   loading = h.loading;
   running = h.running ++ more;
   in_turn = ap (λ l. l ++ more) h.in_turn ∙ append_assoc h.loading h.running more;
@@ -100,17 +99,15 @@ ran-wanting-line words old new end r other = record {
   failed = tt;
   refuses = tt;
   takes = λ no_run. tt;
-  told = λ docs main documents told.
-      let t = r.told docs main documents told in
+  told = λ docs documents.
+      let t = r.told docs documents in
       record {
-        answered = λ reads a is.
-            let x = t.answered reads a is in
-            record { asks = x.asks; prefix = x.prefix; ends = tt; opened = (x.opened.0, x.opened.1, x.opened.2, tt); failed = tt; takes = tt; quiet = x.quiet };
         sheet = λ reads.
-            map_some (command_of words) (λ c. LoadsFirst reads docs c.sheet (OpensNames docs (loaded reads docs c).opened (outcome_in end)) (answer reads words docs main) r.acts)
-            (λ c. LoadsFirst reads docs c.sheet (OpensNames docs (loaded reads docs c).opened Memory) (answer reads words docs main) r.acts)
-            (λ c h. loads-so reads docs c.sheet (OpensNames docs (loaded reads docs c).opened (outcome_in end)) (OpensNames docs (loaded reads docs c).opened Memory) (answer reads words docs main) r.acts (λ acts n. (n.0, n.1, n.2, tt)) h)
+            map_some (command_of words) (λ c. LoadsFirst reads docs c.sheet (OpensNames docs (loaded reads docs c).opened (outcome_in end)) (runs_none reads words docs) r.acts)
+            (λ c. LoadsFirst reads docs c.sheet (OpensNames docs (loaded reads docs c).opened Memory) (runs_none reads words docs) r.acts)
+            (λ c h. loads-so reads docs c.sheet (OpensNames docs (loaded reads docs c).opened (outcome_in end)) (OpensNames docs (loaded reads docs c).opened Memory) (runs_none reads words docs) r.acts (λ acts n. (n.0, n.1, n.2, tt)) h)
             (t.sheet reads);
+        takes = λ reads none_run. tt;
         failed = λ reads. tt;
         own = λ reads. of_any (command_of words) (λ c. Unit {0}) (λ c. tt);
       };

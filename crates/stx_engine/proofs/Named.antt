@@ -20,7 +20,7 @@ use Rattle.xml_names.specs.Scope as scope
 use Rattle.xml_names.specs.Scope.{attribute_name, bound, declared_on, element_name, last_uri, unless_empty, xml_uri, xmlns_uri}
 use Rattle.xml_names.specs.Tag as tag
 use Rattle.xml_names.specs.Tag.{attributes, declarations, declared_prefix, has_bad_binding, has_bad_name, has_undeclared_prefix, into, is_attribute_bound, is_bad_binding, is_element_bound, is_good_binding, is_prefix_bound, name_fault}
-use Rattle.stx_engine.specs.Accepted.{is_good_attr}
+use Rattle.stx_engine.specs.inside.Accepted.{is_good_attr}
 
 true_or_false : (t : Bool) → (t ≡ true) ⊎ (t ≡ false)
 true_or_false true = inl refl

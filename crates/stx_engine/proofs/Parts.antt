@@ -20,7 +20,7 @@ use Rattle.result_writer.specs.declared.tag.HeldTag.{HeldTag}
 use Rattle.run_engine.specs.Run.{head}
 use Rattle.stx_engine.specs.Nesting.{Turns}
 use Rattle.run_parts.specs.Sound.{is_sound_part}
-use Rattle.stx_engine.specs.Output.{PartsNest}
+use Rattle.stx_engine.specs.Laws.{PartsNest}
 use Rattle.stx_engine.proofs.Dressing.{IsWord, dressed-good, escaped_text, fields, name_is, open_tag-is}
 use Rattle.stx_engine.proofs.Sections.{cdata_effect, cdata_whole}
 use Rattle.stx_engine.proofs.Leaves.{comment_effect, comment_whole, instruction_effect, instruction_whole}

@@ -16,7 +16,7 @@ use Rattle.xml_events.specs.declared.event.Event.{Event}
 use Rattle.xml_events.specs.declared.event.Event.TheVariants as event
 use Rattle.xml_events.specs.declared.event.Pull.TheVariants as pull
 use Rattle.run_engine.specs.Run.{head}
-use Rattle.stx_engine.specs.Copying.{Copying}
+use Rattle.stx_engine.specs.inside.Copying.{Copying}
 use Rattle.stx_engine.specs.declared.copier.Turn.TheVariants.{More, Over}
 use Rattle.stx_engine.specs.declared.engine.Engine.{Engine}
 use Rattle.stx_engine.specs.declared.engine.Reading.TheVariants as reading
@@ -26,10 +26,10 @@ use Rattle.stx_engine.specs.declared.engine.Reading.{Reading}
 use Rattle.fault_report.specs.declared.outcome.Outcome.{Outcome}
 use Rattle.fault_report.specs.declared.outcome.Outcome.TheVariants as out
 use Rattle.fault_report.specs.declared.outcome.Outcome.TheVariants.{Done, Run, Usage, Sheet, Xml, Host, Fuel}
-use Rattle.stx_engine.specs.Answer.{code_of}
-use Rattle.stx_engine.specs.Engine.{FailsBy, IsGoing, IsWaiting, Pumps, Reads, ReadsBy, StoppedBy, more, more_of}
+use Rattle.template_machine.specs.Ending.{result_code}
+use Rattle.stx_engine.specs.inside.Engine.{FailsBy, IsGoing, IsWaiting, Pumps, Reads, ReadsBy, StoppedBy, more, more_of}
 use Rattle.stx_engine.specs.declared.engine.Piece.TheVariants.{Start}
-use Rattle.stx_engine.specs.More.{Given, Opened, Takes, ahead, given_by, given_on}
+use Rattle.stx_engine.specs.inside.More.{Given, Opened, Takes, ahead, given_by, given_on}
 use Rattle.stx_engine.proofs.Waiting.{end-alone, waits-so}
 
 -- the same engine with another reader and copier
@@ -169,7 +169,7 @@ module _ (was : List ℕ → Bool → Given) (sheet : List ℕ) (e x : Engine) (
     by_outcome (Some (Host file failure offset)) k = xml (Host file failure offset) k
     by_outcome (Some (Fuel file offset)) k = xml (Fuel file offset) k
 
-  pub pumps-refused : (fault : ResultFault) → Reads was e before now (Some (reading.Refused fault)) → x.outcome ≡ Some (Run sheet (code_of fault) 0) → Pumps was sheet x before now pumped.Stopped
+  pub pumps-refused : (fault : ResultFault) → Reads was e before now (Some (reading.Refused fault)) → x.outcome ≡ Some (Run sheet (result_code fault) 0) → Pumps was sheet x before now pumped.Stopped
   pumps-refused fault h o = (h.0, h.1, subst (λ y. StoppedBy sheet y h.0 was) (sym o) (fault, refl, refl, refl, h.2))
 
   pub pumps-lacks : Reads was e before now (Some reading.Lacks) → x.outcome ≡ Some out.Memory → Pumps was sheet x before now pumped.Stopped

@@ -1,12 +1,12 @@
 -- What a run of the program did, by what it did with the sheet.
-use Rattle.std.proofs.Common.{◌≡◌, ◌⊎◌, inl, inr, ℕ, ◌==◌, ◌||◌, Bool, true, false, List, [], ◌++◌, map, drop, Option, Some, None, IsSome, IfSome, Result, Ok, Err, arith, refl, sym, ap, ◌∙◌, subst}
+use Rattle.std.proofs.Common.{◌≡◌, ◌⊎◌, inl, inr, ℕ, ◌==◌, Bool, true, false, List, [], ◌++◌, map, drop, Option, Some, None, IsSome, IfSome, Result, Ok, Err, arith, refl, sym, ap, ◌∙◌, subst}
 use Rattle.std.specs.List.{list_any}
 use Rattle.std.specs.Option.{option_map, option_map_or, option_and_then}
 use Rattle.std.proofs.lemmas.Bool.{false≢true}
 use Rattle.std.proofs.lemmas.List.{append-nil}
-use Rattle.std.proofs.lemmas.List.Folds.{list_any-append}
 use Rattle.std.proofs.lemmas.Option.{none-some, same_Some}
-use Rattle.stx_base.specs.Course.{Begins}
+use Rattle.std.specs.Prelude.{if◌then◌else◌, is_some}
+use Rattle.stx_base.specs.Course.{Answer as Came, Begins, Given as Gave, Over, Unknown}
 use Rattle.stx_base.specs.StandardLimits.{standard_limits}
 use Rattle.stx_base.specs.declared.fault.SheetFault.{SheetFault}
 use Rattle.command_words.specs.Said.{Word}
@@ -19,7 +19,6 @@ use Rattle.stx_host.specs.Outside.{Outside, Rose, document, place}
 use Rattle.stx_host.specs.declared.act.Act.{Act}
 use Rattle.stx_host.specs.declared.act.Doc.{Doc}
 use Rattle.stx_host.proofs.Stretches.{between_joins, main_reads_join, main_read-append, nothing_between}
-use Rattle.fault_report.specs.Line.{line_of, status_of}
 use Rattle.fault_report.specs.declared.outcome.HostFault.TheVariants as fault
 use Rattle.fault_report.specs.declared.outcome.Outcome.{Outcome}
 use Rattle.fault_report.specs.declared.outcome.Outcome.TheVariants.{Done, Run as Stopped, Usage, Sheet, Xml, Host, Fuel, Memory}
@@ -34,21 +33,19 @@ use Rattle.sheet_model.specs.declared.sheet.Sheet as model
 use Rattle.sheet_runs.specs.Counts.{CountsBy, SameCounts}
 use Rattle.sheet_runs.specs.Reading.{EndOnce, main_gots}
 use Rattle.run_engine.specs.Run.{head}
+use Rattle.template_machine.specs.Ending.{Ending, Said}
+use Rattle.template_machine.specs.Job.{Given, Here}
+use Rattle.template_machine.specs.Outcome.{outcome}
+use Rattle.sheet_runs.specs.Meant.{tree_of}
 use Rattle.stx_engine.proofs.Driven.{counts-then, main_gots-append, opens-append}
-use Rattle.stx_engine.specs.Passed as gives
-use Rattle.stx_engine.specs.Accepted.{DocumentsAreTaken}
-use Rattle.stx_engine.specs.Answer.{Answer, Plan, accepted, answer, answered, asked, asks_any_run, asks_run, is_any_run, is_run, loaded, mode_answer, outcome_of, plan_by, plan_of, ran, result_of, run_on, sampled, sheet_answer, sheet_named, words_answer}
-use Rattle.stx_engine.specs.Doing.{Loads}
-use Rattle.stx_engine.specs.Driving.{Drives, DrivesSample, FailedAt, RefusesSome, UnlessFailed, is_doc_read}
-use Rattle.stx_engine.specs.Plain.{pass_of}
-use Rattle.stx_engine.specs.RunEnd.{line_in, on_sample, outcome_in, sample_of, status_in, summary_of}
-use Rattle.stx_engine.specs.Running.{Asks, CountsIn, FailedIn, FailedOn, FailedOnSheet, HasHead, IfDocFailed, IsAnswered, IsOwn, LoadsFirst, OpensNames, RefusesWords, Runs, TakesParts}
-use Rattle.sheet_model.specs.declared.pass.Kinds.{Kinds}
+use Rattle.stx_engine.specs.Answer.{Answer, Asked_for, accepted, answer, answered, asked, asks_any_run, asks_run, document_of, given_of, is_any_run, is_run, loaded, mode_answer, ran, ran_by, run_with, runs_none, sheet_answer, sheet_named, words_answer}
+use Rattle.stx_engine.specs.Doing.{Loads, PassesOn}
+use Rattle.stx_engine.specs.Running.{CountsIn, FailedAt, FailedIn, FailedOn, FailedOnSheet, HasHead, IfDocFailed, IsAnswered, IsOwn, LoadsFirst, OpensNames, RefusesWords, Runs, TakesParts, UnlessFailed, is_doc_read}
+use Rattle.stx_engine.specs.Plain.{pass_of, takes_in_order}
+use Rattle.stx_engine.specs.RunEnd.{outcome_in}
 use Rattle.stx_engine.specs.declared.run_end.RunEnd.{RunEnd}
 use Rattle.stx_engine.specs.declared.run_end.RunEnd.TheVariants.{Told, Sampled, Unnoted}
-use Rattle.stx_engine.specs.declared.run_end.Summary.{Summary}
 use Rattle.stx_engine.proofs.Idle.{no_main_gots, no_main_reads, nothing_read, of_any}
-use Rattle.stx_engine.proofs.Limited.{usual}
 use Rattle.stx_engine.proofs.Prefixes.{begins_all, begins_nothing}
 use Rattle.stx_engine.proofs.Sampled.{unless-map}
 
@@ -87,7 +84,7 @@ if-doc (Xml file fault) P Q so p = tt
 if-doc (Fuel file offset) P Q so p = tt
 
 -- no other document is read where documents are passed through
-never-on-doc : (o : Outcome) (acts : List Act) (out : List ℕ) → FailedAt o acts out → (P : (file : List ℕ) → (offset : ℕ) → Type 0) → IfDocFailed o P
+pub never-on-doc : (o : Outcome) (acts : List Act) (out : List ℕ) → FailedAt o acts out → (P : (file : List ℕ) → (offset : ℕ) → Type 0) → IfDocFailed o P
 never-on-doc (Host file fault.Doc offset) acts out failed P = absurd failed
 never-on-doc (Host file fault.Read offset) acts out failed P = tt
 never-on-doc (Host file fault.Write offset) acts out failed P = tt
@@ -116,19 +113,9 @@ module _ (words : List Word) (o : Outside) where
     failed = tt;
     refuses = ap (option_map (λ c. c.sheet)) none;
     takes = λ no_run. tt;
-    told = λ docs main documents told. record {
-      answered = λ reads a e.
-          let is : answered Usage [] [] ≡ a = same_Some (answered Usage [] []) a (sym (ap (λ c. words_answer reads c docs main) none) ∙ e) in
-          record {
-            asks = λ k is_read. absurd (false≢true is_read);
-            prefix = begins_nothing a.out;
-            ends = record { output = ap (λ x. x.out) is; line = ap (λ x. x.note) is; code = ap (λ x. x.status) is };
-            opened = ([], begins_nothing a.opened, refl, ap (λ x. x.opened) is);
-            failed = tt;
-            takes = tt;
-            quiet = refl;
-          };
-      sheet = λ reads. subst (λ x. IfSome x (λ c. LoadsFirst reads docs c.sheet (OpensNames docs (loaded reads docs c).opened Usage) (answer reads words docs main) [])) (sym none) tt;
+    told = λ docs documents. record {
+      sheet = λ reads. subst (λ x. IfSome x (λ c. LoadsFirst reads docs c.sheet (OpensNames docs (loaded reads docs c).opened Usage) (runs_none reads words docs) [])) (sym none) tt;
+      takes = λ reads none_run. tt;
       failed = λ reads. tt;
       own = λ reads. subst (λ x. IfSome x (λ c. IsOwn (accepted (loaded reads docs c).result) (Told Usage))) (sym none) tt;
     };
@@ -149,17 +136,8 @@ module _ (words : List Word) (o : Outside) where
     failed = tt;
     refuses = tt;
     takes = λ no_run. tt;
-    told = λ docs main documents told. record {
-      answered = λ reads a e. record {
-        asks = λ k is_read. absurd (false≢true is_read);
-        prefix = begins_nothing a.out;
-        ends = tt;
-        opened = ([], begins_nothing a.opened, refl, tt);
-        failed = tt;
-        takes = tt;
-        quiet = refl;
-      };
-      sheet = λ reads. any_command (λ c. LoadsFirst reads docs c.sheet (OpensNames docs (loaded reads docs c).opened Memory) (answer reads words docs main) []) (λ c. record {
+    told = λ docs documents. record {
+      sheet = λ reads. any_command (λ c. LoadsFirst reads docs c.sheet (OpensNames docs (loaded reads docs c).opened Memory) (runs_none reads words docs) []) (λ c. record {
         loading = [];
         running = [];
         in_turn = refl;
@@ -168,8 +146,9 @@ module _ (words : List Word) (o : Outside) where
         once = tt;
         no_main_read = refl;
         no_write = refl;
-        alone = λ said. refl;
+        alone = λ none_run. refl;
       });
+      takes = λ reads none_run. tt;
       failed = λ reads. tt;
       own = λ reads. any_command (λ c. IsOwn (accepted (loaded reads docs c).result) (Told Memory)) (λ c. tt);
     };
@@ -177,6 +156,20 @@ module _ (words : List Word) (o : Outside) where
   } where
     any_command : (P : Command → Type 0) → ((c : Command) → P c) → IfSome (command_of words) P
     any_command P all = of_any (command_of words) P all
+
+-- nothing was run
+pub answered-by : (o : Outcome) (names : List (List ℕ)) (a : Answer) → answered o names ≡ a → IsAnswered [] [] (Told o) a
+answered-by o names a is = record { output = ap (λ x. x.out) is; messages = ap (λ x. x.messages) is; is = ap (λ x. x.end) is }
+
+-- what a run answers opens these names
+ran-by-opens : (given : Given) (mode : Mode) (opened : List (List ℕ)) (came : Came Here Said Ending) → (ran_by given mode opened came).opened ≡ opened
+ran-by-opens given mode opened (Over said e) = refl
+ran-by-opens given mode opened (Gave said here) = refl
+ran-by-opens given mode opened (Unknown said) = refl
+
+pub ran-opens : (k : Asked_for) (opened : List (List ℕ)) (main : List ℕ) → (ran k opened main).opened ≡ opened
+ran-opens k opened main =
+    ran-by-opens (given_of k) k.command.mode opened (outcome (given_of k) (tree_of (given_of k) (record { bytes = document_of k.command.mode main; ended = true })))
 
 -- A command
 
@@ -200,19 +193,34 @@ module _ (words : List Word) (c : Command) (asked_for : command_of words ≡ Som
 
   -- An answer opens the names of the sheet's files
 
-  mode-opened : (mode : Mode) (opened : List (List ℕ)) (p : Option Kinds) (main : List ℕ) (a : Answer) → mode_answer mode c.limits c.sheet opened p main ≡ Some a → opened ≡ a.opened
-  mode-opened Check opened p main a e = ap (λ x. x.opened) (same_Some (answered Done [] opened) a e)
-  mode-opened Run opened None main a e = absurd (none-some a e)
-  mode-opened Run opened (Some pass) main a e = ap (λ x. x.opened) (same_Some (ran c.sheet opened (run_on c.limits pass main true)) a e)
-  mode-opened (Sample records) opened None main a e = absurd (none-some a e)
-  mode-opened (Sample records) opened (Some pass) main a e = ap (λ x. x.opened) (same_Some (sampled c.sheet opened records (run_on c.limits pass (sample_of records) true)) a e)
+  if-opened : (said : Bool) (k : Asked_for) (opened : List (List ℕ)) (main : List ℕ) (a : Answer) → (if said then Some (ran k opened main) else None) ≡ Some a → opened ≡ a.opened
+  if-opened true k opened main a e = sym (ran-opens k opened main) ∙ ap (λ x. x.opened) (same_Some (ran k opened main) a e)
+  if-opened false k opened main a e = absurd (none-some a e)
+
+  mode-opened : (mode : Mode) (k : Asked_for) (opened : List (List ℕ)) (main : List ℕ) (a : Answer) → mode_answer mode k opened main ≡ Some a → opened ≡ a.opened
+  mode-opened Check k opened main a e = ap (λ x. x.opened) (same_Some (answered Done opened) a e)
+  mode-opened Run k opened main a e = if-opened (takes_in_order k.sheet) k opened main a e
+  mode-opened (Sample records) k opened main a e = if-opened (takes_in_order k.sheet) k opened main a e
 
   sheet-opened : (opened : List (List ℕ)) (r : Result model.Sheet SheetFault) (main : List ℕ) (a : Answer) → sheet_answer c opened r main ≡ Some a → opened ≡ a.opened
-  sheet-opened opened (Err fault) main a e = ap (λ x. x.opened) (same_Some (answered (Sheet fault) [] opened) a e)
-  sheet-opened opened (Ok sheet) main a e = mode-opened c.mode opened (pass_of sheet) main a e
+  sheet-opened opened (Err fault) main a e = ap (λ x. x.opened) (same_Some (answered (Sheet fault) opened) a e)
+  sheet-opened opened (Ok sheet) main a e = mode-opened c.mode (record { command = c; sheet = sheet }) opened main a e
 
   pub answer-opened : (reads : Reads) (docs : List Doc) (main : List ℕ) (a : Answer) → answer reads words docs main ≡ Some a → (loaded reads docs c).opened ≡ a.opened
   answer-opened reads docs main a e = sheet-opened (loaded reads docs c).opened (loaded reads docs c).result main a (sym (answer-is reads docs main) ∙ e)
+
+  -- The run that is asked for
+
+  pub asked-is : (reads : Reads) (docs : List Doc) → asked reads words docs ≡ run_with c (loaded reads docs c).result
+  asked-is reads docs = ap (option_and_then (λ c. run_with c (loaded reads docs c).result)) asked_for
+
+  pub asked-so : (reads : Reads) (docs : List Doc) (sheet : model.Sheet) → (loaded reads docs c).result ≡ Ok sheet → is_any_run c.mode ≡ true → asked reads words docs ≡ Some (record { command = c; sheet = sheet })
+  asked-so reads docs sheet accepts any =
+      asked-is reads docs ∙ ap (run_with c) accepts ∙ ap (λ b. if b then Some (record { command = c; sheet = sheet }) else None) any
+
+  pub none-run-is : (reads : Reads) (docs : List Doc) (sheet : model.Sheet) → (loaded reads docs c).result ≡ Ok sheet → is_any_run c.mode ≡ true → runs_none reads words docs ≡ is_some (pass_of sheet)
+  none-run-is reads docs sheet accepts any =
+      ap (λ (o : Option Asked_for). option_map_or (λ k. is_some (pass_of k.sheet)) o true) (asked-so reads docs sheet accepts any)
 
   -- What loading came to, where the documents are told
 
@@ -237,9 +245,9 @@ module _ (words : List Word) (c : Command) (asked_for : command_of words ≡ Som
 
     -- the files of the sheet come first
     loads-first : (r : Result Loaded Outcome) (l : Loads c old mid r) (o : Outcome) → OpensNames docs (loaded reads docs c).opened o l.acts
-        → (said : Option Answer) (acts more : List Act) → acts ≡ l.acts ++ more → (IsSome said → list_any is_doc_read more ≡ false)
-        → LoadsFirst reads docs c.sheet (OpensNames docs (loaded reads docs c).opened o) said acts
-    loads-first r l o opened said acts more is alone = record {
+        → (none_run : Bool) (acts more : List Act) → acts ≡ l.acts ++ more → (none_run ≡ true → list_any is_doc_read more ≡ false)
+        → LoadsFirst reads docs c.sheet (OpensNames docs (loaded reads docs c).opened o) none_run acts
+    loads-first r l o opened none_run acts more is alone = record {
       loading = l.acts;
       running = more;
       in_turn = is;
@@ -253,8 +261,8 @@ module _ (words : List Word) (c : Command) (asked_for : command_of words ≡ Som
 
     -- and nothing else does
     pub loads-alone : (r : Result Loaded Outcome) (l : Loads c old mid r) (o : Outcome) → OpensNames docs (loaded reads docs c).opened o l.acts
-        → (said : Option Answer) → LoadsFirst reads docs c.sheet (OpensNames docs (loaded reads docs c).opened o) said l.acts
-    loads-alone r l o opened said = loads-first r l o opened said l.acts [] (sym (append-nil l.acts)) (λ is. refl)
+        → (none_run : Bool) → LoadsFirst reads docs c.sheet (OpensNames docs (loaded reads docs c).opened o) none_run l.acts
+    loads-alone r l o opened none_run = loads-first r l o opened none_run l.acts [] (sym (append-nil l.acts)) (λ is. refl)
 
   -- Loading stopped
 
@@ -322,15 +330,15 @@ module _ (words : List Word) (c : Command) (asked_for : command_of words ≡ Som
     refuses-stopped (Fuel file offset) h = absurd h
 
     -- a refused sheet is answered
-    answered-stopped : (o : Outcome) (l : Loads c old new (Err o)) (docs : List Doc) → documents_told old ≡ Some docs → (reads : Reads) (main : List ℕ) (a : Answer) → answer reads words docs main ≡ Some a → UnlessFailed o (IsAnswered [] (Told o) a)
+    pub answered-stopped : (o : Outcome) (l : Loads c old new (Err o)) (docs : List Doc) → documents_told old ≡ Some docs → (reads : Reads) (main : List ℕ) (a : Answer) → answer reads words docs main ≡ Some a → UnlessFailed o (IsAnswered [] [] (Told o) a)
     answered-stopped o l docs documents reads main a e = by o l.answers where
-      by : (o : Outcome) → LoadAnswers (documents_told old) standard_limits c.sheet (Err o) → UnlessFailed o (IsAnswered [] (Told o) a)
+      by : (o : Outcome) → LoadAnswers (documents_told old) standard_limits c.sheet (Err o) → UnlessFailed o (IsAnswered [] [] (Told o) a)
       by (Sheet fault) h =
           let names = names_of h.0 in
           let loads_so = agrees old new docs documents reads (Err fault) h.0 h.1 in
-          let is : answered (Sheet fault) [] names ≡ a =
-          same_Some (answered (Sheet fault) [] names) a (sym (ap (λ r. sheet_answer c r.opened r.result main) loads_so) ∙ sym (answer-is reads docs main) ∙ e) in
-          record { output = ap (λ x. x.out) is; line = ap (λ x. x.note) is; code = ap (λ x. x.status) is }
+          let is : answered (Sheet fault) names ≡ a =
+          same_Some (answered (Sheet fault) names) a (sym (ap (λ r. sheet_answer c r.opened r.result main) loads_so) ∙ sym (answer-is reads docs main) ∙ e) in
+          answered-by (Sheet fault) names a is
       by (Host file f offset) h = tt
       by Memory h = tt
       by Done h = absurd h
@@ -365,18 +373,10 @@ module _ (words : List Word) (c : Command) (asked_for : command_of words ≡ Som
           failed = failed-stopped o l.acts l.answers;
           refuses = refuses-stopped o l.answers;
           takes = λ no_run. ends.0;
-          told = λ docs main documents told. record {
-            answered = λ reads a e. record {
-              asks = no_main_reads l.acts [] [] (Asks reads words docs main) l.did.no_main_read;
-              prefix = begins_nothing a.out;
-              ends = answered-stopped o l docs documents reads main a e;
-              opened = subst (λ names. OpensNames docs names o l.acts) (answer-opened reads docs main a e) (opens-stopped o l docs documents reads);
-              failed = failed-on-sheet o l docs documents reads;
-              takes = ends.0;
-              quiet = refl;
-            };
-            sheet = λ reads. for_command (λ c. LoadsFirst reads docs c.sheet (OpensNames docs (loaded reads docs c).opened o) (answer reads words docs main) l.acts)
-                (loads-alone old new docs documents reads (Err o) l o (opens-stopped o l docs documents reads) (answer reads words docs main));
+          told = λ docs documents. record {
+            sheet = λ reads. for_command (λ c. LoadsFirst reads docs c.sheet (OpensNames docs (loaded reads docs c).opened o) (runs_none reads words docs) l.acts)
+                (loads-alone old new docs documents reads (Err o) l o (opens-stopped o l docs documents reads) (runs_none reads words docs));
+            takes = λ reads none_run. ends.0;
             failed = λ reads. if-doc o (FailedOnSheet reads words docs l.acts) (FailedOn reads words docs l.acts) (λ file offset. inl) (failed-on-sheet o l docs documents reads);
             own = λ reads. for_command (λ c. IsOwn (accepted (loaded reads docs c).result) (Told o)) (ends.1 (accepted (loaded reads docs c).result));
           };
@@ -398,23 +398,10 @@ module _ (words : List Word) (c : Command) (asked_for : command_of words ≡ Som
       failed = tt;
       refuses = subst IsSome (sym named) refl;
       takes = λ no_run. tt;
-      told = λ docs main documents told. record {
-        answered = λ reads a e.
-            let names = names_of (map whole x.files) in
-            let loads_so = loaded-is old new docs documents reads x l in
-            let is : answered Done [] names ≡ a =
-            same_Some (answered Done [] names) a (sym (ap (λ r. sheet_answer c r.opened r.result main) loads_so ∙ ap (λ m. mode_answer m c.limits c.sheet names (pass_of x.sheet) main) alone) ∙ sym (answer-is reads docs main) ∙ e) in
-            record {
-              asks = no_main_reads l.acts [] [] (Asks reads words docs main) l.did.no_main_read;
-              prefix = begins_nothing a.out;
-              ends = record { output = ap (λ x. x.out) is; line = ap (λ x. x.note) is; code = ap (λ x. x.status) is };
-              opened = subst (λ names. OpensNames docs names Done l.acts) (answer-opened reads docs main a e) (opens-all old new docs documents reads x l Done);
-              failed = tt;
-              takes = tt;
-              quiet = refl;
-            };
-        sheet = λ reads. for_command (λ c. LoadsFirst reads docs c.sheet (OpensNames docs (loaded reads docs c).opened Done) (answer reads words docs main) l.acts)
-            (loads-alone old new docs documents reads (Ok x) l Done (opens-all old new docs documents reads x l Done) (answer reads words docs main));
+      told = λ docs documents. record {
+        sheet = λ reads. for_command (λ c. LoadsFirst reads docs c.sheet (OpensNames docs (loaded reads docs c).opened Done) (runs_none reads words docs) l.acts)
+            (loads-alone old new docs documents reads (Ok x) l Done (opens-all old new docs documents reads x l Done) (runs_none reads words docs));
+        takes = λ reads none_run. tt;
         failed = λ reads. tt;
         own = λ reads. for_command (λ c. IsOwn (accepted (loaded reads docs c).result) (Told Done)) tt;
       };
@@ -468,16 +455,6 @@ module _ (words : List Word) (c : Command) (asked_for : command_of words ≡ Som
     not_refused (Fuel file offset) acts out failed = subst IsSome (sym named) refl
     not_refused (Host file fault offset) acts out failed = subst IsSome (sym named) refl
 
-    takes_parts : DocumentsAreTaken → (pass : Kinds) (o : Outcome) → RefusesSome c.limits pass o → TakesParts o
-    takes_parts taken pass (Stopped file code offset) r = taken c.limits pass r.0 r.1 r.2 (usual words c asked_for).below r.3
-    takes_parts taken pass (Host file fault offset) r = tt
-    takes_parts taken pass Memory r = tt
-    takes_parts taken pass Done r = tt
-    takes_parts taken pass Usage r = tt
-    takes_parts taken pass (Sheet reason) r = tt
-    takes_parts taken pass (Xml file fault) r = tt
-    takes_parts taken pass (Fuel file offset) r = absurd r
-
     -- where no part was refused none is told at an instruction
     own_so : (sheet : Option model.Sheet) (o : Outcome) → TakesParts o → IsOwn sheet (Told o)
     own_so sheet (Stopped file code offset) t = absurd t
@@ -509,153 +486,65 @@ module _ (words : List Word) (c : Command) (asked_for : command_of words ≡ Som
         let n = opens-all old mid docs documents reads x l o in
         (n.0, n.1, opens-append l.acts acts ∙ ap (λ g. opens l.acts ++ g) none ∙ append-nil (opens l.acts) ∙ n.2, n.3)
 
-    pub loads_sheet : (docs : List Doc) (documents : documents_told old ≡ Some docs) (reads : Reads) (acts : List Act) (o : Outcome) (said : Option Answer) → (IsSome said → list_any is_doc_read acts ≡ false)
-        → IfSome (command_of words) (λ c. LoadsFirst reads docs c.sheet (OpensNames docs (loaded reads docs c).opened o) said (l.acts ++ acts))
-    loads_sheet docs documents reads acts o said alone =
-        for_command (λ c. LoadsFirst reads docs c.sheet (OpensNames docs (loaded reads docs c).opened o) said (l.acts ++ acts))
-        (loads-first old mid docs documents reads (Ok x) l o (opens-all old mid docs documents reads x l o) said (l.acts ++ acts) acts refl alone)
+    pub loads_sheet : (docs : List Doc) (documents : documents_told old ≡ Some docs) (reads : Reads) (acts : List Act) (o : Outcome) (none_run : Bool) → (none_run ≡ true → list_any is_doc_read acts ≡ false)
+        → IfSome (command_of words) (λ c. LoadsFirst reads docs c.sheet (OpensNames docs (loaded reads docs c).opened o) none_run (l.acts ++ acts))
+    loads_sheet docs documents reads acts o none_run alone =
+        for_command (λ c. LoadsFirst reads docs c.sheet (OpensNames docs (loaded reads docs c).opened o) none_run (l.acts ++ acts))
+        (loads-first old mid docs documents reads (Ok x) l o (opens-all old mid docs documents reads x l o) none_run (l.acts ++ acts) acts refl alone)
 
-    -- a result that is whole begins with its head
-    begins_result : (run : gives.Run) (out : List ℕ) → out ≡ result_of run → Begins head out
-    begins_result run out is = (_, sym is)
+    refuses_in : (end : RunEnd) → (end ≡ Unnoted → ⊥) → RefusesWords words (Told (outcome_in end)) → RefusesWords words end
+    refuses_in (Told o) some r = r
+    refuses_in (Sampled s) some r = r
+    refuses_in Unnoted some r = absurd (some refl)
+
+    own_in : (sheet : Option model.Sheet) (end : RunEnd) → IsOwn sheet (Told (outcome_in end)) → IsOwn sheet end
+    own_in sheet (Told o) h = h
+    own_in sheet (Sampled s) h = tt
+    own_in sheet Unnoted h = tt
+
+    counts_in : (end : RunEnd) → (end ≡ Unnoted → ⊥) → CountsIn end mid new → CountsIn end old new
+    counts_in (Told o) some by = counts_after o by
+    counts_in (Sampled s) some by = counts_after Done by
+    counts_in Unnoted some by = absurd (some refl)
+
+    -- what a run answers begins with the head
+    head_by : (given : Given) (mode : Mode) (names : List (List ℕ)) (came : Came Here Said Ending) (out : List ℕ) → out ≡ (ran_by given mode names came).out → (out ≡ []) ⊎ Begins head out
+    head_by given mode names (Over said e) out is = inr (_, sym is)
+    head_by given mode names (Gave said here) out is = inl is
+    head_by given mode names (Unknown said) out is = inl is
 
     -- The document was passed through
 
-    pub ran-driven : c.mode ≡ Run → (pass : Kinds) → pass_of x.sheet ≡ Some pass → (o : Outcome) → Drives c.limits pass c.sheet mid new o → DocumentsAreTaken → Runs words old new (Told o)
-    ran-driven plain pass passes o d taken = record {
-      acts = l.acts ++ d.acts;
-      out = d.out;
-      note = [];
-      between = between_after d.acts d.out [] d.between;
-      ended = d.ended;
-      once = once_after d.ended d.acts d.once;
-      ids = d.ids ∙ l.ids;
-      counts = counts_after o d.counts;
-      failed = failed_after o d.acts d.out d.failed;
-      refuses = not_refused o d.acts d.out d.failed;
-      takes = λ no_run. takes_parts taken pass o d.refused;
-      told = λ docs main documents told.
-          let run = run_on c.limits pass main true in
-          let result = d.told main (main_after main told) in
-          let takes = takes_parts taken pass o d.refused in
-          record {
-            answered = λ reads a e.
-                let names = (loaded reads docs c).opened in
-                let plan : Plan = record { limits = c.limits; pass = pass } in
-                let sheet_is : (loaded reads docs c).result ≡ Ok x.sheet = accepted-is old mid docs documents reads x l in
-                let asks : asked reads words docs ≡ Some plan =
-                ap (option_and_then (plan_of reads docs)) asked_for ∙ ap (λ m. plan_by m c.limits (option_and_then pass_of (accepted (loaded reads docs c).result))) plain
-                ∙ ap (λ r. plan_by Run c.limits (option_and_then pass_of (accepted r))) sheet_is ∙ ap (plan_by Run c.limits) passes in
-                let is : ran c.sheet names run ≡ a =
-                same_Some (ran c.sheet names run) a
-                (sym (ap (λ r. sheet_answer c names r main) sheet_is ∙ ap (λ m. mode_answer m c.limits c.sheet names (pass_of x.sheet) main) plain ∙ ap (λ p. mode_answer Run c.limits c.sheet names p main) passes)
-                ∙ sym (answer-is reads docs main) ∙ e) in
-                record {
-                  asks = reads_after d.acts d.out [] (Asks reads words docs main) (λ k is_read. (plan, asks, result.reads k is_read));
-                  prefix = subst (Begins d.out) (ap (λ x. x.out) is) result.prefix;
-                  ends = unless-map o ((d.out ≡ result_of run) × (o ≡ outcome_of c.sheet run.ending)) (IsAnswered d.out (Told o) a)
-                      (λ both. record {
-                        output = both.0 ∙ ap (λ x. x.out) is;
-                        line = ap line_of both.1 ∙ ap (λ x. x.note) is;
-                        code = ap status_of both.1 ∙ ap (λ x. x.status) is;
-                      }) result.ends;
-                  opened = subst (λ names. OpensNames docs names o (l.acts ++ d.acts)) (answer-opened reads docs main a e) (opens_after docs documents reads d.acts o d.opened);
-                  failed = never-on-doc o d.acts d.out d.failed (FailedOnSheet reads words docs (l.acts ++ d.acts));
-                  takes = takes;
-                  quiet = refl;
-                };
-            sheet = λ reads. loads_sheet docs documents reads d.acts o (answer reads words docs main) (λ is. d.no_doc_read);
-            failed = λ reads. never-on-doc o d.acts d.out d.failed (FailedOn reads words docs (l.acts ++ d.acts));
-            own = λ reads. for_command (λ c. IsOwn (accepted (loaded reads docs c).result) (Told o)) (own_so (accepted (loaded reads docs c).result) o takes);
-          };
-      main_told = λ main told.
-          let run = run_on c.limits pass main true in
-          let result = d.told main (main_after main told) in
-          record {
-            all = λ asks done. let to_end = result.all done in (to_end.0, omega (arith, main_read-append l.acts d.acts, unread, to_end.1));
-            begins = unless-map o ((d.out ≡ result_of run) × (o ≡ outcome_of c.sheet run.ending)) ((d.out ≡ []) ⊎ Begins head d.out) (λ both. inr (begins_result run d.out both.0)) result.ends;
-            asks = reads_after d.acts d.out [] HasHead (λ k is_read. (_, sym (result.reads k is_read).out));
-          };
-    }
+    abbrev k : Asked_for
+    k = record { command = c; sheet = x.sheet }
 
-    -- The sample was
-
-    pub ran-sampled : (records : ℕ) → c.mode ≡ Sample records → (pass : Kinds) → pass_of x.sheet ≡ Some pass → (end : RunEnd) → DrivesSample c.limits pass c.sheet records mid new end → DocumentsAreTaken → Runs words old new end
-    ran-sampled records sample pass passes end d taken =
+    pub ran-through : (end : RunEnd) → is_any_run c.mode ≡ true → PassesOn k mid new end → Runs words old new end
+    ran-through end any d =
         let o : Outcome = outcome_in end in
-        let none : list_any is_main_read (l.acts ++ d.acts) ≡ false = list_any-append is_main_read l.acts d.acts ∙ ap (λ b. b || list_any is_main_read d.acts) l.did.no_main_read ∙ d.no_main_read in
-        let run = run_on c.limits pass (sample_of records) true in
         record {
           acts = l.acts ++ d.acts;
           out = d.out;
           note = [];
           between = between_after d.acts d.out [] d.between;
-          ended = false;
-          once = none_once (l.acts ++ d.acts) none;
+          ended = d.ended;
+          once = once_after d.ended d.acts d.once;
           ids = d.ids ∙ l.ids;
-          counts = counts_in end d.noted (counts_after o d.counts);
+          counts = counts_in end d.noted d.counts;
           failed = failed_after o d.acts d.out d.failed;
           refuses = refuses_in end d.noted (not_refused o d.acts d.out d.failed);
-          takes = λ no_run. takes_parts taken pass o d.refused;
-          told = λ docs main documents told.
-              let takes = takes_parts taken pass o d.refused in
-              record {
-                answered = λ reads a e.
-                    let names = (loaded reads docs c).opened in
-                    let sheet_is : (loaded reads docs c).result ≡ Ok x.sheet = accepted-is old mid docs documents reads x l in
-                    let is : sampled c.sheet names records run ≡ a =
-                    same_Some (sampled c.sheet names records run) a
-                    (sym (ap (λ r. sheet_answer c names r main) sheet_is ∙ ap (λ m. mode_answer m c.limits c.sheet names (pass_of x.sheet) main) sample ∙ ap (λ p. mode_answer (Sample records) c.limits c.sheet names p main) passes)
-                    ∙ sym (answer-is reads docs main) ∙ e) in
-                    let said : Outcome → RunEnd = on_sample (summary_of records (result_of run)) in
-                    record {
-                      asks = no_main_reads (l.acts ++ d.acts) d.out [] (Asks reads words docs main) none;
-                      prefix = subst (Begins d.out) (ap (λ x. x.out) is) d.prefix;
-                      ends = unless-map o ((d.out ≡ result_of run) × (end ≡ on_sample (summary_of records d.out) (outcome_of c.sheet run.ending))) (IsAnswered d.out end a)
-                          (λ both.
-                          let told : end ≡ said (outcome_of c.sheet run.ending) = both.1 ∙ ap (λ b. on_sample (summary_of records b) (outcome_of c.sheet run.ending)) both.0 in
-                          record {
-                            output = both.0 ∙ ap (λ x. x.out) is;
-                            line = ap line_in told ∙ ap (λ x. x.note) is;
-                            code = ap status_in told ∙ status-on (summary_of records (result_of run)) (outcome_of c.sheet run.ending) ∙ ap (λ x. x.status) is;
-                          }) d.ends;
-                      opened = subst (λ names. OpensNames docs names o (l.acts ++ d.acts)) (answer-opened reads docs main a e) (opens_after docs documents reads d.acts o d.opened);
-                      failed = never-on-doc o d.acts d.out d.failed (FailedOnSheet reads words docs (l.acts ++ d.acts));
-                      takes = takes;
-                      quiet = refl;
-                    };
-                sheet = λ reads. loads_sheet docs documents reads d.acts o (answer reads words docs main) (λ is. d.no_doc_read);
-                failed = λ reads. never-on-doc o d.acts d.out d.failed (FailedOn reads words docs (l.acts ++ d.acts));
-                own = λ reads. for_command (λ c. IsOwn (accepted (loaded reads docs c).result) end) (own_in (accepted (loaded reads docs c).result) end (own_so (accepted (loaded reads docs c).result) o takes));
-              };
-          main_told = λ main told. record {
-            all = λ asks is. absurd (unasked (Sample records) sample refl asks);
-            begins = unless-map o ((d.out ≡ result_of run) × (end ≡ on_sample (summary_of records d.out) (outcome_of c.sheet run.ending))) ((d.out ≡ []) ⊎ Begins head d.out)
-                (λ both. inr (begins_result run d.out both.0)) d.ends;
-            asks = no_main_reads (l.acts ++ d.acts) d.out [] HasHead none;
+          takes = λ no_run. d.takes;
+          told = λ docs documents. record {
+            sheet = λ reads. loads_sheet docs documents reads d.acts o (runs_none reads words docs) (λ is. d.no_doc_read);
+            takes = λ reads is. d.takes;
+            failed = λ reads. never-on-doc o d.acts d.out d.failed (FailedOn reads words docs (l.acts ++ d.acts));
+            own = λ reads. for_command (λ c. IsOwn (accepted (loaded reads docs c).result) end) (own_in (accepted (loaded reads docs c).result) end (own_so (accepted (loaded reads docs c).result) o d.takes));
           };
-        } where
-          counts_in : (end : RunEnd) → (end ≡ Unnoted → ⊥) → CountsBy (outcome_in end) old new → CountsIn end old new
-          counts_in (Told o) some by = by
-          counts_in (Sampled s) some by = by
-          counts_in Unnoted some by = absurd (some refl)
-
-          refuses_in : (end : RunEnd) → (end ≡ Unnoted → ⊥) → RefusesWords words (Told (outcome_in end)) → RefusesWords words end
-          refuses_in (Told o) some r = r
-          refuses_in (Sampled s) some r = r
-          refuses_in Unnoted some r = absurd (some refl)
-
-          own_in : (sheet : Option model.Sheet) (end : RunEnd) → IsOwn sheet (Told (outcome_in end)) → IsOwn sheet end
-          own_in sheet (Told o) h = h
-          own_in sheet (Sampled s) h = tt
-          own_in sheet Unnoted h = tt
-
-          status-on : (s : Summary) (o : Outcome) → status_in (on_sample s o) ≡ status_of o
-          status-on s Done = refl
-          status-on s (Stopped file code offset) = refl
-          status-on s Usage = refl
-          status-on s (Sheet reason) = refl
-          status-on s (Xml file fault) = refl
-          status-on s (Host file fault offset) = refl
-          status-on s (Fuel file offset) = refl
-          status-on s Memory = refl
+          main_told = λ main told. record {
+            all = λ asks done.
+                let plain : is_run c.mode ≡ true = sym (ap (λ o. option_map_or (λ c. is_run c.mode) o false) asked_for) ∙ asks in
+                let to_end = d.all plain main (main_after main told) done in
+                (to_end.0, omega (arith, main_read-append l.acts d.acts, unread, to_end.1));
+            begins = unless-map o (IsAnswered d.out [] end (ran k [] main)) ((d.out ≡ []) ⊎ Begins head d.out) (λ a. head_by (given_of k) c.mode [] (outcome (given_of k) (tree_of (given_of k) (record { bytes = document_of c.mode main; ended = true }))) d.out a.output) (d.writes main (λ plain. main_after main told) []).1;
+            asks = reads_after d.acts d.out [] HasHead (λ n is_read. let s = d.reads main (main_after main told) n is_read in (_, sym s.out));
+          };
+        }

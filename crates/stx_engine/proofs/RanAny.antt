@@ -1,16 +1,17 @@
 -- What a run of any sheet did.
-use Rattle.std.proofs.Common.{◌≡◌, ◌⊎◌, inl, inr, ℕ, ◌||◌, false, List, [], ◌∷◌, ◌++◌, length, map, Option, Some, None, IsSome, IfSome, Ok, arith, refl, sym, ap, ◌∙◌, subst}
+use Rattle.std.proofs.Common.{◌≡◌, ◌⊎◌, inl, inr, ℕ, ◌||◌, true, false, List, [], ◌∷◌, ◌++◌, length, map, Option, Some, None, IsSome, IfSome, Ok, arith, refl, sym, ap, ◌∙◌, subst}
 use Rattle.std.specs.List.{list_any}
 use Rattle.std.specs.Option.{option_and_then}
 use Rattle.std.proofs.lemmas.Bool.{false≢true}
 use Rattle.std.proofs.lemmas.List.Folds.{list_any-append}
 use Rattle.std.proofs.lemmas.Option.{none-some, same_Some}
+use Rattle.std.specs.Prelude.{is_some}
 use Rattle.stx_base.specs.Course.{Begins}
 use Rattle.command_words.specs.Said.{Word}
 use Rattle.command_words.specs.Words.{command_of}
 use Rattle.command_words.specs.declared.command.Command.{Command}
 use Rattle.command_words.specs.declared.command.Mode.{Mode}
-use Rattle.command_words.specs.declared.command.Mode.TheVariants.{Run as AsksRun, Check, Sample}
+use Rattle.command_words.specs.declared.command.Mode.TheVariants.{Run as AsksRun, Sample}
 use Rattle.stx_host.specs.Before.{AtMainReads, Taken, is_main_read}
 use Rattle.stx_host.specs.Outside.{Outside, Rose}
 use Rattle.stx_host.specs.declared.act.Doc.{Doc}
@@ -33,20 +34,18 @@ use Rattle.sheet_runs.specs.declared.main_document.Main.TheVariants as main
 use Rattle.sheet_runs.specs.declared.run.End.{End}
 use Rattle.sheet_runs.specs.declared.run.End.TheVariants as ends
 use Rattle.sheet_runs.specs.declared.run.Ran.{Ran}
-use Rattle.stx_engine.specs.Answer.{Answer, accepted, answer, loaded, mode_answer, sheet_answer, sheet_named}
+use Rattle.stx_engine.specs.Answer.{accepted, is_any_run, loaded, param_of, runs_none, sheet_named}
 use Rattle.sample_maker.specs.Document.{pieces}
-use Rattle.stx_engine.specs.Accepted.{DocumentsAreTaken}
-use Rattle.stx_engine.specs.Doing.{Checks, Does, DoesCommand, GoesOn, Loads, Passes, PassesSample, RunsIt, RunsOnSample, Stops, param_of}
-use Rattle.stx_engine.specs.Driving.{UnlessFailed}
+use Rattle.stx_engine.specs.Doing.{Checks, Does, DoesCommand, GoesOn, Loads, Passes, RunsIt, RunsOnSample, Stops}
+use Rattle.stx_engine.specs.Running.{CountsIn, FailedIn, FailedOn, HasHead, IfDocFailed, IsOwn, LoadsFirst, OpensNames, RefusesWords, Runs, UnlessFailed}
 use Rattle.stx_engine.specs.Plain.{pass_of}
 use Rattle.stx_engine.specs.RunEnd.{end_of_run, end_of_sample, outcome_in}
-use Rattle.stx_engine.specs.Running.{Asks, CountsIn, FailedIn, FailedOn, HasHead, IfDocFailed, IsOwn, LoadsFirst, OpensNames, RefusesWords, Runs}
 use Rattle.stx_engine.specs.declared.run_end.RunEnd.{RunEnd}
 use Rattle.stx_engine.specs.declared.run_end.RunEnd.TheVariants.{Told}
 use Rattle.stx_engine.specs.declared.run_end.Summary.{Summary}
 use Rattle.stx_engine.proofs.Idle.{no_main_reads, nothing_read}
-use Rattle.stx_engine.proofs.Prefixes.{begins_more, begins_nothing}
-use Rattle.stx_engine.proofs.Ran.{accepted-is, answer-is, answer-opened, asks_some, between_after, counts_after, for_command, loads-alone, loads_sheet, main_after, named, none_once, once_after, opens-all, ran-checked, ran-driven, ran-sampled, ran-stopped, reads_after, unasked}
+use Rattle.stx_engine.proofs.Prefixes.{begins_more}
+use Rattle.stx_engine.proofs.Ran.{accepted-is, asks_some, between_after, counts_after, for_command, loads-alone, loads_sheet, main_after, named, none-run-is, none_once, once_after, opens-all, ran-checked, ran-stopped, ran-through, reads_after, unasked}
 use Rattle.stx_engine.proofs.Sampled.{outcome-on}
 
 -- What an engine's talk says
@@ -253,23 +252,11 @@ module _ (words : List Word) (c : Command) (asked_for : command_of words ≡ Som
   asks-told : AtMainReads (l.acts ++ r.acts) r.out r.note HasHead
   asks-told = reads_after words c asked_for old mid new x l r.acts r.out r.note HasHead (λ k is_read. asked-head (mid.to_come 0) start new-stage _ (r.reads k is_read))
 
-  -- it isn't answered
-  unanswered : (mode : Mode) → c.mode ≡ mode → (mode ≡ Check → ⊥) → pass_of x.sheet ≡ None → (reads : Reads) (docs : List Doc) → documents_told old ≡ Some docs → (main : List ℕ) (a : Answer) → answer reads words docs main ≡ Some a → ⊥
-  unanswered mode is other none reads docs documents main a e =
-      let names = (loaded reads docs c).opened in
-      let sheet_is = accepted-is words c asked_for old mid docs documents reads x l in
-      none-some a (sym (ap (λ s. sheet_answer c names s main) sheet_is ∙ ap (λ m. mode_answer m c.limits c.sheet names (pass_of x.sheet) main) is ∙ ap (λ p. mode_answer mode c.limits c.sheet names p main) none ∙ by_mode mode other)
-      ∙ sym (answer-is words c asked_for reads docs main) ∙ e) where
-        by_mode : (mode : Mode) → (mode ≡ Check → ⊥) → mode_answer mode c.limits c.sheet (loaded reads docs c).opened None main ≡ None
-        by_mode AsksRun other = refl
-        by_mode Check other = absurd (other refl)
-        by_mode (Sample records) other = refl
-
-  unsaid : (mode : Mode) → c.mode ≡ mode → (mode ≡ Check → ⊥) → pass_of x.sheet ≡ None → (reads : Reads) (docs : List Doc) → documents_told old ≡ Some docs → (main : List ℕ) → IsSome (answer reads words docs main) → ⊥
-  unsaid mode is other none reads docs documents main said = by_answer (answer reads words docs main) refl said where
-    by_answer : (said : Option Answer) → answer reads words docs main ≡ said → IsSome said → ⊥
-    by_answer None e some = absurd (false≢true some)
-    by_answer (Some a) e some = unanswered mode is other none reads docs documents main a e
+  -- it runs instructions
+  runs-some : (mode : Mode) → c.mode ≡ mode → is_any_run mode ≡ true → pass_of x.sheet ≡ None → (reads : Reads) (docs : List Doc) → documents_told old ≡ Some docs → runs_none reads words docs ≡ true → ⊥
+  runs-some mode is any none reads docs documents h =
+      false≢true
+      (sym (none-run-is words c asked_for reads docs x.sheet (accepted-is words c asked_for old mid docs documents reads x l) (ap is_any_run is ∙ any) ∙ ap is_some none) ∙ h)
 
   -- the sheet that is told
   own-in : (docs : List Doc) → documents_told old ≡ Some docs → (reads : Reads) (end : RunEnd) → IsOwn (Some x.sheet) end → IsOwn (accepted (loaded reads docs c).result) end
@@ -292,10 +279,10 @@ module _ (words : List Word) (c : Command) (asked_for : command_of words ≡ Som
     failed = failed-told words c asked_for old mid new x l main.Host ran start b r ran.end r.ends;
     refuses = refuses-told words c asked_for old mid new x l main.Host ran start b r ran.end r.ends;
     takes = λ no_run. absurd (asks_some words c asked_for AsksRun plain refl no_run);
-    told = λ docs document documents told. record {
-      answered = λ reads a e. absurd (unanswered words c asked_for old mid new x l main.Host ran start b r AsksRun plain (λ e. cc) none reads docs documents document a e);
-      sheet = λ reads. loads_sheet words c asked_for old mid new x l docs documents reads r.acts (outcome_in (end_of_run ran.end)) (answer reads words docs document)
-          (λ said. absurd (unsaid words c asked_for old mid new x l main.Host ran start b r AsksRun plain (λ e. cc) none reads docs documents document said));
+    told = λ docs documents. record {
+      sheet = λ reads. loads_sheet words c asked_for old mid new x l docs documents reads r.acts (outcome_in (end_of_run ran.end)) (runs_none reads words docs)
+          (λ is. absurd (runs-some words c asked_for old mid new x l main.Host ran start b r AsksRun plain refl none reads docs documents is));
+      takes = λ reads is. absurd (runs-some words c asked_for old mid new x l main.Host ran start b r AsksRun plain refl none reads docs documents is);
       failed = λ reads. failed-on words c asked_for old mid new x l main.Host ran start b r none docs documents reads ran.end r.ends;
       own = λ reads. for_command words c asked_for (λ c. IsOwn (accepted (loaded reads docs c).result) (end_of_run ran.end))
           (own-in words c asked_for old mid new x l main.Host ran start b r docs documents reads (end_of_run ran.end) (own-told words c asked_for old mid new x l main.Host ran start b r ran.end r.ends));
@@ -378,10 +365,10 @@ module _ (words : List Word) (c : Command) (asked_for : command_of words ≡ Som
       failed = subst (λ o. FailedIn o (l.acts ++ r.acts) r.out) (sym (outcome-same ran.end)) (failed-told words c asked_for old mid new x l of ran start b r ran.end r.ends);
       refuses = refuses-on ran.end (refuses-told words c asked_for old mid new x l of ran start b r ran.end r.ends);
       takes = λ no_run. absurd (asks_some words c asked_for (Sample records) sample refl no_run);
-      told = λ docs document documents told. record {
-        answered = λ reads a e. absurd (unanswered words c asked_for old mid new x l of ran start b r (Sample records) sample (λ e. cc) none reads docs documents document a e);
-        sheet = λ reads. loads_sheet words c asked_for old mid new x l docs documents reads r.acts (outcome_in end) (answer reads words docs document)
-            (λ said. absurd (unsaid words c asked_for old mid new x l of ran start b r (Sample records) sample (λ e. cc) none reads docs documents document said));
+      told = λ docs documents. record {
+        sheet = λ reads. loads_sheet words c asked_for old mid new x l docs documents reads r.acts (outcome_in end) (runs_none reads words docs)
+            (λ is. absurd (runs-some words c asked_for old mid new x l of ran start b r (Sample records) sample refl none reads docs documents is));
+        takes = λ reads is. absurd (runs-some words c asked_for old mid new x l of ran start b r (Sample records) sample refl none reads docs documents is);
         failed = λ reads. subst (λ o. IfDocFailed o (FailedOn reads words docs (l.acts ++ r.acts))) (sym (outcome-same ran.end)) (failed-on words c asked_for old mid new x l of ran start b r none docs documents reads ran.end r.ends);
         own = λ reads. for_command words c asked_for (λ c. IsOwn (accepted (loaded reads docs c).result) end)
             (own-in words c asked_for old mid new x l of ran start b r docs documents reads end (own-on ran.end (own-told words c asked_for old mid new x l of ran start b r ran.end r.ends)));
@@ -407,18 +394,10 @@ module _ (words : List Word) (c : Command) (asked_for : command_of words ≡ Som
     failed = tt;
     refuses = tt;
     takes = λ no_run. tt;
-    told = λ docs document documents told. record {
-      answered = λ reads a e. record {
-        asks = no_main_reads l.acts [] [] (Asks reads words docs document) l.did.no_main_read;
-        prefix = begins_nothing a.out;
-        ends = tt;
-        opened = subst (λ names. OpensNames docs names outcome.Memory l.acts) (answer-opened words c asked_for reads docs document a e) (opens-all words c asked_for old mid docs documents reads x l outcome.Memory);
-        failed = tt;
-        takes = tt;
-        quiet = refl;
-      };
-      sheet = λ reads. for_command words c asked_for (λ c. LoadsFirst reads docs c.sheet (OpensNames docs (loaded reads docs c).opened outcome.Memory) (answer reads words docs document) l.acts)
-          (loads-alone words c asked_for old mid docs documents reads (Ok x) l outcome.Memory (opens-all words c asked_for old mid docs documents reads x l outcome.Memory) (answer reads words docs document));
+    told = λ docs documents. record {
+      sheet = λ reads. for_command words c asked_for (λ c. LoadsFirst reads docs c.sheet (OpensNames docs (loaded reads docs c).opened outcome.Memory) (runs_none reads words docs) l.acts)
+          (loads-alone words c asked_for old mid docs documents reads (Ok x) l outcome.Memory (opens-all words c asked_for old mid docs documents reads x l outcome.Memory) (runs_none reads words docs));
+      takes = λ reads is. tt;
       failed = λ reads. tt;
       own = λ reads. for_command words c asked_for (λ c. IsOwn (accepted (loaded reads docs c).result) (Told outcome.Memory)) tt;
     };
@@ -427,12 +406,11 @@ module _ (words : List Word) (c : Command) (asked_for : command_of words ≡ Som
 
 -- What a command did
 
-module _ (words : List Word) (c : Command) (asked_for : command_of words ≡ Some c) (old : Outside) (taken : DocumentsAreTaken) where
+module _ (words : List Word) (c : Command) (asked_for : command_of words ≡ Some c) (old : Outside) where
   ran-does : (mid new : Outside) (x : Loaded) (l : Loads c old mid (Ok x)) (end : RunEnd) → Does c x.sheet mid new end → Runs words old new end
   ran-does mid new x l e (Checks alone same is) =
       subst (λ o. Runs words old o e) (sym same) (subst (Runs words old mid) (sym is) (ran-checked words c asked_for old mid alone x l))
-  ran-does mid new x l e (Passes plain pass passes o d is) = subst (Runs words old new) (sym is) (ran-driven words c asked_for old mid new x l plain pass passes o d taken)
-  ran-does mid new x l e (PassesSample records sample pass passes d) = ran-sampled words c asked_for old mid new x l records sample pass passes e d taken
+  ran-does mid new x l e (Passes any some d) = ran-through words c asked_for old mid new x l e any d
   ran-does mid new x l e (RunsIt plain none ran (inl r) is) = subst (Runs words old new) (sym is) (ran-any words c asked_for old mid new x l ran plain none r.0 r.1.0 r.1.1)
   ran-does mid new x l e (RunsIt plain none ran (inr lacks) is) =
       subst (Runs words old new) (sym (is ∙ ap end_of_run lacks.1)) (ran-lacking words c asked_for old mid new x l ran lacks.0)

@@ -6,13 +6,12 @@ use Rattle.stx_base.specs.declared.part.Part.{Part}
 use Rattle.xml_events.specs.Document.{inner, outer}
 use Rattle.stx_base.specs.declared.node.First.{First}
 use Rattle.xml_events.specs.Tree.{Why, Told, Leaf, Element, End, Single, Nested, Future, Ready}
-use Rattle.stx_engine.specs.Opens.{Open, opens_by}
+use Rattle.stx_engine.specs.inside.Opens.{Open, opens_by}
 use Rattle.stx_base.specs.declared.name.Name.{Name}
 use Rattle.sheet_model.specs.declared.pass.Kinds.{Kinds}
-use Rattle.stx_engine.specs.Meaning.{end_parts, leaf_parts, start_parts}
-use Rattle.stx_engine.specs.More.{ended, rest}
-use Rattle.stx_engine.specs.Passed.{Passed, passed, put, then_put, unless_stopped}
-use Rattle.stx_engine.specs.Scope.{scope_within}
+use Rattle.stx_engine.specs.inside.Passed.{Passed, end_parts, leaf_parts, passed, put, start_parts, then_put, unless_stopped}
+use Rattle.stx_engine.specs.inside.More.{ended, rest}
+use Rattle.stx_engine.specs.inside.Scope.{scope_within}
 
 then_put-put : (ps : List Part) (p q : Passed) → then_put (put ps p) q ≡ put ps (then_put p q)
 then_put-put ps p q = by_stop p.stop refl where

@@ -21,12 +21,13 @@ use Rattle.fault_report.specs.declared.outcome.HostFault.{HostFault}
 use Rattle.fault_report.specs.declared.outcome.HostFault.TheVariants as fault
 use Rattle.fault_report.specs.declared.outcome.Outcome.{Outcome}
 use Rattle.fault_report.specs.declared.outcome.Outcome.TheVariants.{Done, Run, Usage, Sheet, Xml, Host, Fuel, Memory}
-use Rattle.stx_engine.specs.Answer.{outcome_of, result_of, run_on}
+use Rattle.stx_engine.specs.inside.Run.{outcome_of, result_of, run_on}
 use Rattle.sheet_runs.specs.Counts.{CountsBy, FailsBy}
 use Rattle.sheet_runs.specs.Writing.{counted}
-use Rattle.stx_engine.specs.Driving.{DrivesSample, FailedAt, RefusesSome, UnlessFailed}
-use Rattle.stx_engine.specs.Engine.{Means, Pumps, more, more_of}
-use Rattle.stx_engine.specs.More.{Given}
+use Rattle.stx_engine.specs.inside.Driving.{DrivesSample, RefusesSome}
+use Rattle.stx_engine.specs.Running.{FailedAt, UnlessFailed}
+use Rattle.stx_engine.specs.inside.Engine.{Means, Pumps, more, more_of}
+use Rattle.stx_engine.specs.inside.More.{Given}
 use Rattle.stx_engine.specs.RunEnd.{on_sample, outcome_in, sample_of, summary_of}
 use Rattle.stx_engine.specs.declared.engine.Engine.{Engine}
 use Rattle.stx_engine.specs.declared.engine.Piece.TheVariants.{Start, End}

@@ -25,7 +25,7 @@ use Rattle.xml_events.specs.Document.{Closes, Item, Opens, Says, Stands, at_end,
 use Rattle.xml_events.specs.Lexed.{answered, lexed_from, lexed_within, unread}
 use Rattle.xml_events.specs.Tree.{Why, Need, Bad, Mark, Fresh, Leaf, Chars, CData, Comment, Pi, Element, Forest, End, Cut, Single, Nested, Future}
 use Rattle.run_parts.specs.Sound.{declares_names}
-use Rattle.stx_engine.specs.Accepted.{DocumentsAreTaken, DocumentsNest, is_good, is_good_element, is_good_leaf}
+use Rattle.stx_engine.specs.inside.Accepted.{DocumentsAreTaken, DocumentsNest, is_good, is_good_element, is_good_leaf}
 use Rattle.xml_tokens.specs.Judged.{is_target}
 use Rattle.xml_tokens.specs.Sayable.{LexemesAreSayable, is_comment, is_data, is_literal, is_sayable}
 use Rattle.stx_engine.proofs.Accepted.{takes-good}

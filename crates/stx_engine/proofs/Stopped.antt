@@ -11,12 +11,10 @@ use Rattle.xml_events.specs.Document.{doc}
 use Rattle.xml_events.specs.Growing.{BeginningGoesOn, WholeNeedsNoMore}
 use Rattle.xml_events.specs.Telling.{stop_in}
 use Rattle.xml_events.specs.Tree.{Why, Need, Forest, End, Cut, Single, Nested, Stage, Waiting, Ready, Entered}
-use Rattle.stx_engine.specs.Ending.{BeginningIsOpen, WholeIsOver}
-use Rattle.stx_engine.specs.Meaning.{Complete, Refused, Unready, end_parts, start_parts}
-use Rattle.stx_engine.specs.Passed.{Passed, once_ready, passed, put, run_from, then_put, unless_refused, unless_stopped, with_first}
-use Rattle.stx_engine.specs.Scope.{scope_within}
+use Rattle.stx_engine.specs.inside.Ending.{RunIsOpen, RunIsOver}
+use Rattle.stx_engine.specs.inside.Passed.{Complete, Passed, Refused, Unready, end_parts, once_ready, passed, put, run_from, start_parts, then_put, unless_refused, unless_stopped, with_first}
+use Rattle.stx_engine.specs.inside.Scope.{scope_within}
 use Rattle.sheet_model.specs.declared.pass.Kinds.{Kinds}
-use Rattle.stx_engine.proofs.Beginnings.{run-passed}
 
 then-stop : (p q : Passed) → (then_put p q).stop ≡ option_or p.stop q.stop
 then-stop p q = by_stop p.stop refl where
@@ -67,16 +65,16 @@ module _ (limit : ℕ) where
     by_fault None e k = let both = k e in (both.0, ap (λ l. p ∷ l) both.1)
     by_fault (Some f) e k = absurd cc
 
-pub whole-is-over : WholeNeedsNoMore → WholeIsOver
+pub whole-is-over : WholeNeedsNoMore → RunIsOver
 whole-is-over whole limits p bytes h =
     let tree = doc limits false bytes true in
     let q = passed p [] tree in
     whole limits false false bytes
-    (sym (passed-stop p [] tree) ∙ unready-so limits.elements nothing q.parts q.stop Need (sym (ap (λ r. r.ending) (run-passed limits.elements p tree)) ∙ h))
+    (sym (passed-stop p [] tree) ∙ unready-so limits.elements nothing q.parts q.stop Need h)
 
-pub beginning-is-open : BeginningGoesOn → BeginningIsOpen
+pub beginning-is-open : BeginningGoesOn → RunIsOpen
 beginning-is-open beginning limits p bytes h =
     let tree = doc limits false bytes false in
     let q = passed p [] tree in
     beginning limits false false bytes
-    (sym (passed-stop p [] tree) ∙ (complete-so limits.elements nothing q.parts q.stop (sym (ap (λ r. r.ending) (run-passed limits.elements p tree)) ∙ h)).0)
+    (sym (passed-stop p [] tree) ∙ (complete-so limits.elements nothing q.parts q.stop h).0)

@@ -8,9 +8,9 @@ use Rattle.result_writer.specs.declared.fault.ResultFault.{ResultFault}
 use Rattle.result_writer.specs.declared.fault.WriteStop.{WriteStop}
 use Rattle.result_writer.specs.declared.fault.WriteStop.TheVariants.{Fault}
 use Rattle.xml_events.specs.Tree.{Why}
-use Rattle.stx_engine.specs.Meaning.{Refused, attribute_part}
-use Rattle.stx_engine.specs.More.{Given, Puts, ahead, given, unless_refused}
-use Rattle.stx_engine.specs.Opens.{names_of}
+use Rattle.stx_engine.specs.inside.Passed.{Refused, attribute_part}
+use Rattle.stx_engine.specs.inside.More.{Given, Puts, ahead, given, unless_refused}
+use Rattle.stx_engine.specs.inside.Opens.{names_of}
 use Rattle.stx_engine.proofs.Copying.{added-names}
 
 some_same : {X : Type 0} {x y : X} → Some x ≡ Some y → x ≡ y

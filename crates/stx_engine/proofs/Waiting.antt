@@ -9,19 +9,18 @@ use Rattle.xml_events.specs.Tree.{Why, Need, Bad, Chars, CData, Comment, Pi, Ele
 use Rattle.xml_events.specs.declared.event.Event.{Event}
 use Rattle.xml_events.specs.declared.event.Event.TheVariants as event
 use Rattle.xml_events.specs.declared.event.Pull.TheVariants as pull
-use Rattle.stx_engine.specs.Copying.{Copying}
-use Rattle.stx_engine.specs.Opens.{Open}
+use Rattle.stx_engine.specs.inside.Copying.{Copying}
+use Rattle.stx_engine.specs.inside.Opens.{Open}
 use Rattle.sheet_model.specs.declared.pass.Kinds.{Kinds}
 use Rattle.stx_base.specs.declared.part.Part.{Part}
 use Rattle.result_writer.specs.Target.{Left, Target, fault, next, settles}
 use Rattle.result_writer.specs.declared.fault.ResultFault.{ResultFault}
 use Rattle.xml_events.specs.Answering.{EndsWhole}
-use Rattle.stx_engine.specs.Meaning.{Complete, Unready, end_parts, leaf_parts, start_parts}
-use Rattle.stx_engine.specs.More as more
-use Rattle.stx_engine.specs.More.{Given, ahead, ended, given, given_by, given_of, given_on, opens, rest, still}
-use Rattle.stx_engine.specs.Scope.{scope_within}
+use Rattle.stx_engine.specs.inside.Passed.{Complete, Passed, Unready, end_parts, leaf_parts, passed, put, start_parts, stopped, then_put}
+use Rattle.stx_engine.specs.inside.More as more
+use Rattle.stx_engine.specs.inside.More.{Given, ahead, ended, given, given_by, given_of, given_on, opens, rest, still}
+use Rattle.stx_engine.specs.inside.Scope.{scope_within}
 use Rattle.stx_engine.proofs.Copying.{told-cdata, told-chars, told-comment, told-document-end, told-end, told-instruction, told-start}
-use Rattle.stx_engine.specs.Passed.{Passed, passed, put, stopped, then_put}
 
 no-event : (why : Why) (e : Event) → pull.Event e ≡ no_event why → ⊥
 no-event Need e h = absurd cc

@@ -7,16 +7,15 @@ use Rattle.stx_host.specs.Outside.{Outside, Rose, place}
 use Rattle.stx_host.specs.declared.act.Act.{Act}
 use Rattle.stx_host.specs.declared.act.Doc.{Doc}
 use Rattle.run_engine.specs.Run.{head}
-use Rattle.stx_engine.specs.Answer.{Answer, accepted, answer, asks_any_run, asks_run, loaded, sheet_named}
+use Rattle.stx_engine.specs.Answer.{Answer, accepted, asks_any_run, asks_run, loaded, note_of, runs_none, sheet_named}
 use Rattle.stx_engine.specs.Doing.{DoesWords}
-use Rattle.stx_engine.specs.Driving.{FailedAt}
 use Rattle.sheet_runs.specs.Reading.{EndOnce, main_gots}
 use Rattle.fault_report.specs.Line.{line_of, status_of}
 use Rattle.command_words.specs.Words.{command_of}
 use Rattle.sheet_files.specs.Acts.{opens}
 use Rattle.sheet_loader.specs.Values.{Reads}
 use Rattle.stx_engine.specs.RunEnd.{line_in, status_in}
-use Rattle.stx_engine.specs.Running.{Asks, FailedOn, FailedOnSheet, HasHead, IsOwn, LoadsFirst, Reports}
+use Rattle.stx_engine.specs.Running.{Asks, FailedAt, FailedOn, FailedOnSheet, HasHead, IsOwn, LoadsFirst, Reports}
 use Rattle.stx_engine.specs.declared.run_end.RunEnd.{RunEnd}
 use Rattle.stx_engine.specs.declared.run_end.RunEnd.TheVariants.{Told, Unnoted}
 use Rattle.fault_report.specs.declared.outcome.HostFault.{HostFault}
@@ -63,7 +62,7 @@ SomeGreater old new =
 -- where no count of faults rose and memory sufficed, what the lanes took and the status are the answer's
 abbrev pub GivesAnswer : (old new : Outside) → (status : ℕ) → Answer → Type 0
 GivesAnswer old new status a =
-    (SomeRose old new → ⊥) → status ≢ 7 → (since old.out new.out ≡ a.out) × (since old.note new.note ≡ a.note) × (status ≡ a.status)
+    (SomeRose old new → ⊥) → status ≢ 7 → (since old.out new.out ≡ a.out) × (since old.note new.note ≡ note_of a) × (status ≡ status_in a.end)
 
 -- whenever the main document is read, all that the bytes read so far settle was written, and no more; and more is needed
 abbrev pub AsksSettled : (old new : Outside) → Reads → (words : List (List ℕ)) → List Doc → (main : List ℕ) → Type 0
@@ -98,15 +97,15 @@ OpensFirst docs names status acts =
 
 -- the files of the sheet are opened and read before all else, in their order, and no further than it takes to decide it: first ones of them, and
 -- all where the status is neither 5 nor 7
-abbrev pub ReadsSheetFirst : (old new : Outside) → Reads → (words : List (List ℕ)) → List Doc → (main : List ℕ) → (status : ℕ) → Type 0
-ReadsSheetFirst old new reads words docs main status =
-    IfSome (command_of words) (λ c. LoadsFirst reads docs c.sheet (OpensFirst docs (loaded reads docs c).opened status) (answer reads words docs main) (since old.log new.log))
+abbrev pub ReadsSheetFirst : (old new : Outside) → Reads → (words : List (List ℕ)) → List Doc → (status : ℕ) → Type 0
+ReadsSheetFirst old new reads words docs status =
+    IfSome (command_of words) (λ c. LoadsFirst reads docs c.sheet (OpensFirst docs (loaded reads docs c).opened status) (runs_none reads words docs) (since old.log new.log))
 
--- the statuses there are where the answer is said: none is that the result refuses a part, or that fuel is spent
+-- the statuses there are where no instruction is run: none is that an instruction of the sheet has a fault, or that fuel is spent
 abbrev pub IsPlainStatus : (status : ℕ) → Type 0
 IsPlainStatus status = IsTrue (list_any (λ s. s == status) (0 ∷ 2 ∷ 3 ∷ 4 ∷ 5 ∷ 7 ∷ []))
 
--- the statuses there are: that the result refuses a part, or that fuel is spent, comes of runs alone; 5 comes only where a count rose, and
+-- the statuses there are: that an instruction has a fault, or that fuel is spent, comes of runs alone; 5 comes only where a count rose, and
 -- where one became greater the status is 5 or 7
 pub record IsStatus (old new : Outside) (words : List (List ℕ)) (status : ℕ) : Type 0 where
   pub some : status < 8
@@ -132,11 +131,16 @@ IsFailure OnDoc old new acts out (Host file fault offset) = RoseFor fault old ne
 IsFailure OnDoc old new acts out Memory = Unit {0}
 IsFailure OnDoc old new acts out outcome = ⊥
 
--- What `Note` took where the status is 5 or 7 and the answer is said: the line of such an outcome with this status. Where `Note` itself failed
--- it is a beginning of such a line, or, with the status 5, of the answer's line.
+-- What `Note` took where the status is 5 or 7 and the answer is said: a beginning of its messages, and then the line of such an outcome with
+-- this status. Where `Note` itself failed it is such a beginning and then one of that line, or, with the status 5, a beginning of all that the
+-- answer writes to it.
 pub record NotesFailure (Is : Outcome → Type 0) (old new : Outside) (note : List ℕ) (status : ℕ) (a : Answer) : Type 0 where
-  pub whole : (Rose old.note_faults new.note_faults → ⊥) → (o : Outcome) × Is o × (status_of o ≡ status) × (note ≡ line_of o)
-  pub cut : Rose old.note_faults new.note_faults → ((status ≡ 5) × Begins note a.note) ⊎ ((o : Outcome) × Is o × (status_of o ≡ status) × Begins note (line_of o))
+  pub whole : (Rose old.note_faults new.note_faults → ⊥)
+      → (messages : List ℕ) × Begins messages a.messages × (o : Outcome) × Is o × (status_of o ≡ status) × (note ≡ messages ++ line_of o)
+  pub cut : Rose old.note_faults new.note_faults
+      → ((status ≡ 5) × Begins note (note_of a))
+      ⊎ ((messages : List ℕ) × Begins messages a.messages × (o : Outcome) × Is o × (status_of o ≡ status) × (line : List ℕ) × Begins line (line_of o)
+      × (note ≡ messages ++ line))
 
 -- the same of what the host tells: on a document that isn't the main one it failed where the sheet was read
 abbrev pub NotesAfterFailure : (old new : Outside) → Reads → (words : List (List ℕ)) → List Doc → (status : ℕ) → Answer → Type 0

@@ -1,18 +1,19 @@
 -- What a run of the program does to the outside, before its last line is written.
-use Rattle.std.specs.Prelude.{◌≡◌, ℕ, ◌<◌, ◌⊎◌, ◌==◌, Bool, true, false, if◌then◌else◌, List, [], ◌++◌, length, map, take, sum, Option, Some, None, IsSome, IfSome, Ok, Err}
+use Rattle.std.specs.Prelude.{◌≡◌, ℕ, ◌<◌, ◌⊎◌, ◌==◌, Bool, true, false, not, if◌then◌else◌, List, [], ◌++◌, length, map, take, sum, codes, Option, Some, None, IsSome, IfSome, Ok, Err}
 use Rattle.std.specs.List.{list_any}
 use Rattle.stx_base.specs.Course.{Begins}
 use Rattle.stx_base.specs.StandardLimits.{standard_limits}
-use Rattle.stx_host.specs.Before.{AtMainReads, Between, Taken, is_main_read}
+use Rattle.stx_host.specs.Before.{AtMainReads, Between, Taken, is_main_read, main_read}
 use Rattle.stx_host.specs.Outside.{Outside, NoteFault, Rose, document, place, wrote}
 use Rattle.stx_host.specs.declared.act.Act.{Act}
+use Rattle.stx_host.specs.declared.act.Act.TheVariants.{Read}
 use Rattle.stx_host.specs.declared.act.Doc.{Doc}
 use Rattle.stx_host.specs.declared.act.Lane.TheVariants.{Note}
 use Rattle.command_words.specs.Words.{command_of}
 use Rattle.command_words.specs.declared.command.Command.{Command}
 use Rattle.fault_report.specs.declared.outcome.HostFault.TheVariants as fault
 use Rattle.fault_report.specs.declared.outcome.Outcome.{Outcome}
-use Rattle.fault_report.specs.declared.outcome.Outcome.TheVariants.{Run, Usage, Sheet, Host, Fuel, Memory}
+use Rattle.fault_report.specs.declared.outcome.Outcome.TheVariants.{Done, Run, Usage, Sheet, Host, Fuel, Memory}
 use Rattle.run_engine.specs.Run as engine
 use Rattle.sheet_files.specs.Acts.{NoneBehindEnd, is_write, opens}
 use Rattle.sheet_files.specs.Loading.{OpensInOrder}
@@ -21,23 +22,50 @@ use Rattle.sheet_files.specs.Undecided.{ReadUndecided}
 use Rattle.sheet_loader.specs.Values.{Reads}
 use Rattle.sheet_model.specs.declared.sheet.Sheet as model
 use Rattle.sheet_runs.specs.Counts.{CountsBy, SameCounts}
+use Rattle.sheet_runs.specs.Meant.{IsSettledOn}
 use Rattle.sheet_runs.specs.Reading.{EndOnce, main_gots}
 use Rattle.sheet_runs.specs.Runs.{AreAsTold, FailsOn}
 use Rattle.sheet_runs.specs.Talk.{Exchange, Leads, beside_in, none_beside}
+use Rattle.sheet_runs.specs.Writing.{counted}
 use Rattle.run_engine.specs.Run.{head}
-use Rattle.stx_engine.specs.Answer.{Answer, Plan, accepted, answer, asked, asks_any_run, asks_run, loaded, sheet_named}
-use Rattle.stx_engine.specs.Doing.{param_of}
-use Rattle.stx_engine.specs.Driving.{FailedAt, IsSettledAt, ReadsAll, UnlessFailed, is_doc_read}
+use Rattle.stx_engine.specs.Answer.{Answer, Asked_for, accepted, asked, asks_any_run, asks_run, given_of, is_run, loaded, param_of, runs_none, sheet_named}
 use Rattle.stx_engine.specs.Plain.{pass_of}
-use Rattle.stx_engine.specs.RunEnd.{line_in, outcome_in, status_in}
+use Rattle.stx_engine.specs.RunEnd.{outcome_in}
 use Rattle.stx_engine.specs.declared.run_end.RunEnd.{RunEnd}
 use Rattle.stx_engine.specs.declared.run_end.RunEnd.TheVariants.{Told, Sampled, Unnoted}
 
--- Before a read of the main document: the words and the sheet were accepted, all that the bytes read so far settle of the
--- result was written to `Out`, and no more, and the run waits for more.
-abbrev pub Asks : Reads → (words : List (List ℕ)) → List Doc → (main : List ℕ) → Taken → Type 0
-Asks reads words docs main taken =
-    (plan : Plan) × (asked reads words docs ≡ Some plan) × IsSettledAt plan.limits plan.pass (take taken.main_read main) taken
+-- whether an act is a read of a document, other than the main one
+abbrev pub is_doc_read : Act → Bool
+is_doc_read (Read id got) = not (id == 0)
+is_doc_read act = false
+
+-- this holds, unless the host failed or memory was wanting
+abbrev pub UnlessFailed : Outcome → Type 0 → Type 0
+UnlessFailed (Host file fault offset) P = Unit {0}
+UnlessFailed Memory P = Unit {0}
+UnlessFailed outcome P = P
+
+-- where the host failed, it failed on the main document after all that was read of it, or on `Out` after all that it took;
+-- neither words nor a sheet are refused any more
+abbrev pub FailedAt : Outcome → List Act → (out : List ℕ) → Type 0
+FailedAt (Host file fault.Read offset) acts out = (file ≡ codes "-") × (offset ≡ main_read acts)
+FailedAt (Host file fault.Write offset) acts out = (file ≡ codes "-") × (offset ≡ counted (length out))
+FailedAt (Host file fault.Doc offset) acts out = ⊥
+FailedAt Usage acts out = ⊥
+FailedAt (Sheet reason) acts out = ⊥
+FailedAt outcome acts out = Unit {0}
+
+-- a run that is done has read the main document to its end
+abbrev pub ReadsAll : (main : List ℕ) → List Act → (ended : Bool) → Outcome → Type 0
+ReadsAll main acts ended outcome = outcome ≡ Done → (ended ≡ true) × (main_read acts ≡ length main)
+
+-- Before a read of the main document: the words ask for a run on it, they and the sheet were accepted, all that the bytes read so far settle
+-- of what the sheet means was written, and no more, and it needs more.
+pub record Asks (reads : Reads) (words : List (List ℕ)) (docs : List Doc) (main : List ℕ) (taken : Taken) : Type 0 where
+  pub run : Asked_for
+  pub is : asked reads words docs ≡ Some run
+  pub on_main : is_run run.command.mode ≡ true
+  pub settled : IsSettledOn (given_of run) (take taken.main_read main) taken
 
 -- Before a read of the main document, whatever the sheet does: the head of the result was written.
 abbrev pub HasHead : Taken → Type 0
@@ -107,11 +135,11 @@ IsOwn sheet (Told (Run file code offset)) = StopsInside sheet file offset
 IsOwn sheet (Told (Fuel file offset)) = StopsInside sheet file offset
 IsOwn sheet end = Unit {0}
 
--- the end is the answer's, and all of the answer's output was written
-pub record IsAnswered (out : List ℕ) (end : RunEnd) (a : Answer) : Type 0 where
+-- all of an answer was written but its last line, and the run ended as the answer does
+pub record IsAnswered (out note : List ℕ) (end : RunEnd) (a : Answer) : Type 0 where
   pub output : out ≡ a.out
-  pub line : line_in end ≡ a.note
-  pub code : status_in end ≡ a.status
+  pub messages : note ≡ a.messages
+  pub is : end ≡ a.end
 
 -- the documents of the first of these names were opened, in order; of all of them, unless the run failed
 abbrev pub OpensNames : List Doc → (names : List (List ℕ)) → Outcome → List Act → Type 0
@@ -119,9 +147,9 @@ OpensNames docs names outcome acts =
     (front : List (List ℕ)) × Begins front names × (opens acts ≡ map (place docs) front) × UnlessFailed outcome (front ≡ names)
 
 -- The files of the sheet of this name come before all else: in the first acts documents are opened so, each is read on only while the sheet
--- isn't decided, and not behind its end, nothing of the main document is read, and nothing is written. Where the answer is said, no document
--- but the main one is read after them.
-pub record LoadsFirst (reads : Reads) (docs : List Doc) (name : List ℕ) (Opens : List Act → Type 0) (said : Option Answer) (acts : List Act) : Type 0 where
+-- isn't decided, and not behind its end, nothing of the main document is read, and nothing is written. Where no instruction is run, no
+-- document but the main one is read after them.
+pub record LoadsFirst (reads : Reads) (docs : List Doc) (name : List ℕ) (Opens : List Act → Type 0) (none_run : Bool) (acts : List Act) : Type 0 where
   pub loading : List Act
   pub running : List Act
   pub in_turn : acts ≡ loading ++ running
@@ -130,17 +158,19 @@ pub record LoadsFirst (reads : Reads) (docs : List Doc) (name : List ℕ) (Opens
   pub once : NoneBehindEnd loading
   pub no_main_read : list_any is_main_read loading ≡ false
   pub no_write : list_any is_write loading ≡ false
-  pub alone : IsSome said → list_any is_doc_read running ≡ false
+  pub alone : none_run ≡ true → list_any is_doc_read running ≡ false
 
--- what a run did where its answer is said
-pub record RunsAnswered (reads : Reads) (words : List (List ℕ)) (docs : List Doc) (main : List ℕ) (acts : List Act) (out note : List ℕ) (end : RunEnd) (a : Answer) : Type 0 where
+-- what a run did, and how it ended, where its answer is said
+pub record RunsAnswered (reads : Reads) (words : List (List ℕ)) (docs : List Doc) (main : List ℕ) (old new : Outside) (end : RunEnd) (a : Answer) : Type 0 where
+  pub acts : List Act
+  pub out : List ℕ
+  pub note : List ℕ
+  pub between : Between old new acts out note
   pub asks : AtMainReads acts out note (Asks reads words docs main)
-  pub prefix : Begins out a.out
-  pub ends : UnlessFailed (outcome_in end) (IsAnswered out end a)
+  pub begins : Begins out a.out × Begins note a.messages
+  pub ends : UnlessFailed (outcome_in end) (IsAnswered out note end a)
   pub opened : OpensNames docs a.opened (outcome_in end) acts
   pub failed : IfDocFailed (outcome_in end) (FailedOnSheet reads words docs acts)
-  pub takes : TakesParts (outcome_in end)
-  pub quiet : note ≡ []
 
 -- what a run did where the host tells the main document
 pub record RunsMain (words : List (List ℕ)) (main : List ℕ) (acts : List Act) (ended : Bool) (out note : List ℕ) (end : RunEnd) : Type 0 where
@@ -150,10 +180,10 @@ pub record RunsMain (words : List (List ℕ)) (main : List ℕ) (acts : List Act
   pub asks : AtMainReads acts out note HasHead
 
 -- and where it tells the documents and which ids are open
-pub record RunsTold (words : List (List ℕ)) (docs : List Doc) (main : List ℕ) (acts : List Act) (out note : List ℕ) (end : RunEnd) : Type 0 where
-  pub answered : (reads : Reads) (a : Answer) → answer reads words docs main ≡ Some a → RunsAnswered reads words docs main acts out note end a
+pub record RunsTold (words : List (List ℕ)) (docs : List Doc) (acts : List Act) (end : RunEnd) : Type 0 where
   pub sheet : (reads : Reads)
-      → IfSome (command_of words) (λ c. LoadsFirst reads docs c.sheet (OpensNames docs (loaded reads docs c).opened (outcome_in end)) (answer reads words docs main) acts)
+      → IfSome (command_of words) (λ c. LoadsFirst reads docs c.sheet (OpensNames docs (loaded reads docs c).opened (outcome_in end)) (runs_none reads words docs) acts)
+  pub takes : (reads : Reads) → runs_none reads words docs ≡ true → TakesParts (outcome_in end)
   pub failed : (reads : Reads) → IfDocFailed (outcome_in end) (FailedOn reads words docs acts)
   pub own : (reads : Reads) → IfSome (command_of words) (λ c. IsOwn (accepted (loaded reads docs c).result) end)
 
@@ -171,7 +201,7 @@ pub record Runs (words : List (List ℕ)) (old new : Outside) (end : RunEnd) : T
   pub refuses : RefusesWords words end
   pub takes : asks_any_run words ≡ false → TakesParts (outcome_in end)
   pub main_told : (main : List ℕ) → old.to_come 0 ≡ Some main → RunsMain words main acts ended out note end
-  pub told : (docs : List Doc) (main : List ℕ) → documents_told old ≡ Some docs → old.to_come 0 ≡ Some main → RunsTold words docs main acts out note end
+  pub told : (docs : List Doc) → documents_told old ≡ Some docs → RunsTold words docs acts end
 
 -- the status where the line couldn't be written: want of memory stays
 abbrev pub unwritten_status : ℕ → ℕ

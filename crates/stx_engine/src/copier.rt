@@ -2,10 +2,10 @@ ghost use Rattle.std.specs.Prelude.{◌≡◌, ◌∷◌, [], true, None, IfOk, 
 ghost use Rattle.result_writer.specs.Target.{fresh};
 ghost use Rattle.stx_base.specs.declared.part.Part.TheVariants as part;
 ghost use Rattle.xml_events.specs.Tree.{Chars, Comment, Pi};
-ghost use Rattle.stx_engine.specs.Meaning.{attribute_part, copied_attrs, leaf_parts, start_parts};
-ghost use Rattle.stx_engine.specs.More.{begin_ahead, close_ahead, end_ahead, given_by, leaf_ahead, start_ahead, Opened, Puts, Takes};
-ghost use Rattle.stx_engine.specs.Scope.{scope_within};
-ghost use Rattle.stx_engine.specs.Opens.{names_behind, names_in, names_of};
+ghost use Rattle.stx_engine.specs.inside.Passed.{attribute_part, copied_attrs, leaf_parts, start_parts};
+ghost use Rattle.stx_engine.specs.inside.More.{begin_ahead, close_ahead, end_ahead, given_by, leaf_ahead, start_ahead, Opened, Puts, Takes};
+ghost use Rattle.stx_engine.specs.inside.Scope.{scope_within};
+ghost use Rattle.stx_engine.specs.inside.Opens.{names_behind, names_in, names_of};
 ghost use Rattle.stx_engine.specs.declared.copier.Turn.TheVariants as turn;
 
 use crate::scope::scope_within;
@@ -40,11 +40,11 @@ pub struct Copier {
 }
 
 impl Model for Copier {
-    ghost use Rattle.stx_engine.specs.Copying.{Copying};
+    ghost use Rattle.stx_engine.specs.inside.Copying.{Copying};
 
     ghost Value = { Copying };
 
-    ghost use Rattle.stx_engine.specs.Told.{copying_of, IsTold};
+    ghost use Rattle.stx_engine.specs.inside.Told.{copying_of, IsTold};
 
     ghost view = { copying_of };
 

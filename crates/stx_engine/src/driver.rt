@@ -1,4 +1,4 @@
-ghost use Rattle.std.specs.Prelude.{◌≡◌, ◌≤◌, ◌^◌, IfOk, ℕ, List, Some, false, map};
+ghost use Rattle.std.specs.Prelude.{◌≡◌, ◌≤◌, ◌^◌, IfOk, ℕ, List, Some, false, map, true};
 ghost use Rattle.stx_base.specs.Course.{Begins};
 ghost use Rattle.stx_base.specs.declared.limits.Limits.{Limits};
 ghost use Rattle.stx_host.specs.Before.{since};
@@ -7,12 +7,11 @@ ghost use Rattle.command_words.specs.declared.command.Mode.TheVariants as mode;
 ghost use Rattle.run_engine.specs.Run.{IsAtStart};
 ghost use Rattle.sheet_loader.specs.Values.{Reads};
 ghost use Rattle.sheet_model.specs.Sound.{IsSound};
-ghost use Rattle.stx_engine.specs.Answer.{Answer, answer};
-ghost use Rattle.stx_engine.specs.Doing.{AreUsual, Does, DoesCommand, DoesWords, RunsAny, asked_by, param_of};
-ghost use Rattle.stx_engine.specs.Driving.{Drives, DrivesSample};
-ghost use Rattle.stx_engine.specs.Engine.{GoesOn, IsWaiting, Means};
+ghost use Rattle.stx_engine.specs.Answer.{Answer, answer, param_of, runs_none};
+ghost use Rattle.stx_engine.specs.Doing.{AreUsual, Does, DoesCommand, DoesWords, RunsAny, asked_by};
+ghost use Rattle.stx_engine.specs.inside.Driving.{Drives, DrivesSample};
+ghost use Rattle.stx_engine.specs.inside.Engine.{GoesOn, IsWaiting, Means};
 ghost use Rattle.stx_engine.specs.Headline.{AsksSettled, BeginsWell, DoesAll, EndsInLine, GivesAnswer, IsPlainStatus, IsStatus, NotesAfterFailure, NotesItsFailure, OpensFirst, ReadsSheetFirst, ReadsToEnd, RefusesUnnamed, Tells, TellsMain};
-ghost use Rattle.stx_engine.specs.Kept.{Asked_for, AsksOrdinary, Keeps};
 ghost use Rattle.stx_engine.specs.Nesting.{EndsHaveStarts};
 ghost use Rattle.stx_engine.specs.Running.{Reports, Runs};
 ghost use Rattle.stx_engine.specs.Words.{spelled};
@@ -23,9 +22,9 @@ ghost use Rattle.fault_report.specs.declared.outcome.Outcome.TheVariants as outc
 
 use crate::asked::Asked;
 use crate::engine::{Engine, Piece, Pumped};
-use crate::law;
 use crate::plain::pass_of;
 use crate::run_end::{HOST_FAILED, RunEnd, Summary, end_of_run, end_of_sample};
+use crate::{copied, law};
 use command_words::{Command, Mode, Param as Given, WordsFault, read_words};
 use fault_report::{HostFault, OUT_OF_MEMORY, Outcome};
 use run_engine::Engine as SheetEngine;
@@ -48,7 +47,8 @@ const MEMORY_WANTING: u8 = 7;
 /// fuel is spent, 7 where memory was wanting. Messages stand on the lane `Note`; what stopped the run stands behind them in one
 /// line, and so does what a run on the sample that is done read and wrote.
 pub fn transform<H: Host>(alloc: Global, words: &[String], host: &mut H) -> u8
-    // Where no count of faults rose and memory sufficed, the lanes and the status are exactly the answer.
+    // Of refused words and sheets, of sheets that are looked at alone, and of runs of sheets that take the nodes of the main document alone,
+    // each list in order: where no count of faults rose and memory sufficed, the lanes and the status are exactly the answer.
     ensures answer { (reads : Reads) (docs : List Doc) (main : List ℕ) (a : Answer) → Tells (H.outside host.old) docs main → answer reads (spelled words.now) docs main ≡ Some a → GivesAnswer (H.outside host.old) (H.outside host.new) result a }
     // Whenever the main document is read, exactly what the bytes read so far settle was written, and more is needed.
     ensures reads { (reads : Reads) (docs : List Doc) (main : List ℕ) (a : Answer) → Tells (H.outside host.old) docs main → answer reads (spelled words.now) docs main ≡ Some a → AsksSettled (H.outside host.old) (H.outside host.new) reads (spelled words.now) docs main }
@@ -60,15 +60,12 @@ pub fn transform<H: Host>(alloc: Global, words: &[String], host: &mut H) -> u8
     ensures nested { (reads : Reads) (docs : List Doc) (main : List ℕ) (a : Answer) → Tells (H.outside host.old) docs main → answer reads (spelled words.now) docs main ≡ Some a → EndsHaveStarts (since (H.outside host.old).out (H.outside host.new).out) }
     // Only documents that the answer opens are opened, in its order.
     ensures opened { (reads : Reads) (docs : List Doc) (main : List ℕ) (a : Answer) → Tells (H.outside host.old) docs main → answer reads (spelled words.now) docs main ≡ Some a → OpensFirst docs a.opened result (since (H.outside host.old).log (H.outside host.new).log) }
-    // Where the host failed or memory was wanting, the line says which and where.
+    // Where the host failed or memory was wanting, the line says which and where, behind first messages.
     ensures failure { (reads : Reads) (docs : List Doc) (main : List ℕ) (a : Answer) → Tells (H.outside host.old) docs main → answer reads (spelled words.now) docs main ≡ Some a → NotesAfterFailure (H.outside host.old) (H.outside host.new) reads (spelled words.now) docs result a }
-    // Then no part is refused, and no fuel is spent.
-    ensures plain { (reads : Reads) (docs : List Doc) (main : List ℕ) (a : Answer) → Tells (H.outside host.old) docs main → answer reads (spelled words.now) docs main ≡ Some a → IsPlainStatus result }
-    // Of sheets that take the nodes of the main document alone, each list in order, and do more than to pass them through, in the same way:
-    // before each read, in the end, and after any stop what is written is what the sheet means on the document's tree.
-    ensures keeps { (reads : Reads) (docs : List Doc) (main : List ℕ) (k : Asked_for) → Tells (H.outside host.old) docs main → AsksOrdinary reads (spelled words.now) docs k → Keeps (H.outside host.old) (H.outside host.new) reads (spelled words.now) docs main result k }
+    // Where no instruction is run, none has a fault, and no fuel is spent.
+    ensures plain { (reads : Reads) (docs : List Doc) (main : List ℕ) → Tells (H.outside host.old) docs main → runs_none reads (spelled words.now) docs ≡ true → IsPlainStatus result }
     // Whatever the sheet does: its files are opened before all else, in their order, and read no further than it takes to decide it;
-    ensures sheet { (reads : Reads) (docs : List Doc) (main : List ℕ) → Tells (H.outside host.old) docs main → ReadsSheetFirst (H.outside host.old) (H.outside host.new) reads (spelled words.now) docs main result }
+    ensures sheet { (reads : Reads) (docs : List Doc) (main : List ℕ) → Tells (H.outside host.old) docs main → ReadsSheetFirst (H.outside host.old) (H.outside host.new) reads (spelled words.now) docs result }
     // the output begins with its head, which is written before the main document is read;
     ensures begins { (main : List ℕ) → TellsMain (H.outside host.old) main → BeginsWell (H.outside host.old) (H.outside host.new) result }
     // the last line is that of an end with this status, also where the host failed or memory was wanting.
@@ -81,8 +78,7 @@ pub fn transform<H: Host>(alloc: Global, words: &[String], host: &mut H) -> u8
     ensures words { RefusesUnnamed (H.outside host.old) (H.outside host.new) (spelled words.now) result }
     ensures ids { (H.outside host.new).open_ids ≡ (H.outside host.old).open_ids }
 {
-    law::documents();
-    law::ordinary();
+    law::answers();
     machine_law::one_meaning();
     sheet_law::meant();
     sample_law::pieces();
@@ -107,7 +103,6 @@ fn run<H: Host>(alloc: Global, words: &[String], host: &mut H) -> RunEnd
     ensures does { DoesWords (spelled words.now) (H.outside host.old) (H.outside host.new) result }
     ensures runs { Runs (spelled words.now) (H.outside host.old) (H.outside host.new) result }
 {
-    law::documents();
     match read_words(alloc, words) {
         Ok(command) => run_command(alloc, command, host),
         Err(WordsFault::Usage) => RunEnd::Told(Outcome::Usage),
@@ -175,6 +170,9 @@ fn run_main<H: Host>(alloc: Global, asked: Asked, sheet: Sheet, host: &mut H) ->
     requires limits { AreUsual asked.limits }
     ensures { Does (asked_by asked mode.Run) sheet (H.outside host.old) (H.outside host.new) result }
 {
+    copied::documents();
+    copied::meant();
+    machine_law::one_meaning();
     match pass_of(&sheet) {
         Some(pass) => {
             drop(sheet);
@@ -196,6 +194,9 @@ fn run_sample<H: Host>(
     requires limits { AreUsual asked.limits }
     ensures { Does (asked_by asked (mode.Sample records)) sheet (H.outside host.old) (H.outside host.new) result }
 {
+    copied::documents();
+    copied::meant();
+    machine_law::one_meaning();
     match pass_of(&sheet) {
         Some(pass) => {
             drop(sheet);

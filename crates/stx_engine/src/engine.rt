@@ -1,8 +1,8 @@
 ghost use Rattle.std.specs.Prelude.{◌≡◌, ◌<◌, None, Some, false, true};
 ghost use Rattle.xml_tokens.specs.Reader.{fed};
 ghost use Rattle.xml_events.specs.Source.{events_left, source};
-ghost use Rattle.stx_engine.specs.Answer.{code_of};
-ghost use Rattle.stx_engine.specs.Engine.{Expects, FailsBy, GoesOn, IsEnd, IsGoing, IsWaiting, Means, Pumps, Reads, Wants, more, more_of};
+ghost use Rattle.template_machine.specs.Ending.{result_code};
+ghost use Rattle.stx_engine.specs.inside.Engine.{Expects, FailsBy, GoesOn, IsEnd, IsGoing, IsWaiting, Means, Pumps, Reads, Wants, more, more_of};
 ghost use Rattle.stx_engine.specs.declared.engine.Pumped.TheVariants as pumped;
 ghost use Rattle.stx_engine.specs.declared.engine.Reading.TheVariants as reading;
 ghost use Rattle.fault_report.specs.declared.outcome.Outcome.TheVariants as outcome;
@@ -171,7 +171,7 @@ impl Engine {
     // The result has a fault, which is told at the root of the sheet.
     fn refuse(&mut self, fault: ResultFault) -> Pumped
         ensures answer { result ≡ pumped.Stopped }
-        ensures outcome { self.new.outcome ≡ Some (outcome.Run self.old.sheet (code_of fault) 0) }
+        ensures outcome { self.new.outcome ≡ Some (outcome.Run self.old.sheet (result_code fault) 0) }
         ensures reader { self.new.reader ≡ self.old.reader }
     {
         let file = mem::replace(&mut self.sheet, Text::new(self.alloc));
@@ -230,7 +230,7 @@ impl Engine {
 }
 
 fn code_of(fault: ResultFault) -> RunCode
-    ensures { result ≡ code_of fault }
+    ensures { result ≡ result_code fault }
 {
     match fault {
         ResultFault::BadName => RunCode::BadName,

@@ -3,6 +3,7 @@
 #![tactic(auto)]
 
 mod asked;
+mod copied;
 mod copier;
 mod driver;
 mod engine;

@@ -2,7 +2,7 @@ ghost use Rattle.std.specs.Prelude.{◌≡◌, ◌≤◌, IfOk, filter, insert, 
 ghost use Rattle.stx_base.specs.declared.name.Binding.{Binding};
 ghost use Rattle.result_writer.specs.Allowed.{is_empty};
 ghost use Rattle.result_writer.specs.Table.{has_prefix, in_order, placed, precedes};
-ghost use Rattle.stx_engine.specs.Scope.{scope_within};
+ghost use Rattle.stx_engine.specs.inside.Scope.{scope_within};
 
 use std::alloc::Global;
 use stx_base::{Binding, Copied, List, Memory, Text};

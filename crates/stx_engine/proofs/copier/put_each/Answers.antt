@@ -1,7 +1,7 @@
 use Rattle.std.proofs.Common.{◌≡◌, List, [], ◌∷◌, length, map, refl, sym, ◌∙◌, subst, arith}
 use Rattle.stx_base.specs.declared.name.Attr.{Attr}
 use Rattle.std.specs.Vec.Iter.{into_iter_items}
-use Rattle.stx_engine.specs.Meaning.{attribute_part}
+use Rattle.stx_engine.specs.inside.Passed.{attribute_part}
 use Rattle.stx_engine.proofs.Copying.{SoFar, all-put, none-yet, one-more, one-refused}
 use Rattle.stx_engine.proofs.copier.put_each.Goals as goal
 

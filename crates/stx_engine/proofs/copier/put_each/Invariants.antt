@@ -1,7 +1,7 @@
 use Rattle.std.proofs.Common.{◌≡◌, map}
 use Rattle.std.specs.Vec.Iter.{into_iter_items}
-use Rattle.stx_engine.specs.Meaning.{attribute_part}
-use Rattle.stx_engine.specs.Opens.{names_of}
+use Rattle.stx_engine.specs.inside.Passed.{attribute_part}
+use Rattle.stx_engine.specs.inside.Opens.{names_of}
 use Rattle.stx_engine.proofs.Copying.{SoFar}
 use Rattle.stx_engine.proofs.copier.put_each.Given as goal
 

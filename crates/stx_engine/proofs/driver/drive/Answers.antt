@@ -4,8 +4,8 @@ use Rattle.stx_engine.specs.declared.engine.Piece.TheVariants.{Start, End}
 use Rattle.stx_engine.specs.declared.engine.Pumped.TheVariants as pumped
 use Rattle.fault_report.specs.declared.outcome.Outcome.TheVariants.{Memory}
 use Rattle.sheet_runs.specs.Writing.{counted}
-use Rattle.stx_engine.specs.Engine.{GoesOn, Pumps, more, more_of}
-use Rattle.stx_engine.specs.More.{Given}
+use Rattle.stx_engine.specs.inside.Engine.{GoesOn, Pumps, more, more_of}
+use Rattle.stx_engine.specs.inside.More.{Given}
 use Rattle.stx_engine.proofs.Driven.{Driving, starts, writes-on, reads-piece, reads-end, write-fails, read-fails, ends, waits_where}
 use Rattle.stx_engine.proofs.driver.drive.Goals as goal
 

@@ -3,7 +3,7 @@ use Rattle.stx_base.specs.declared.limits.Limits.{Limits}
 use Rattle.xml_tokens.specs.Reader.{fed}
 use Rattle.stx_engine.specs.declared.engine.Pumped.TheVariants as pumped
 use Rattle.sheet_model.specs.declared.pass.Kinds.{Kinds}
-use Rattle.stx_engine.specs.Engine.{GoesOn, IsWaiting, Means, is_main}
+use Rattle.stx_engine.specs.inside.Engine.{GoesOn, IsWaiting, Means, is_main}
 use Rattle.stx_engine.proofs.Driven.{Driving}
 use Rattle.stx_engine.proofs.driver.drive.Given as goal
 

@@ -5,8 +5,8 @@ use Rattle.fault_report.specs.declared.outcome.Outcome.TheVariants.{Memory}
 use Rattle.stx_engine.specs.declared.engine.Piece.TheVariants.{Start, End}
 use Rattle.stx_engine.specs.declared.engine.Pumped.TheVariants as pumped
 use Rattle.sheet_runs.specs.Reading.{TakesPieces}
-use Rattle.stx_engine.specs.Engine.{GoesOn, Pumps, more, more_of}
-use Rattle.stx_engine.specs.More.{Given}
+use Rattle.stx_engine.specs.inside.Engine.{GoesOn, Pumps, more, more_of}
+use Rattle.stx_engine.specs.inside.More.{Given}
 use Rattle.sheet_runs.specs.Writing.{counted}
 use Rattle.stx_engine.proofs.Driven.{waits_where}
 use Rattle.stx_engine.proofs.Sampled.{Sampling, starts, writes-on, hands-on, hands-end, write-fails, lacks, ends}

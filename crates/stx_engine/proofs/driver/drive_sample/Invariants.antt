@@ -2,7 +2,7 @@ use Rattle.std.proofs.Common.{◌≡◌, ◌+◌, length, cond}
 use Rattle.stx_base.specs.declared.limits.Limits.{Limits}
 use Rattle.stx_engine.specs.declared.engine.Pumped.TheVariants as pumped
 use Rattle.sheet_model.specs.declared.pass.Kinds.{Kinds}
-use Rattle.stx_engine.specs.Engine.{GoesOn, IsWaiting, Means, is_main}
+use Rattle.stx_engine.specs.inside.Engine.{GoesOn, IsWaiting, Means, is_main}
 use Rattle.stx_engine.proofs.Sampled.{Sampling}
 use Rattle.stx_engine.proofs.driver.drive_sample.Given as goal
 

@@ -1,6 +1,6 @@
 use Rattle.std.proofs.Common.{◌≡◌, ◌++◌, ◌∙◌, ap, arith, map}
 use Rattle.std.specs.Vec.Iter.{into_iter_items}
-use Rattle.stx_engine.specs.Doing.{param_of}
+use Rattle.stx_engine.specs.Answer.{param_of}
 use Rattle.stx_engine.proofs.Giving.{all-taken, one-more}
 use Rattle.stx_engine.proofs.driver.params_of.Goals as goal
 

@@ -1,8 +1,8 @@
 use Rattle.std.proofs.Common.{◌≡◌, Err, sym, subst}
 use Rattle.result_writer.specs.declared.fault.WriteStop.TheVariants.{Memory}
-use Rattle.stx_engine.specs.More.{Takes, begin_ahead}
-use Rattle.stx_engine.specs.Opens.{Open}
-use Rattle.stx_engine.specs.Told.{copying_of}
+use Rattle.stx_engine.specs.inside.More.{Takes, begin_ahead}
+use Rattle.stx_engine.specs.inside.Opens.{Open}
+use Rattle.stx_engine.specs.inside.Told.{copying_of}
 use Rattle.stx_engine.proofs.Copying.{lacks-memory, takes-unkept}
 use Rattle.stx_engine.proofs.copier.Copier.begin.Goals as goal
 

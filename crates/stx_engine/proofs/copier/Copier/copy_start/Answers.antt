@@ -1,8 +1,8 @@
 use Rattle.std.proofs.Common.{◌∷◌, map, sym, ap, ◌∙◌, subst}
 use Rattle.stx_base.specs.declared.part.Part.TheVariants as part
-use Rattle.stx_engine.specs.Copying.{Copying}
-use Rattle.stx_engine.specs.Meaning.{attribute_part, copied_attrs, parts_if}
-use Rattle.stx_engine.specs.More.{Puts}
+use Rattle.stx_engine.specs.inside.Copying.{Copying}
+use Rattle.stx_engine.specs.inside.Passed.{attribute_part, copied_attrs, parts_if}
+use Rattle.stx_engine.specs.inside.More.{Puts}
 use Rattle.stx_engine.proofs.copier.Copier.copy_start.Goals as goal
 
 pub returns-then-self-clause-puts : goal.returns-then-self-clause-puts

@@ -1,7 +1,7 @@
 use Rattle.std.proofs.Common.{sym, ap, ◌∙◌}
-use Rattle.stx_engine.specs.Copying.{Copying}
-use Rattle.stx_engine.specs.More.{close_ahead, end_ahead}
-use Rattle.stx_engine.specs.Told.{copying_of}
+use Rattle.stx_engine.specs.inside.Copying.{Copying}
+use Rattle.stx_engine.specs.inside.More.{close_ahead, end_ahead}
+use Rattle.stx_engine.specs.inside.Told.{copying_of}
 use Rattle.stx_engine.proofs.Copying.{ends-one, takes-same}
 use Rattle.stx_engine.proofs.copier.Copier.end.Goals as goal
 

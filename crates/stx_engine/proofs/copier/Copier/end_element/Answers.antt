@@ -1,5 +1,5 @@
 use Rattle.std.proofs.Common.{None}
-use Rattle.stx_engine.specs.More.{close_ahead}
+use Rattle.stx_engine.specs.inside.More.{close_ahead}
 use Rattle.stx_engine.proofs.Copying.{closes, takes-same}
 use Rattle.stx_engine.proofs.copier.Copier.end_element.Goals as goal
 

@@ -1,6 +1,6 @@
 use Rattle.std.proofs.Common.{◌≡◌, true, List, [], ◌∷◌, filter, refl, sym, ap, ◌∙◌}
 use Rattle.stx_base.specs.declared.name.Binding.{Binding}
-use Rattle.stx_engine.specs.Scope.{scope_within}
+use Rattle.stx_engine.specs.inside.Scope.{scope_within}
 use Rattle.stx_engine.proofs.copier.Copier.enter.Goals as goal
 
 all-kept : (bs : List Binding) → filter (λ b. true) bs ≡ bs

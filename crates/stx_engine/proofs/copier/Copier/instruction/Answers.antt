@@ -1,8 +1,8 @@
 use Rattle.std.proofs.Common.{[], ◌∷◌, sym, ap, ◌∙◌, subst}
 use Rattle.stx_base.specs.declared.part.Part.TheVariants as part
-use Rattle.stx_engine.specs.Copying.{Copying}
-use Rattle.stx_engine.specs.Meaning.{parts_if}
-use Rattle.stx_engine.specs.More.{Takes, leaf_ahead}
+use Rattle.stx_engine.specs.inside.Copying.{Copying}
+use Rattle.stx_engine.specs.inside.Passed.{parts_if}
+use Rattle.stx_engine.specs.inside.More.{Takes, leaf_ahead}
 use Rattle.stx_engine.proofs.copier.Copier.instruction.Goals as goal
 
 pub returns-then-self-clause-takes : goal.returns-then-self-clause-takes

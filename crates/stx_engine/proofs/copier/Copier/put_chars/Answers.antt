@@ -1,7 +1,7 @@
 use Rattle.std.proofs.Common.{[], ◌∷◌, Ok, subst}
 use Rattle.stx_base.specs.declared.part.Part.TheVariants as part
-use Rattle.stx_engine.specs.More.{Takes, leaf_ahead}
-use Rattle.stx_engine.specs.Told.{copying_of}
+use Rattle.stx_engine.specs.inside.More.{Takes, leaf_ahead}
+use Rattle.stx_engine.specs.inside.Told.{copying_of}
 use Rattle.stx_engine.specs.declared.copier.Turn.TheVariants.{More}
 use Rattle.stx_engine.proofs.Copying.{leaf-refused, leaf-taken, settled-names}
 use Rattle.stx_engine.proofs.copier.Copier.put_chars.Goals as goal

@@ -1,9 +1,9 @@
 use Rattle.std.proofs.Common.{◌≡◌, [], None, Ok, Err, Result, ap, ◌∙◌, subst}
 use Rattle.result_writer.specs.Target.{Target}
 use Rattle.result_writer.specs.declared.fault.WriteStop.{WriteStop}
-use Rattle.stx_engine.specs.Copying.{Copying}
-use Rattle.stx_engine.specs.More.{Takes, close_ahead}
-use Rattle.stx_engine.specs.Told.{copying_of}
+use Rattle.stx_engine.specs.inside.Copying.{Copying}
+use Rattle.stx_engine.specs.inside.More.{Takes, close_ahead}
+use Rattle.stx_engine.specs.inside.Told.{copying_of}
 use Rattle.stx_engine.specs.declared.copier.Turn.TheVariants.{More}
 use Rattle.stx_engine.proofs.Copying.{end-refused, end-taken}
 use Rattle.stx_engine.proofs.copier.Copier.put_end.Goals as goal

@@ -1,7 +1,7 @@
 use Rattle.std.proofs.Common.{[], ◌∷◌, subst}
 use Rattle.stx_base.specs.declared.part.Part.TheVariants as part
-use Rattle.stx_engine.specs.Copying.{Copying}
-use Rattle.stx_engine.specs.More.{Puts}
+use Rattle.stx_engine.specs.inside.Copying.{Copying}
+use Rattle.stx_engine.specs.inside.More.{Puts}
 use Rattle.stx_engine.proofs.Copying.{one-stopped, puts-one}
 use Rattle.stx_engine.proofs.copier.Copier.put_start.Goals as goal
 

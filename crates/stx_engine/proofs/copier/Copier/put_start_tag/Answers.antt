@@ -1,8 +1,8 @@
 use Rattle.std.proofs.Common.{[], ◌∷◌, map, subst}
 use Rattle.stx_base.specs.declared.part.Part.TheVariants as part
-use Rattle.stx_engine.specs.Copying.{Copying}
-use Rattle.stx_engine.specs.Meaning.{attribute_part}
-use Rattle.stx_engine.specs.More.{Puts}
+use Rattle.stx_engine.specs.inside.Copying.{Copying}
+use Rattle.stx_engine.specs.inside.Passed.{attribute_part}
+use Rattle.stx_engine.specs.inside.More.{Puts}
 use Rattle.stx_engine.proofs.Copying.{both-put}
 use Rattle.stx_engine.proofs.copier.Copier.put_start_tag.Goals as goal
 

@@ -1,5 +1,5 @@
-use Rattle.stx_engine.specs.More.{begin_ahead, start_ahead}
-use Rattle.stx_engine.specs.Opens.{Open}
+use Rattle.stx_engine.specs.inside.More.{begin_ahead, start_ahead}
+use Rattle.stx_engine.specs.inside.Opens.{Open}
 use Rattle.stx_engine.proofs.Copying.{starts-within, takes-same}
 use Rattle.stx_engine.proofs.copier.Copier.start.Goals as goal
 

@@ -1,7 +1,7 @@
 use Rattle.std.proofs.Common.{ap, ◌∙◌}
 use Rattle.xml_events.specs.Tree.{Chars, Comment, Element, Pi}
-use Rattle.stx_engine.specs.Meaning.{leaf_parts}
-use Rattle.stx_engine.specs.More.{end_ahead, given_by, leaf_ahead, start_ahead}
+use Rattle.stx_engine.specs.inside.Passed.{leaf_parts}
+use Rattle.stx_engine.specs.inside.More.{end_ahead, given_by, leaf_ahead, start_ahead}
 use Rattle.stx_engine.proofs.Copying.{takes-same, told-cdata, told-chars, told-comment, told-document-end, told-end, told-instruction, told-start}
 use Rattle.stx_engine.proofs.copier.Copier.take.Goals as goal
 

@@ -1,8 +1,8 @@
 use Rattle.std.proofs.Common.{◌≡◌, suc, Ok, Err, [], length, reverse, false, sym, ap, subst, ◌∙◌}
 use Rattle.std.proofs.lemmas.List.{length-reverse}
 use Rattle.xml_events.specs.Source.{future}
-use Rattle.stx_engine.specs.More.{Given, Takes, given_by}
-use Rattle.stx_engine.specs.Opens.{names_in}
+use Rattle.stx_engine.specs.inside.More.{Given, Takes, given_by}
+use Rattle.stx_engine.specs.inside.Opens.{names_in}
 use Rattle.stx_engine.proofs.Rest.{opens-length}
 use Rattle.stx_engine.proofs.Waiting.{over-ends, over-whole}
 use Rattle.stx_engine.proofs.Pumping.{ends-so, faulty-so, goes-on, lacks-so, refused-so, wants-so}

@@ -1,6 +1,6 @@
 use Rattle.std.proofs.Common.{◌≡◌, Some, refl, sym, ap, subst}
-use Rattle.stx_engine.specs.Answer.{code_of}
-use Rattle.stx_engine.specs.Engine.{Pumps, more}
+use Rattle.template_machine.specs.Ending.{result_code}
+use Rattle.stx_engine.specs.inside.Engine.{Pumps, more}
 use Rattle.stx_engine.specs.declared.engine.Engine.{Engine}
 use Rattle.fault_report.specs.declared.outcome.Outcome.TheVariants.{Done, Run}
 use Rattle.stx_engine.proofs.Pumping.{pumps-done, pumps-faulty, pumps-lacks, pumps-refused, pumps-wants}
@@ -29,7 +29,7 @@ returns-in-Refused-clause-pumps c =
     let s = c.args.self.now in
     subst (Pumps (more s) s.sheet c.refuse.new.self c.args.out.now.items c.read_on.new.out.items) (sym c.refuse.ensures.answer)
     (pumps-refused (more s) s.sheet c.read_on.new.self c.refuse.new.self c.args.out.now.items c.read_on.new.out.items c.in-Refused.fault c.in-Refused.ensures.reads
-    (subst (λ x. c.refuse.new.self.outcome ≡ Some (Run x (code_of c.in-Refused.fault) 0)) c.in-Refused.ensures.sheet c.refuse.ensures.outcome))
+    (subst (λ x. c.refuse.new.self.outcome ≡ Some (Run x (result_code c.in-Refused.fault) 0)) c.in-Refused.ensures.sheet c.refuse.ensures.outcome))
 
 pub returns-in-Lacks-clause-pumps : goal.returns-in-Lacks-clause-pumps
 returns-in-Lacks-clause-pumps c =

@@ -1,6 +1,6 @@
 use Rattle.std.proofs.Common.{refl, sym, ap, subst}
-use Rattle.stx_engine.specs.Engine.{Expects, Pumps, more, more_of}
-use Rattle.stx_engine.specs.More.{given_on}
+use Rattle.stx_engine.specs.inside.Engine.{Expects, Pumps, more, more_of}
+use Rattle.stx_engine.specs.inside.More.{given_on}
 use Rattle.stx_engine.specs.declared.engine.Engine.{Engine}
 use Rattle.stx_engine.specs.declared.engine.Piece.TheVariants.{Bytes, End}
 use Rattle.stx_engine.specs.declared.engine.Pumped.TheVariants as pumped

@@ -1,5 +1,5 @@
 use Rattle.std.proofs.Common.{None, Some, refl, ◌∙◌}
-use Rattle.stx_engine.specs.Engine.{more}
+use Rattle.stx_engine.specs.inside.Engine.{more}
 use Rattle.stx_engine.proofs.Pumping.{none-read, reads-then}
 use Rattle.stx_engine.proofs.engine.Engine.read_on.Goals as goal
 

@@ -1,7 +1,7 @@
 use Rattle.std.proofs.Common.{◌≡◌, None}
 use Rattle.xml_tokens.specs.Reader.{fed}
 use Rattle.xml_events.specs.Source.{events_left}
-use Rattle.stx_engine.specs.Engine.{Reads, more}
+use Rattle.stx_engine.specs.inside.Engine.{Reads, more}
 use Rattle.stx_engine.proofs.engine.Engine.read_on.Given as goal
 
 -- what was to come is what was appended, and then what comes now; and as many bytes were fed

@@ -1,6 +1,6 @@
 -- What the fields of a copier mean.
 use Rattle.std.specs.Prelude.{◌≡◌, true}
-use Rattle.stx_engine.specs.Copying.{Copying}
+use Rattle.stx_engine.specs.inside.Copying.{Copying}
 use Rattle.stx_engine.specs.declared.copier.Copier.TheInside.{Inside}
 
 abbrev pub copying_of : Inside → Copying

@@ -9,9 +9,10 @@ use Rattle.xml_tokens.specs.Reader.{Reader, fed}
 use Rattle.xml_events.specs.Source.{future}
 use Rattle.xml_events.specs.Tree.{Need, Bad}
 use Rattle.run_engine.specs.Run.{head}
-use Rattle.stx_engine.specs.Answer.{code_of, run_on}
-use Rattle.stx_engine.specs.Meaning.{Complete, Unready, Refused}
-use Rattle.stx_engine.specs.More.{Given, ahead, given_on}
+use Rattle.template_machine.specs.Ending.{result_code}
+use Rattle.stx_engine.specs.inside.Run.{run_on}
+use Rattle.stx_engine.specs.inside.Passed.{Complete, Unready, Refused}
+use Rattle.stx_engine.specs.inside.More.{Given, ahead, given_on}
 use Rattle.stx_engine.specs.declared.engine.Engine.{Engine}
 use Rattle.stx_engine.specs.declared.engine.Piece.{Piece}
 use Rattle.stx_engine.specs.declared.engine.Piece.TheVariants.{Start, Bytes, End}
@@ -83,7 +84,7 @@ abbrev pub StoppedBy : (sheet : List ℕ) → Option Outcome → (appended : Lis
 StoppedBy sheet (Some (Xml file fault)) appended given =
     (file ≡ codes "-") × ((bytes : List ℕ) (ended : Bool) → given bytes ended ≡ record { bytes = appended; ending = Unready (Bad fault) })
 StoppedBy sheet (Some (Run file code offset)) appended given =
-    (fault : ResultFault) × (file ≡ sheet) × (code ≡ code_of fault) × (offset ≡ 0)
+    (fault : ResultFault) × (file ≡ sheet) × (code ≡ result_code fault) × (offset ≡ 0)
     × ((bytes : List ℕ) (ended : Bool) → given bytes ended ≡ record { bytes = appended; ending = Refused fault })
 StoppedBy sheet (Some Memory) appended given = (bytes : List ℕ) (ended : Bool) → Begins appended (given bytes ended).bytes
 StoppedBy sheet outcome appended given = ⊥

@@ -1,13 +1,50 @@
--- What a run puts, node by node: a sheet without templates treats each by the pass-through.
-use Rattle.std.specs.Prelude.{ℕ, List, [], ◌∷◌, ◌++◌, Option, Some, None}
+-- What passing a document through puts, node by node.
+use Rattle.std.specs.Prelude.{ℕ, Bool, if◌then◌else◌, List, [], ◌∷◌, ◌++◌, map, Option, Some, None}
+use Rattle.stx_base.specs.declared.name.Attr.{Attr}
 use Rattle.stx_base.specs.declared.name.Binding.{Binding}
+use Rattle.stx_base.specs.declared.name.Name.{Name}
 use Rattle.stx_base.specs.declared.part.Part.{Part}
-use Rattle.result_writer.specs.Target.{Left, fault, next}
+use Rattle.stx_base.specs.declared.part.Part.TheVariants as part
+use Rattle.result_writer.specs.Target.{Left, fault, is_closed, next}
 use Rattle.result_writer.specs.declared.fault.ResultFault.{ResultFault}
-use Rattle.xml_events.specs.Tree.{Why, Stage, Waiting, Ready, Entered, Forest, End, Cut, Single, Nested}
-use Rattle.stx_engine.specs.Meaning.{Ending, Unready, Refused, ending_of, end_parts, leaf_parts, start_parts}
-use Rattle.stx_engine.specs.Scope.{scope_within}
+use Rattle.result_writer.specs.declared.fault.ResultFault.TheVariants.{UnclosedResult}
+use Rattle.xml_events.specs.Tree.{Why, Stage, Waiting, Ready, Entered, Leaf, Chars, CData, Comment, Pi, Forest, End, Cut, Single, Nested}
 use Rattle.sheet_model.specs.declared.pass.Kinds.{Kinds}
+use Rattle.stx_engine.specs.inside.Scope.{scope_within}
+
+-- how a run ends: it is done, it comes to a node that isn't ready, or the result refuses a part
+pub data Ending : Type 0 where
+  Complete : Ending
+  Unready : Why → Ending
+  Refused : ResultFault → Ending
+
+abbrev pub attribute_part : Attr → Part
+attribute_part a = part.Attribute a.name a.value
+
+-- the parts of a node of a kind that is copied
+abbrev pub parts_if : (copied : Bool) → List Part → List Part
+parts_if copied parts = if copied then parts else []
+
+abbrev pub copied_attrs : Kinds → List Attr → List Attr
+copied_attrs pass attrs = if pass.attributes then attrs else []
+
+-- the parts of an element's start, where these bindings are in force within it, and of its end
+abbrev pub start_parts : Kinds → (scope : List Binding) → Name → List Attr → List Part
+start_parts pass scope name attrs = parts_if pass.elements (part.Start name scope ∷ map attribute_part (copied_attrs pass attrs))
+
+abbrev pub end_parts : Kinds → Name → List Part
+end_parts pass name = parts_if pass.elements (part.End name ∷ [])
+
+-- The part of another node. CDATA sections aren't recognised, so that none is a node; it would be text.
+abbrev pub leaf_parts : Kinds → Leaf → List Part
+leaf_parts pass (Chars offset text) = parts_if pass.text (part.Chars text ∷ [])
+leaf_parts pass (CData offset text) = parts_if pass.text (part.Chars text ∷ [])
+leaf_parts pass (Comment offset text) = parts_if pass.comments (part.Comment text ∷ [])
+leaf_parts pass (Pi offset target text) = parts_if pass.instructions (part.Pi target text ∷ [])
+
+-- a run is done only where no element of the result is open
+abbrev pub ending_of : Left → Ending
+ending_of l = if is_closed l.elements l.held then Complete else Refused UnclosedResult
 
 -- the parts that are to be put, and why nothing follows them, if so
 pub record Passed : Type 0 where

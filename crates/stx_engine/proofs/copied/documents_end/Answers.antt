@@ -1,5 +1,5 @@
 use Rattle.stx_engine.proofs.Stopped.{beginning-is-open, whole-is-over}
-use Rattle.stx_engine.proofs.law.documents_end.Goals as goal
+use Rattle.stx_engine.proofs.copied.documents_end.Goals as goal
 
 pub returns-clause-whole : goal.returns-clause-whole
 returns-clause-whole c = whole-is-over c.ending.ensures.whole

@@ -1,5 +1,5 @@
 -- Documents whose copies a result accepts.
-use Rattle.std.specs.Prelude.{◌≡◌, ◌≢◌, ℕ, ◌-◌, ◌≤◌, Bool, true, ◌&&◌, nat_lt, List, Some}
+use Rattle.std.specs.Prelude.{◌≡◌, ◌≢◌, ℕ, ◌-◌, ◌≤◌, Bool, true, ◌&&◌, nat_lt, List}
 use Rattle.std.specs.List.{list_all}
 use Rattle.stx_base.specs.Course.{Begins}
 use Rattle.stx_base.specs.declared.limits.Limits.{Limits}
@@ -7,13 +7,10 @@ use Rattle.stx_base.specs.declared.name.Attr.{Attr}
 use Rattle.result_writer.specs.Allowed.{are_chars, is_good_attribute, is_good_comment, is_good_data, is_good_name, is_good_target}
 use Rattle.result_writer.specs.declared.fault.ResultFault.{ResultFault}
 use Rattle.xml_events.specs.Tree.{Leaf, Chars, CData, Comment, Pi, Element, Forest, End, Cut, Single, Nested}
-use Rattle.stx_host.specs.declared.act.Doc.{Doc}
 use Rattle.run_parts.specs.Sound.{declares_names}
-use Rattle.sheet_loader.specs.Values.{Reads}
-use Rattle.stx_engine.specs.Answer.{Answer, answer, result_of, run_of, run_on}
-use Rattle.stx_engine.specs.Meaning.{Refused, outcome}
+use Rattle.stx_engine.specs.inside.Run.{output, result_of, run_by, run_on}
+use Rattle.stx_engine.specs.inside.Passed.{Refused}
 use Rattle.stx_engine.specs.Nesting.{EndsHaveStarts}
-use Rattle.stx_engine.specs.Output.{output}
 use Rattle.sheet_model.specs.declared.pass.Kinds.{Kinds}
 
 abbrev pub is_good_leaf : Leaf → Bool
@@ -37,14 +34,14 @@ is_good room (Nested m e kids next) = nat_lt 0 room && (is_good_element e && (is
 
 -- No result refuses a part of such a document, where so many of its elements may be open.
 abbrev pub TakesGood : Type 0
-TakesGood = (limit : ℕ) (pass : Kinds) (tree : Forest) (fault : ResultFault) → is_good limit tree ≡ true → (run_of (outcome limit pass tree)).ending ≢ Refused fault
+TakesGood = (limit : ℕ) (pass : Kinds) (tree : Forest) (fault : ResultFault) → is_good limit tree ≡ true → (run_by limit pass tree).ending ≢ Refused fault
 
 -- No end tag in a result of such a document lacks its start tag, wherever the result stops.
 abbrev pub RunsNest : Type 0
 RunsNest =
     (limit : ℕ) (pass : Kinds) (tree : Forest) (front : List ℕ)
     → declares_names tree ≡ true
-    → Begins front (output (run_of (outcome limit pass tree)).parts)
+    → Begins front (output (run_by limit pass tree).parts)
     → EndsHaveStarts front
 
 -- A result takes all parts of a document, where as many elements of it may be open as of the document.
@@ -60,11 +57,3 @@ DocumentsNest =
     (limits : Limits) (pass : Kinds) (bytes : List ℕ) (ended : Bool) (front : List ℕ)
     → Begins front (result_of (run_on limits pass bytes ended))
     → EndsHaveStarts front
-
--- So it is with all that the program writes.
-abbrev pub AnswersNest : Type 0
-AnswersNest = (reads : Reads) (words : List (List ℕ)) (docs : List Doc) (main front : List ℕ) (a : Answer) → answer reads words docs main ≡ Some a → Begins front a.out → EndsHaveStarts front
-
--- So that no answer is that the result refuses a part.
-abbrev pub AnswersAreTaken : Type 0
-AnswersAreTaken = (reads : Reads) (words : List (List ℕ)) (docs : List Doc) (main : List ℕ) (a : Answer) → answer reads words docs main ≡ Some a → a.status ≢ 1

@@ -1,42 +1,25 @@
--- What reading a main document through an engine does to the outside.
-use Rattle.std.specs.Prelude.{◌≡◌, ℕ, Bool, true, false, not, ◌==◌, List, [], length, take, Some, codes}
+-- What passing the main document through does to the outside.
+use Rattle.std.specs.Prelude.{◌≡◌, ℕ, Bool, true, false, List, [], take, Some}
 use Rattle.std.specs.List.{list_any}
 use Rattle.stx_base.specs.Course.{Begins}
 use Rattle.stx_base.specs.declared.limits.Limits.{Limits}
-use Rattle.stx_host.specs.Before.{AtMainReads, Between, Taken, is_main_read, main_read}
+use Rattle.stx_host.specs.Before.{AtMainReads, Between, Taken, is_main_read}
 use Rattle.stx_host.specs.Outside.{Outside}
 use Rattle.stx_host.specs.declared.act.Act.{Act}
-use Rattle.stx_host.specs.declared.act.Act.TheVariants.{Read}
-use Rattle.stx_engine.specs.Answer.{outcome_of, result_of, run_on, settled}
+use Rattle.stx_engine.specs.inside.Run.{outcome_of, result_of, run_on, settled}
 use Rattle.sheet_files.specs.Acts.{opens}
 use Rattle.sheet_runs.specs.Counts.{CountsBy}
 use Rattle.sheet_runs.specs.Reading.{EndOnce, main_gots}
-use Rattle.sheet_runs.specs.Writing.{counted}
 use Rattle.result_writer.specs.declared.fault.ResultFault.{ResultFault}
-use Rattle.stx_engine.specs.Meaning.{Refused as Refuses, Unready}
+use Rattle.stx_engine.specs.inside.Passed.{Refused as Refuses, Unready}
 use Rattle.xml_events.specs.Tree.{Need}
-use Rattle.fault_report.specs.declared.outcome.HostFault.TheVariants as fault
 use Rattle.fault_report.specs.declared.outcome.Outcome.{Outcome}
-use Rattle.fault_report.specs.declared.outcome.Outcome.TheVariants.{Done, Run, Usage, Sheet, Host, Fuel, Memory}
+use Rattle.fault_report.specs.declared.outcome.Outcome.TheVariants.{Run, Fuel}
 use Rattle.sheet_model.specs.declared.pass.Kinds.{Kinds}
 use Rattle.stx_engine.specs.RunEnd.{on_sample, outcome_in, sample_of, summary_of}
+use Rattle.stx_engine.specs.Running.{FailedAt, ReadsAll, UnlessFailed, is_doc_read}
 use Rattle.stx_engine.specs.declared.run_end.RunEnd.{RunEnd}
 use Rattle.stx_engine.specs.declared.run_end.RunEnd.TheVariants.{Unnoted}
-
--- whether an act is a read of a document, other than the main one
-abbrev pub is_doc_read : Act → Bool
-is_doc_read (Read id got) = not (id == 0)
-is_doc_read act = false
-
--- where the host failed, it failed on the main document after all that was read of it, or on `Out` after all that it took;
--- neither words nor a sheet are refused any more
-abbrev pub FailedAt : Outcome → List Act → (out : List ℕ) → Type 0
-FailedAt (Host file fault.Read offset) acts out = (file ≡ codes "-") × (offset ≡ main_read acts)
-FailedAt (Host file fault.Write offset) acts out = (file ≡ codes "-") × (offset ≡ counted (length out))
-FailedAt (Host file fault.Doc offset) acts out = ⊥
-FailedAt Usage acts out = ⊥
-FailedAt (Sheet reason) acts out = ⊥
-FailedAt outcome acts out = Unit {0}
 
 -- Before a read of the main document: all that its first bytes settle was written to `Out`, and no more; and the run on them
 -- waits for more.
@@ -44,12 +27,6 @@ pub record IsSettledAt (limits : Limits) (pass : Kinds) (bytes : List ℕ) (take
   pub out : taken.out ≡ settled limits pass bytes
   pub note : taken.note ≡ []
   pub needs : (run_on limits pass bytes false).ending ≡ Unready Need
-
--- this holds, unless the host failed or memory was wanting
-abbrev pub UnlessFailed : Outcome → Type 0 → Type 0
-UnlessFailed (Host file fault offset) P = Unit {0}
-UnlessFailed Memory P = Unit {0}
-UnlessFailed outcome P = P
 
 -- a part is refused only where the run on some document ends so, and no fuel is spent
 abbrev pub RefusesSome : Limits → Kinds → Outcome → Type 0
@@ -63,10 +40,6 @@ abbrev pub EndsAs : Limits → Kinds → (sheet main out : List ℕ) → Outcome
 EndsAs limits pass sheet main out outcome =
     let run = run_on limits pass main true in
     UnlessFailed outcome ((out ≡ result_of run) × (outcome ≡ outcome_of sheet run.ending))
-
--- a run that is done has read the main document to its end
-abbrev pub ReadsAll : (main : List ℕ) → List Act → (ended : Bool) → Outcome → Type 0
-ReadsAll main acts ended outcome = outcome ≡ Done → (ended ≡ true) × (main_read acts ≡ length main)
 
 -- what was written of a main document's result, at each read and in the end
 pub record WritesResult (limits : Limits) (pass : Kinds) (sheet main : List ℕ) (acts : List Act) (ended : Bool) (out : List ℕ) (outcome : Outcome) : Type 0 where

@@ -14,11 +14,10 @@ use Rattle.xml_events.specs.Telling.{followed}
 use Rattle.xml_events.specs.Tree.{Future, Why}
 use Rattle.xml_events.specs.declared.event.Event.{Event}
 use Rattle.xml_events.specs.declared.event.Event.TheVariants as event
-use Rattle.stx_engine.specs.Meaning.{Ending, Complete, Refused, end_parts, start_parts}
-use Rattle.stx_engine.specs.Opens.{Open, first_name, names_in, opens_by}
-use Rattle.stx_engine.specs.Passed.{Passed, ending_by, passed, put, then_put}
-use Rattle.stx_engine.specs.Scope.{scope_within}
-use Rattle.stx_engine.specs.Copying.{Copying}
+use Rattle.stx_engine.specs.inside.Passed.{Complete, Ending, Passed, Refused, end_parts, ending_by, passed, put, start_parts, then_put}
+use Rattle.stx_engine.specs.inside.Opens.{Open, first_name, names_in, opens_by}
+use Rattle.stx_engine.specs.inside.Scope.{scope_within}
+use Rattle.stx_engine.specs.inside.Copying.{Copying}
 use Rattle.stx_engine.specs.declared.copier.Turn.{Turn}
 use Rattle.stx_engine.specs.declared.copier.Turn.TheVariants.{More, Over}
 use Rattle.sheet_model.specs.declared.pass.Kinds.{Kinds}

@@ -1,0 +1,404 @@
+-- What was done where the answer is said.
+use Rattle.std.proofs.Common.{◌≡◌, inl, inr, ℕ, ◌||◌, Bool, true, false, if◌then◌else◌, List, [], ◌++◌, length, map, take, Some, None, Ok, Err, refl, sym, ap, subst, ◌∙◌, append-nil}
+use Rattle.std.specs.Prelude.{encode_utf8_all, is_some}
+use Rattle.std.specs.List.{concat}
+use Rattle.std.proofs.lemmas.Bool.{false≢true}
+use Rattle.std.proofs.lemmas.Option.{none-some, same_Some}
+use Rattle.stx_base.specs.Course.{Begins, Ends, Over}
+use Rattle.xml_events.specs.Tree.{Forest}
+use Rattle.stx_host.specs.declared.act.Act.{Act}
+use Rattle.stx_host.specs.Before.{AtMainReads, Taken}
+use Rattle.stx_host.specs.Outside.{Outside}
+use Rattle.stx_host.specs.declared.act.Doc.{Doc}
+use Rattle.stx_host.proofs.Stretches.{nothing_between}
+use Rattle.instr_code.specs.Code.{code_of}
+use Rattle.sheet_files.specs.Acts.{opens}
+use Rattle.sheet_files.specs.Opened.{documents_told}
+use Rattle.sheet_files.specs.declared.load.Loaded.{Loaded}
+use Rattle.sheet_loader.specs.Values.{Reads}
+use Rattle.sheet_model.specs.declared.sheet.Sheet as model
+use Rattle.template_machine.specs.Ending.{Ending, Said}
+use Rattle.template_machine.specs.Meaning.{code, meaning}
+use Rattle.template_machine.specs.Ordinary.{IsOrdinary}
+use Rattle.fault_report.specs.declared.outcome.HostFault.TheVariants as fault
+use Rattle.fault_report.specs.declared.outcome.Outcome.{Outcome}
+use Rattle.fault_report.specs.declared.outcome.Outcome.TheVariants as outcome
+use Rattle.command_words.specs.Words.{command_of}
+use Rattle.command_words.specs.declared.command.Command.{Command}
+use Rattle.command_words.specs.declared.command.Mode.{Mode}
+use Rattle.command_words.specs.declared.command.Mode.TheVariants.{Run as AsksRun, Check, Sample}
+use Rattle.run_engine.specs.Does.{InOrder, InOrderAt, IsRunOf}
+use Rattle.run_engine.specs.Run.{IsAtStart, Run}
+use Rattle.sample_maker.specs.Document as sample
+use Rattle.sheet_runs.specs.Meant.{EndsAsMeant, EndsMeaning, IsDocument, IsOnOther, IsSettledOn, KeepsMeaning, RunsKeepMeaning, WritesMeaning, tree_of}
+use Rattle.sheet_runs.specs.Runs.{RunsSheet}
+use Rattle.sheet_runs.specs.Talk.{main_ends, main_in}
+use Rattle.sheet_runs.specs.Writing.{counted}
+use Rattle.sheet_runs.specs.declared.main_document.Main.{Main}
+use Rattle.sheet_runs.specs.declared.main_document.Main.TheVariants as main_of
+use Rattle.sheet_runs.specs.declared.run.End.{End}
+use Rattle.sheet_runs.specs.declared.run.End.TheVariants as ends
+use Rattle.sheet_runs.specs.declared.run.Ran.{Ran}
+use Rattle.stx_engine.specs.Answer.{Answer, Asked_for, answer, answered, asked, document_of, end_in, given_of, is_any_run, is_run, loaded, mode_answer, param_of, ran, ran_by, sheet_answer, words_answer, written}
+use Rattle.stx_engine.specs.Doing.{Checks, Does, DoesCommand, DoesWords, GoesOn, Lacks, Loads, Obeys, Passes, PassesOn, Refuses, RunsIt, RunsOnSample, Stops}
+use Rattle.stx_engine.specs.Plain.{is_ordinary, pass_of, takes_in_order}
+use Rattle.stx_engine.specs.RunEnd.{end_of_run, end_of_sample, on_sample, outcome_in, sample_of, summary_of}
+use Rattle.stx_engine.specs.Running.{Asks, FailedOnSheet, IfDocFailed, IsAnswered, OpensNames, RunsAnswered, UnlessFailed}
+use Rattle.stx_engine.specs.declared.run_end.RunEnd.{RunEnd}
+use Rattle.stx_engine.specs.declared.run_end.RunEnd.TheVariants.{Told}
+use Rattle.stx_engine.proofs.Driven.{opens-append}
+use Rattle.stx_engine.proofs.Idle.{no_main_reads}
+use Rattle.stx_engine.proofs.Prefixes.{begins_nothing}
+use Rattle.stx_engine.proofs.Meant.{HaveMeaning, MeaningIsOutcome, none-new}
+use Rattle.stx_engine.proofs.Ordered.{ordinary-so}
+use Rattle.stx_engine.proofs.Ran.{accepted-is, answer-is, answer-opened, answered-by, answered-stopped, asked-so, between_after, failed-on-sheet, main_after, never-on-doc, opens-all, opens-stopped, ran-opens, reads_after}
+
+no-check : is_any_run Check ≡ true → ⊥
+no-check e = false≢true e
+
+-- What is answered to a run
+
+if-said : (t : Bool) (k : Asked_for) (opened : List (List ℕ)) (main : List ℕ) (a : Answer) → takes_in_order k.sheet ≡ t → (if t then Some (ran k opened main) else None) ≡ Some a
+    → (takes_in_order k.sheet ≡ true) × (ran k opened main ≡ a)
+if-said true k opened main a t e = (t, same_Some (ran k opened main) a e)
+if-said false k opened main a t e = absurd (none-some a e)
+
+mode-said : (m : Mode) (k : Asked_for) (opened : List (List ℕ)) (main : List ℕ) (a : Answer) → is_any_run m ≡ true → mode_answer m k opened main ≡ Some a → (takes_in_order k.sheet ≡ true) × (ran k opened main ≡ a)
+mode-said Check k opened main a any e = absurd (no-check any)
+mode-said AsksRun k opened main a any e = if-said (takes_in_order k.sheet) k opened main a refl e
+mode-said (Sample records) k opened main a any e = if-said (takes_in_order k.sheet) k opened main a refl e
+
+-- a sheet that doesn't only pass documents through is an ordinary one
+more-ordinary : (sheet : model.Sheet) → pass_of sheet ≡ None → takes_in_order sheet ≡ true → IsOrdinary (code_of sheet)
+more-ordinary sheet none order = ordinary-so (code_of sheet) (sym (ap (λ o. is_some o || is_ordinary (code_of sheet)) none) ∙ order)
+
+-- an engine that begins with an ordinary sheet
+
+module _ (k : Asked_for) (start : Run) (b : IsAtStart k.sheet (map param_of k.command.params) k.command.limits start) where
+  begun-runs : IsRunOf (given_of k) start
+  begun-runs = record {
+    of = b.of;
+    limit = ap (λ (r : Run). r.output.limit) b.is;
+    bare = λ at. ap (λ (r : Run). r.output.left) b.is;
+    params = sym b.given;
+  }
+
+  begun-order : IsOrdinary (code_of k.sheet) → InOrder start
+  begun-order ordinary =
+      subst (λ s. InOrderAt s start.machine start.documents) (sym (ap (λ (r : Run). r.stage) b.is)) (subst IsOrdinary (sym b.of.code_is) ordinary)
+
+-- where nothing was written
+
+module _ (reads : Reads) (words : List (List ℕ)) (docs : List Doc) (main : List ℕ) (a : Answer) where
+  nothing-done : (o : Outside) (end : RunEnd) → UnlessFailed (outcome_in end) (IsAnswered [] [] end a) → UnlessFailed (outcome_in end) ([] ≡ a.opened) → IfDocFailed (outcome_in end) (FailedOnSheet reads words docs [])
+      → RunsAnswered reads words docs main o o end a
+  nothing-done o end ends opened failed = record {
+    acts = [];
+    out = [];
+    note = [];
+    between = nothing_between o;
+    asks = λ n is_read. absurd (false≢true is_read);
+    begins = (begins_nothing a.out, begins_nothing a.messages);
+    ends = ends;
+    opened = ([], begins_nothing a.opened, refl, opened);
+    failed = failed;
+  }
+
+-- What a command did
+
+module _ (law : RunsKeepMeaning) (have : HaveMeaning) (is-outcome : MeaningIsOutcome) (joins : (n : ℕ) → concat (sample.pieces n) ≡ sample.document n)
+    (reads : Reads) (words : List (List ℕ)) (docs : List Doc) (main : List ℕ) (c : Command) (asked_for : command_of words ≡ Some c) (old mid new : Outside)
+    (documents : documents_told old ≡ Some docs) (told : old.to_come 0 ≡ Some main) (x : Loaded) (l : Loads c old mid (Ok x)) (any : is_any_run c.mode ≡ true) where
+  abbrev k : Asked_for
+  k = record { command = c; sheet = x.sheet }
+
+  abbrev names : List (List ℕ)
+  names = (loaded reads docs c).opened
+
+  abbrev a : Answer
+  a = ran k names main
+
+  abbrev Answers : Outside → RunEnd → Type 0
+  Answers new end = RunsAnswered reads words docs main old new end a
+
+  asked-here : asked reads words docs ≡ Some k
+  asked-here = asked-so words c asked_for reads docs x.sheet (accepted-is words c asked_for old mid docs documents reads x l) any
+
+  opens-names : a.opened ≡ names
+  opens-names = ran-opens k names main
+
+  -- before a read
+  asks-so : is_run c.mode ≡ true → (t : Taken) → IsSettledOn (given_of k) (take t.main_read main) t → Asks reads words docs main t
+  asks-so plain t s = record { run = k; is = asked-here; on_main = plain; settled = s }
+
+  -- the files of the sheet alone are opened
+  opened-so : (acts : List Act) (o : Outcome) → opens acts ≡ [] → OpensNames docs a.opened o (l.acts ++ acts)
+  opened-so acts o none =
+      let t = opens-all words c asked_for old mid docs documents reads x l o in
+      subst (λ n. OpensNames docs n o (l.acts ++ acts)) (sym opens-names) (t.0, t.1, opens-append l.acts acts ∙ ap (λ n. opens l.acts ++ n) none ∙ append-nil (opens l.acts) ∙ t.2, t.3)
+
+  -- there was no memory to begin it
+  lacking : new ≡ mid → Answers new (Told outcome.Memory)
+  lacking is = subst (λ o. Answers o (Told outcome.Memory)) (sym is) (record {
+    acts = l.acts;
+    out = [];
+    note = [];
+    between = l.did.between;
+    asks = no_main_reads l.acts [] [] (Asks reads words docs main) l.did.no_main_read;
+    begins = (begins_nothing a.out, begins_nothing a.messages);
+    ends = tt;
+    opened = subst (λ n. OpensNames docs n outcome.Memory l.acts) (sym opens-names) (opens-all words c asked_for old mid docs documents reads x l outcome.Memory);
+    failed = tt;
+  })
+
+  -- the document was passed through
+  through : (end : RunEnd) → PassesOn k mid new end → Answers new end
+  through end d =
+      let w = d.writes main (λ plain. main_after words c asked_for old mid new x l main told) names in
+      record {
+        acts = l.acts ++ d.acts;
+        out = d.out;
+        note = [];
+        between = between_after words c asked_for old mid new x l d.acts d.out [] d.between;
+        asks = reads_after words c asked_for old mid new x l d.acts d.out [] (Asks reads words docs main) (by_mode (is_run c.mode) refl);
+        begins = (w.0, begins_nothing a.messages);
+        ends = w.1;
+        opened = opened-so d.acts (outcome_in end) d.opened;
+        failed = never-on-doc (outcome_in end) d.acts d.out d.failed (FailedOnSheet reads words docs (l.acts ++ d.acts));
+      } where
+        by_mode : (plain : Bool) → is_run c.mode ≡ plain → AtMainReads d.acts d.out [] (Asks reads words docs main)
+        by_mode true is = λ n is_read. asks-so is _ (d.reads main (main_after words c asked_for old mid new x l main told) n is_read)
+        by_mode false is = no_main_reads d.acts d.out [] (Asks reads words docs main) (d.no_main_read is)
+
+  -- it was run by the sheet
+  module _ (ordinary : IsOrdinary (code_of x.sheet)) (source : Main) (ran : Ran) (start : Run) (b : IsAtStart x.sheet (map param_of c.params) c.limits start) (r : RunsSheet start source mid new ran) (end : RunEnd)
+      (is-document : IsDocument source mid (document_of c.mode main)) (same-outcome : outcome_in end ≡ outcome_in (end_of_run ran.end)) where
+    h : KeepsMeaning (given_of k) source mid r.acts r.out r.note ran.end
+    h = law (given_of k) start source mid new ran (none-new k) b.is (begun-runs k start b) (begun-order k start b ordinary) r
+
+    abbrev tree : Forest
+    tree = tree_of (given_of k) (record { bytes = document_of c.mode main; ended = true })
+
+    meant-is : (said : List Said) (e : Ending) → Ends (code (given_of k)) (meaning (given_of k) tree) said e → a ≡ ran_by (given_of k) c.mode names (Over said e)
+    meant-is said e means = ap (ran_by (given_of k) c.mode names) ((is-outcome (given_of k) (none-new k) tree said e).0 means)
+
+    writes : WritesMeaning (given_of k) (document_of c.mode main) r.out r.note ran.end
+    writes = h.writes (document_of c.mode main) is-document
+
+    begins-so : Begins r.out a.out × Begins r.note a.messages
+    begins-so =
+        let m = have (given_of k) (none-new k) tree in
+        let w = writes.begins m.0 m.1 m.2 in
+        let is = meant-is m.0 m.1 m.2 in
+        (subst (λ (w : Answer). Begins r.out w.out) (sym is) w.0, subst (λ (w : Answer). Begins r.note w.messages) (sym is) w.1)
+
+    ends-so : (o : Outcome) → EndsMeaning (given_of k) (document_of c.mode main) r.out r.note o → end ≡ end_in c.mode r.out o → IsAnswered r.out r.note end a
+    ends-so o m is =
+        let w = meant-is m.said m.ending m.means in
+        record {
+          output = m.out ∙ sym (ap (λ (w : Answer). w.out) w);
+          messages = m.note ∙ sym (ap (λ (w : Answer). w.messages) w);
+          is = is ∙ ap (λ out. end_in c.mode out o) m.out ∙ ap (end_in c.mode (written m.said)) m.is ∙ sym (ap (λ (w : Answer). w.end) w);
+        }
+
+    ends-by : (e : End) → EndsAsMeant (given_of k) (document_of c.mode main) r.out r.note e → ((o : Outcome) → e ≡ ends.Told o → end ≡ end_in c.mode r.out o)
+        → UnlessFailed (outcome_in (end_of_run e)) (IsAnswered r.out r.note end a)
+    ends-by ends.Unnoted m is = tt
+    ends-by (ends.Told outcome.Memory) m is = tt
+    ends-by (ends.Told (outcome.Host file f offset)) m is = tt
+    ends-by (ends.Told outcome.Done) m is = ends-so outcome.Done m (is outcome.Done refl)
+    ends-by (ends.Told outcome.Usage) m is = ends-so outcome.Usage m (is outcome.Usage refl)
+    ends-by (ends.Told (outcome.Sheet why)) m is = ends-so (outcome.Sheet why) m (is (outcome.Sheet why) refl)
+    ends-by (ends.Told (outcome.Run file code offset)) m is = ends-so (outcome.Run file code offset) m (is (outcome.Run file code offset) refl)
+    ends-by (ends.Told (outcome.Xml file why)) m is = ends-so (outcome.Xml file why) m (is (outcome.Xml file why) refl)
+    ends-by (ends.Told (outcome.Fuel file offset)) m is = ends-so (outcome.Fuel file offset) m (is (outcome.Fuel file offset) refl)
+
+    -- no other document is opened, so that none fails
+    failed-by : (e : End) → (IsOnOther e → ⊥) → IfDocFailed (outcome_in (end_of_run e)) (FailedOnSheet reads words docs (l.acts ++ r.acts))
+    failed-by ends.Unnoted alone = tt
+    failed-by (ends.Told outcome.Memory) alone = tt
+    failed-by (ends.Told (outcome.Host file fault.Doc offset)) alone = absurd (alone tt)
+    failed-by (ends.Told (outcome.Host file fault.Read offset)) alone = tt
+    failed-by (ends.Told (outcome.Host file fault.Write offset)) alone = tt
+    failed-by (ends.Told outcome.Done) alone = tt
+    failed-by (ends.Told outcome.Usage) alone = tt
+    failed-by (ends.Told (outcome.Sheet why)) alone = tt
+    failed-by (ends.Told (outcome.Run file code offset)) alone = tt
+    failed-by (ends.Told (outcome.Xml file why)) alone = tt
+    failed-by (ends.Told (outcome.Fuel file offset)) alone = tt
+
+    run-so : AtMainReads r.acts r.out r.note (Asks reads words docs main) → ((o : Outcome) → ran.end ≡ ends.Told o → end ≡ end_in c.mode r.out o) → Answers new end
+    run-so asks is = record {
+      acts = l.acts ++ r.acts;
+      out = r.out;
+      note = r.note;
+      between = between_after words c asked_for old mid new x l r.acts r.out r.note r.between;
+      asks = reads_after words c asked_for old mid new x l r.acts r.out r.note (Asks reads words docs main) asks;
+      begins = begins-so;
+      ends = subst (λ o. UnlessFailed o (IsAnswered r.out r.note end a)) (sym same-outcome) (ends-by ran.end writes.ends is);
+      opened = opened-so r.acts (outcome_in end) h.opened;
+      failed = subst (λ o. IfDocFailed o (FailedOnSheet reads words docs (l.acts ++ r.acts))) (sym same-outcome) (failed-by ran.end h.alone);
+    }
+
+  -- the main document was read
+  run-main : IsOrdinary (code_of x.sheet) → (ran : Ran) (start : Run) (b : IsAtStart x.sheet (map param_of c.params) c.limits start) → c.mode ≡ AsksRun → RunsSheet start main_of.Host mid new ran → Answers new (end_of_run ran.end)
+  run-main ordinary ran start b plain r =
+      let there = main_after words c asked_for old mid new x l main told in
+      run-so ordinary main_of.Host ran start b r (end_of_run ran.end) (there ∙ ap Some (ap (λ m. document_of m main) (sym plain))) refl
+      (λ n is_read. asks-so (ap is_run plain) _ ((law (given_of k) start main_of.Host mid new ran (none-new k) b.is (begun-runs k start b) (begun-order k start b ordinary) r).reads main there n is_read))
+      (λ o is. ap end_of_run is ∙ sym (ap (λ m. end_in m r.out o) plain))
+
+  -- the sample was
+  sample-outcome : (records : ℕ) (ran : Ran) (e : End) → outcome_in (end_of_sample records ran e) ≡ outcome_in (end_of_run e)
+  sample-outcome records ran ends.Unnoted = refl
+  sample-outcome records ran (ends.Told outcome.Done) = refl
+  sample-outcome records ran (ends.Told outcome.Memory) = refl
+  sample-outcome records ran (ends.Told (outcome.Host file f offset)) = refl
+  sample-outcome records ran (ends.Told outcome.Usage) = refl
+  sample-outcome records ran (ends.Told (outcome.Sheet why)) = refl
+  sample-outcome records ran (ends.Told (outcome.Run file code offset)) = refl
+  sample-outcome records ran (ends.Told (outcome.Xml file why)) = refl
+  sample-outcome records ran (ends.Told (outcome.Fuel file offset)) = refl
+
+  sample-end : (records : ℕ) (ran : Ran) (out : List ℕ) (o : Outcome) → ran.output ≡ counted (length out) → (o ≡ outcome.Done → ran.input ≡ counted (length (sample_of records)))
+      → end_of_sample records ran (ends.Told o) ≡ on_sample (summary_of records out) o
+  sample-end records ran out outcome.Done output input = ap (λ n. on_sample (record { records = records; input = n; output = ran.output }) outcome.Done) (input refl) ∙ ap (λ n. on_sample (record { records = records; input = counted (length (sample_of records)); output = n }) outcome.Done) output
+  sample-end records ran out outcome.Memory output input = refl
+  sample-end records ran out (outcome.Host file f offset) output input = refl
+  sample-end records ran out outcome.Usage output input = refl
+  sample-end records ran out (outcome.Sheet why) output input = refl
+  sample-end records ran out (outcome.Run file code offset) output input = refl
+  sample-end records ran out (outcome.Xml file why) output input = refl
+  sample-end records ran out (outcome.Fuel file offset) output input = refl
+
+  run-sample : IsOrdinary (code_of x.sheet) → (records : ℕ) (ran : Ran) (start : Run) (b : IsAtStart x.sheet (map param_of c.params) c.limits start) → c.mode ≡ Sample records → RunsSheet start (main_of.Sample (sample.pieces records)) mid new ran
+      → Answers new (end_of_sample records ran ran.end)
+  run-sample ordinary records ran start b plain r =
+      let pieces : List (List ℕ) = sample.pieces records in
+      let bytes : sample_of records ≡ encode_utf8_all (concat (sample.pieces records)) = ap encode_utf8_all (sym (joins records)) in
+      run-so ordinary (main_of.Sample (sample.pieces records)) ran start b r (end_of_sample records ran ran.end) (ap (λ m. document_of m main) plain ∙ bytes) (sample-outcome records ran ran.end)
+      (no_main_reads r.acts r.out r.note (Asks reads words docs main) r.hands.0)
+      (λ o is.
+      ap (end_of_sample records ran) is
+      ∙ sample-end records ran r.out o r.output
+      (λ done.
+      let left = r.hands.1 in
+      let ended : main_ends start r.talk ≡ true = r.whole (is ∙ ap ends.Told done) in
+      r.input ∙ ap (λ (l : List ℕ). counted (length l)) (sym (append-nil (main_in start r.talk)) ∙ ap (λ (p : List (List ℕ)). main_in start r.talk ++ encode_utf8_all (concat p)) (sym (left.2 ended)) ∙ left.1 ∙ sym bytes))
+      ∙ sym (ap (λ m. end_in m r.out o) plain))
+
+-- What was done with words
+
+module _ (law : RunsKeepMeaning) (have : HaveMeaning) (is-outcome : MeaningIsOutcome) (joins : (n : ℕ) → concat (sample.pieces n) ≡ sample.document n)
+    (reads : Reads) (words : List (List ℕ)) (docs : List Doc) (main : List ℕ) (a : Answer) (said : answer reads words docs main ≡ Some a) (old : Outside) (documents : documents_told old ≡ Some docs) (told : old.to_come 0 ≡ Some main) where
+  abbrev Ends_as_said : Outside → RunEnd → Type 0
+  Ends_as_said new end = RunsAnswered reads words docs main old new end a
+
+  -- they were refused
+  refused : command_of words ≡ None → Ends_as_said old (Told outcome.Usage)
+  refused none =
+      let is : answered outcome.Usage [] ≡ a = same_Some (answered outcome.Usage []) a (sym (ap (λ c. words_answer reads c docs main) none) ∙ said) in
+      nothing-done reads words docs main a old (Told outcome.Usage) (answered-by outcome.Usage [] a is) (ap (λ x. x.opened) is) tt
+
+  module _ (c : Command) (asked_for : command_of words ≡ Some c) where
+    abbrev files : List (List ℕ)
+    files = (loaded reads docs c).opened
+
+    names-is : files ≡ a.opened
+    names-is = answer-opened words c asked_for reads docs main a said
+
+    by-files : (o : Outcome) (acts : List Act) → OpensNames docs files o acts → OpensNames docs a.opened o acts
+    by-files o acts = subst (λ n. OpensNames docs n o acts) names-is
+
+    -- the sheet was refused, or it couldn't be read
+    stopped : (new : Outside) (o : Outcome) (l : Loads c old new (Err o)) → Ends_as_said new (Told o)
+    stopped new o l = record {
+      acts = l.acts;
+      out = [];
+      note = [];
+      between = l.did.between;
+      asks = no_main_reads l.acts [] [] (Asks reads words docs main) l.did.no_main_read;
+      begins = (begins_nothing a.out, begins_nothing a.messages);
+      ends = answered-stopped words c asked_for old new o l docs documents reads main a said;
+      opened = by-files o l.acts (opens-stopped words c asked_for old new o l docs documents reads);
+      failed = failed-on-sheet words c asked_for old new o l docs documents reads;
+    }
+
+    module _ (mid new : Outside) (x : Loaded) (l : Loads c old mid (Ok x)) where
+      abbrev task : Asked_for
+      task = record { command = c; sheet = x.sheet }
+
+      said-of : mode_answer c.mode task files main ≡ Some a
+      said-of =
+          sym (ap (λ r. sheet_answer c files r main) (accepted-is words c asked_for old mid docs documents reads x l)) ∙ sym (answer-is words c asked_for reads docs main) ∙ said
+
+      -- the sheet alone was asked for
+      checked : c.mode ≡ Check → Ends_as_said mid (Told outcome.Done)
+      checked alone =
+          let is : answered outcome.Done files ≡ a = same_Some (answered outcome.Done files) a (sym (ap (λ m. mode_answer m task files main) alone) ∙ said-of) in
+          record {
+            acts = l.acts;
+            out = [];
+            note = [];
+            between = l.did.between;
+            asks = no_main_reads l.acts [] [] (Asks reads words docs main) l.did.no_main_read;
+            begins = (begins_nothing a.out, begins_nothing a.messages);
+            ends = answered-by outcome.Done files a is;
+            opened = by-files outcome.Done l.acts (opens-all words c asked_for old mid docs documents reads x l outcome.Done);
+            failed = tt;
+          }
+
+      -- a run was
+      module _ (any : is_any_run c.mode ≡ true) where
+        so : (takes_in_order x.sheet ≡ true) × (ran task files main ≡ a)
+        so = mode-said c.mode task files main a any said-of
+
+        as-said : (end : RunEnd) → RunsAnswered reads words docs main old new end (ran task files main) → Ends_as_said new end
+        as-said end = subst (RunsAnswered reads words docs main old new end) so.1
+
+      run-any : (mode : Mode) → c.mode ≡ mode → is_any_run mode ≡ true → is_any_run c.mode ≡ true
+      run-any mode is any = ap is_any_run is ∙ any
+
+      did : (end : RunEnd) → Does c x.sheet mid new end → Ends_as_said new end
+      did end (Checks alone same is) = subst (λ o. Ends_as_said o end) (sym same) (subst (Ends_as_said mid) (sym is) (checked alone))
+      did end (Passes any some d) = as-said any end (through law have is-outcome joins reads words docs main c asked_for old mid new documents told x l any end d)
+      did end (RunsIt plain none came (inl r) is) =
+          let any = run-any AsksRun plain refl in
+          as-said any end (subst (λ e. RunsAnswered reads words docs main old new e (ran task files main)) (sym is)
+          (run-main law have is-outcome joins reads words docs main c asked_for old mid new documents told x l any (more-ordinary x.sheet none (so any).0) came r.0 r.1.0 plain r.1.1))
+      did end (RunsIt plain none came (inr lacks) is) =
+          let any = run-any AsksRun plain refl in
+          as-said any end (subst (λ e. RunsAnswered reads words docs main old new e (ran task files main)) (sym (is ∙ ap end_of_run lacks.1))
+          (lacking law have is-outcome joins reads words docs main c asked_for old mid new documents told x l any lacks.0))
+      did end (RunsOnSample records plain none came (inl r) is) =
+          let any = run-any (Sample records) plain refl in
+          as-said any end (subst (λ e. RunsAnswered reads words docs main old new e (ran task files main)) (sym is)
+          (run-sample law have is-outcome joins reads words docs main c asked_for old mid new documents told x l any (more-ordinary x.sheet none (so any).0) records came r.0 r.1.0 plain r.1.1))
+      did end (RunsOnSample records plain none came (inr lacks) is) =
+          let any = run-any (Sample records) plain refl in
+          as-said any end (subst (λ e. RunsAnswered reads words docs main old new e (ran task files main)) (sym (is ∙ ap (end_of_sample records came) lacks.1))
+          (lacking law have is-outcome joins reads words docs main c asked_for old mid new documents told x l any lacks.0))
+
+    commanded : (new : Outside) (end : RunEnd) → DoesCommand c old new end → Ends_as_said new end
+    commanded new end (Stops o l is) = subst (Ends_as_said new) (sym is) (stopped new o l)
+    commanded new end (GoesOn mid x l does) = did mid new x l end does
+
+  pub answered-words : (new : Outside) (end : RunEnd) → DoesWords words old new end → Ends_as_said new end
+  answered-words new end (Refuses none same is) = subst (λ o. Ends_as_said o end) (sym same) (subst (Ends_as_said old) (sym is) (refused none))
+  answered-words new end (Lacks same is) = subst (λ o. Ends_as_said o end) (sym same) (subst (Ends_as_said old) (sym is) (nothing-done reads words docs main a old (Told outcome.Memory) tt tt tt))
+  answered-words new end (Obeys c is does) = commanded c is new end does
+
+-- want of memory may come at its end
+pub answered-lacking : (reads : Reads) (words : List (List ℕ)) (docs : List Doc) (main : List ℕ) (a : Answer) (old new : Outside) (end : RunEnd) → RunsAnswered reads words docs main old new end a
+    → RunsAnswered reads words docs main old new (Told outcome.Memory) a
+answered-lacking reads words docs main a old new end r = record {
+  acts = r.acts;
+  out = r.out;
+  note = r.note;
+  between = r.between;
+  asks = r.asks;
+  begins = r.begins;
+  ends = tt;
+  opened = (r.opened.0, r.opened.1, r.opened.2, tt);
+  failed = tt;
+}

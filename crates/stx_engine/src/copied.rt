@@ -1,0 +1,42 @@
+//! Laws of what passing a document through gives, as contracts.
+
+ghost use Rattle.stx_engine.specs.inside.Accepted.{DocumentsAreTaken, DocumentsNest};
+ghost use Rattle.stx_engine.specs.inside.Ending.{RunIsOpen, RunIsOver};
+ghost use Rattle.stx_engine.specs.inside.Growing.{BytesStay, RunStays};
+ghost use Rattle.stx_engine.specs.inside.Laws.{PassesAsMeant};
+
+use template_machine::law as machine_law;
+
+/// It is what the sheet means.
+pub fn meant()
+    ensures { PassesAsMeant }
+{
+    machine_law::without_templates();
+}
+
+/// A result takes all parts of a document, and no end tag in it lacks its start tag.
+pub fn documents()
+    ensures taken { DocumentsAreTaken }
+    ensures nested { DocumentsNest }
+{
+    xml_tokens::laws::said();
+    result_writer::law::prefixes_are_names();
+}
+
+/// What a document's first bytes settle stays so, whatever bytes follow.
+pub fn settled_stays()
+    // The output begins with what is settled.
+    ensures output { BytesStay }
+    // A run that needs no more of the document is over.
+    ensures over { RunStays }
+{
+    xml_events::laws::growing();
+}
+
+/// Where a document has ended and where it hasn't.
+pub fn documents_end()
+    ensures whole { RunIsOver }
+    ensures beginning { RunIsOpen }
+{
+    xml_events::laws::ending();
+}
