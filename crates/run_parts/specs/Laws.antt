@@ -1,17 +1,18 @@
 -- What laws of the definitions say.
-use Rattle.std.specs.Prelude.{◌≡◌, true, List, None}
+use Rattle.std.specs.Prelude.{◌≡◌, Bool, true, List, None}
 use Rattle.std.specs.List.{list_all}
 use Rattle.stx_base.specs.Course.{Ends}
+use Rattle.stx_base.specs.declared.name.Binding.{Binding}
 use Rattle.instr_code.specs.Code.{code_of}
-use Rattle.result_writer.specs.Target.{Left, first_fault, nothing, text_from}
-use Rattle.template_machine.specs.Ending.{Ending, Said}
+use Rattle.result_writer.specs.Target.{Left, first_fault, nothing, text_from, whole_fault}
+use Rattle.template_machine.specs.Ending.{Done, Ending, Said}
 use Rattle.template_machine.specs.Job.{Given}
 use Rattle.template_machine.specs.Meaning.{code, meaning}
 use Rattle.template_machine.specs.Ordinary.{IsOrdinary}
 use Rattle.template_machine.specs.Written.{settled_by}
 use Rattle.xml_events.specs.Tree.{Forest}
 use Rattle.run_parts.specs.Parts.{parts_of}
-use Rattle.run_parts.specs.Sound.{declares_names, holds_sections, is_sound_part}
+use Rattle.run_parts.specs.Sound.{declares, declares_names, holds_sections, is_part_of, is_sound_part}
 
 -- The bytes of what is said are those of its parts.
 abbrev pub SettlesParts : Type 0
@@ -34,3 +35,20 @@ PutsSound =
     → holds_sections tree ≡ true
     → Ends (code given) (meaning given tree) said e
     → list_all is_sound_part (parts_of said) ≡ true
+
+-- Whichever bindings are good: if the document declares good ones alone, those are in force in the parts.
+abbrev pub PutsGood : Type 0
+PutsGood =
+    (good : Binding → Bool) (given : Given) (tree : Forest) (said : List Said) (e : Ending)
+    → IsOrdinary (code_of given.sheet)
+    → declares good tree ≡ true
+    → holds_sections tree ≡ true
+    → Ends (code given) (meaning given tree) said e
+    → list_all (is_part_of good) (parts_of said) ≡ true
+
+-- A run that is done has put a whole result, whatever the sheet does.
+abbrev pub EndsWhole : Type 0
+EndsWhole =
+    (given : Given) (tree : Forest) (said : List Said)
+    → Ends (code given) (meaning given tree) said Done
+    → whole_fault given.limits.elements (parts_of said) ≡ None

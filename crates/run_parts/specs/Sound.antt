@@ -2,24 +2,35 @@
 use Rattle.std.specs.Prelude.{Bool, true, ◌&&◌}
 use Rattle.std.specs.List.{list_all}
 use Rattle.stx_base.specs.Character.{is_cdata_text}
+use Rattle.stx_base.specs.declared.name.Binding.{Binding}
 use Rattle.stx_base.specs.declared.part.Part.{Part}
 use Rattle.stx_base.specs.declared.part.Part.TheVariants as part
 use Rattle.result_writer.specs.Allowed.{is_prefix}
 use Rattle.xml_events.specs.Tree.{Leaf, CData, Forest, End, Cut, Single, Nested}
 
--- what no fault of a part speaks of: the prefixes that are in force where an element comes from are names, or none, and a
--- CDATA section may have its text
-abbrev pub is_sound_part : Part → Bool
-is_sound_part (part.Start name scope) = list_all (λ b. is_prefix b.prefix) scope
-is_sound_part (part.CData text) = is_cdata_text text
-is_sound_part p = true
+-- what no fault of a part speaks of: the bindings that are in force where an element comes from are good, and a CDATA section may have
+-- its text
+abbrev pub is_part_of : (good : Binding → Bool) → Part → Bool
+is_part_of good (part.Start name scope) = list_all good scope
+is_part_of good (part.CData text) = is_cdata_text text
+is_part_of good p = true
 
--- all prefixes that are declared are names, or none
+-- all bindings that are declared are good
+abbrev pub declares : (good : Binding → Bool) → Forest → Bool
+declares good (End m offset) = true
+declares good (Cut why) = true
+declares good (Single m leaf next) = declares good next
+declares good (Nested m e kids next) = list_all good e.decls && (declares good kids && declares good next)
+
+-- a binding of a name, or of none
+abbrev pub is_named : Binding → Bool
+is_named b = is_prefix b.prefix
+
+abbrev pub is_sound_part : Part → Bool
+is_sound_part = is_part_of is_named
+
 abbrev pub declares_names : Forest → Bool
-declares_names (End m offset) = true
-declares_names (Cut why) = true
-declares_names (Single m leaf next) = declares_names next
-declares_names (Nested m e kids next) = list_all (λ b. is_prefix b.prefix) e.decls && (declares_names kids && declares_names next)
+declares_names = declares is_named
 
 -- a leaf that is a CDATA section has a text that one may have
 abbrev pub is_sound_leaf : Leaf → Bool

@@ -1,5 +1,5 @@
 //! Laws of the definitions, as contracts.
-ghost use Rattle.run_parts.specs.Laws.{PutsAccepted, PutsSound, SettlesParts};
+ghost use Rattle.run_parts.specs.Laws.{EndsWhole, PutsAccepted, PutsGood, PutsSound, SettlesParts};
 
 use sheet_model::law as sheet_law;
 
@@ -9,6 +9,8 @@ pub fn accepted()
     ensures settled { SettlesParts }
     // A result accepts them.
     ensures accepted { PutsAccepted }
+    // Where the run is done they are a whole one.
+    ensures whole { EndsWhole }
 {
     sheet_law::order();
 }
@@ -16,6 +18,13 @@ pub fn accepted()
 /// The parts that the run of an ordinary sheet puts: prefixes that are in force are names, or none, and each CDATA section may have its text.
 pub fn sound()
     ensures { PutsSound }
+{
+    sheet_law::order();
+}
+
+/// Whatever is known of all bindings that a document declares is known of those in force where the run of an ordinary sheet puts elements.
+pub fn in_force()
+    ensures { PutsGood }
 {
     sheet_law::order();
 }
