@@ -4,3 +4,4 @@ mod Ordered
 mod Walk
 mod Acts
 mod Kept
+pub mod Read

@@ -2,8 +2,10 @@
 use Rattle.std.specs.Prelude.{◌≡◌, Bool, true, List, None}
 use Rattle.std.specs.List.{list_all}
 use Rattle.stx_base.specs.Course.{Ends}
+use Rattle.stx_base.specs.declared.limits.Limits.{Limits}
 use Rattle.stx_base.specs.declared.name.Binding.{Binding}
 use Rattle.instr_code.specs.Code.{code_of}
+use Rattle.read_back.specs.Sound.{is_sound_binding}
 use Rattle.result_writer.specs.Target.{Left, first_fault, nothing, text_from, whole_fault}
 use Rattle.template_machine.specs.Ending.{Done, Ending, Said}
 use Rattle.template_machine.specs.Job.{Given}
@@ -11,8 +13,9 @@ use Rattle.template_machine.specs.Meaning.{code, meaning}
 use Rattle.template_machine.specs.Ordinary.{IsOrdinary}
 use Rattle.template_machine.specs.Written.{settled_by}
 use Rattle.xml_events.specs.Tree.{Forest}
+use Rattle.run_parts.specs.Back.{IsReadBack}
 use Rattle.run_parts.specs.Parts.{parts_of}
-use Rattle.run_parts.specs.Sound.{declares, declares_names, holds_sections, is_part_of, is_sound_part}
+use Rattle.run_parts.specs.Sound.{declares, declares_names, has_char_uris, holds_sections, is_part_of, is_sound_part}
 
 -- The bytes of what is said are those of its parts.
 abbrev pub SettlesParts : Type 0
@@ -52,3 +55,15 @@ EndsWhole =
     (given : Given) (tree : Forest) (said : List Said)
     → Ends (code given) (meaning given tree) said Done
     → whole_fault given.limits.elements (parts_of said) ≡ None
+
+-- Where the run of an ordinary sheet is done on a document of sound declarations and sections, and all URIs of its parts are Chars, what it wrote
+-- is read back as the nodes of these parts.
+abbrev pub ReadsRuns : Type 0
+ReadsRuns =
+    (limits : Limits) (cdata : Bool) (given : Given) (tree : Forest) (said : List Said)
+    → IsOrdinary (code_of given.sheet)
+    → declares is_sound_binding tree ≡ true
+    → holds_sections tree ≡ true
+    → Ends (code given) (meaning given tree) said Done
+    → list_all has_char_uris (parts_of said) ≡ true
+    → IsReadBack limits cdata given.limits.elements said

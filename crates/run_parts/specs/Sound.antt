@@ -5,7 +5,7 @@ use Rattle.stx_base.specs.Character.{is_cdata_text}
 use Rattle.stx_base.specs.declared.name.Binding.{Binding}
 use Rattle.stx_base.specs.declared.part.Part.{Part}
 use Rattle.stx_base.specs.declared.part.Part.TheVariants as part
-use Rattle.result_writer.specs.Allowed.{is_prefix}
+use Rattle.result_writer.specs.Allowed.{are_chars, is_prefix}
 use Rattle.xml_events.specs.Tree.{Leaf, CData, Forest, End, Cut, Single, Nested}
 
 -- what no fault of a part speaks of: the bindings that are in force where an element comes from are good, and a CDATA section may have
@@ -31,6 +31,12 @@ is_sound_part = is_part_of is_named
 
 abbrev pub declares_names : Forest → Bool
 declares_names = declares is_named
+
+-- the URIs of its name are Chars (XML 1.0, 2.2), which no fault of a part speaks of either
+abbrev pub has_char_uris : Part → Bool
+has_char_uris (part.Start name scope) = are_chars name.uri
+has_char_uris (part.Attribute name value) = are_chars name.uri
+has_char_uris p = true
 
 -- a leaf that is a CDATA section has a text that one may have
 abbrev pub is_sound_leaf : Leaf → Bool

@@ -1,6 +1,7 @@
 //! Laws of the definitions, as contracts.
-ghost use Rattle.run_parts.specs.Laws.{EndsWhole, PutsAccepted, PutsGood, PutsSound, SettlesParts};
+ghost use Rattle.run_parts.specs.Laws.{EndsWhole, PutsAccepted, PutsGood, PutsSound, ReadsRuns, SettlesParts};
 
+use read_back::law as read_law;
 use sheet_model::law as sheet_law;
 
 /// The parts that a run puts, whatever the sheet does.
@@ -27,4 +28,13 @@ pub fn in_force()
     ensures { PutsGood }
 {
     sheet_law::order();
+}
+
+/// What the run of an ordinary sheet wrote is read back as the nodes of its parts, where the run is done.
+pub fn read()
+    ensures { ReadsRuns }
+{
+    accepted();
+    in_force();
+    read_law::results();
 }
