@@ -13,17 +13,17 @@ use Rattle.result_writer.specs.Table.{has_prefix}
 use Rattle.result_writer.specs.Target.{Left, fault, first_fault, next, nothing, or_else}
 use Rattle.result_writer.specs.declared.fault.ResultFault.{ResultFault}
 use Rattle.xml_events.specs.Tree.{Why, Leaf, Chars, CData, Comment, Pi, Forest, End, Cut, Single, Nested, Stage, Waiting, Ready, Entered}
-use Rattle.run_parts.specs.Sound.{declares_names, is_sound_part}
-use Rattle.run_parts.proofs.Sound.{filter_named, named, order_named}
+use Rattle.run_parts.specs.Sound.{declares_names, is_named, is_sound_part}
+use Rattle.run_parts.proofs.Sound.{filter_good, order_good}
 use Rattle.stx_engine.specs.inside.Accepted.{RunsNest}
 use Rattle.stx_engine.specs.inside.Passed.{Passed, attribute_part, copied_attrs, end_parts, leaf_parts, once_ready, parts_if, passed, put, run_from, start_parts, then_put, unless_refused, unless_stopped, with_first}
 use Rattle.stx_engine.specs.inside.Scope.{scope_within}
 use Rattle.sheet_model.specs.declared.pass.Kinds.{Kinds}
 use Rattle.stx_engine.proofs.Parts.{parts-nest}
 
-within_named : (scope decls : List Binding) → list_all named scope ≡ true → list_all named decls ≡ true → list_all named (scope_within scope decls) ≡ true
+within_named : (scope decls : List Binding) → list_all is_named scope ≡ true → list_all is_named decls ≡ true → list_all is_named (scope_within scope decls) ≡ true
 within_named scope decls h k =
-    order_named (filter (λ b. not (has_prefix decls b.prefix)) scope) (filter (λ b. not (is_empty b.uri)) decls) (filter_named _ scope h) (filter_named _ decls k)
+    order_good is_named (filter (λ b. not (has_prefix decls b.prefix)) scope) (filter (λ b. not (is_empty b.uri)) decls) (filter_good is_named _ scope h) (filter_good is_named _ decls k)
 
 -- Parts
 
@@ -42,7 +42,7 @@ all-if : (t : Bool) (ps : List Part) → all ps → all (parts_if t ps)
 all-if true ps h = h
 all-if false ps h = refl
 
-all-start : (p : Kinds) (scope : List Binding) (name : Name) (attrs : List Attr) → list_all named scope ≡ true → all (start_parts p scope name attrs)
+all-start : (p : Kinds) (scope : List Binding) (name : Name) (attrs : List Attr) → list_all is_named scope ≡ true → all (start_parts p scope name attrs)
 all-start p scope name attrs h = all-if p.elements _ (and_from _ _ h (all-attributes (copied_attrs p attrs)))
 
 all-end : (p : Kinds) (name : Name) → all (end_parts p name)
@@ -68,12 +68,12 @@ all-once Waiting (Nested m e kids next) p h = h
 all-once (Ready first) kids p h = h
 all-once (Entered first) kids p h = h
 
-all-passed : (p : Kinds) (scope : List Binding) (f : Forest) → list_all named scope ≡ true → declares_names f ≡ true → all (passed p scope f).parts
+all-passed : (p : Kinds) (scope : List Binding) (f : Forest) → list_all is_named scope ≡ true → declares_names f ≡ true → all (passed p scope f).parts
 all-passed p scope (End m offset) h k = refl
 all-passed p scope (Cut why) h k = refl
 all-passed p scope (Single m leaf next) h k = all-append (leaf_parts p leaf) (passed p scope next).parts (all-leaf p leaf) (all-passed p scope next h k)
 all-passed p scope (Nested m e kids next) h k =
-    let b = and_parts (list_all named e.decls) (declares_names kids && declares_names next) k in
+    let b = and_parts (list_all is_named e.decls) (declares_names kids && declares_names next) k in
     let c = and_parts (declares_names kids) (declares_names next) b.1 in
     let inside = scope_within scope e.decls in
     let w = within_named scope e.decls h b.0 in

@@ -38,3 +38,4 @@ pub mod Untold
 pub mod Giving
 pub mod OldSheets
 pub mod OldRuns
+pub mod Back

@@ -12,6 +12,7 @@ use Rattle.std.proofs.lemmas.Str.{chars-encodes, chars-IsAscii, encodes-IsAscii}
 use Rattle.std.proofs.Math.Utf8.{scalars}
 use Rattle.stx_base.specs.Character.{is_char, is_name_char, is_name_start, is_ncname, is_ncname_char}
 use Rattle.stx_base.specs.declared.name.Binding.{Binding}
+use Rattle.read_back.specs.Sound.{is_sound_binding}
 use Rattle.result_writer.specs.Allowed as writer
 use Rattle.result_writer.specs.Allowed.{is_good_attribute, is_good_name, is_prefix, is_word}
 use Rattle.xml_tokens.specs.declared.lexeme.RawAttr.{RawAttr}
@@ -350,9 +351,11 @@ tag-good path name attrs good v h =
       path_good = within;
     }
 
--- the declared prefixes are names
-pub declared-prefixes : (bs : List Binding) → list_all is_good_declaration bs ≡ true → list_all (λ (b : Binding). is_prefix b.prefix) bs ≡ true
-declared-prefixes [] h = refl
-declared-prefixes (b ∷ bs) h =
+-- what is declared is what a document may declare
+pub declared-soundly : (bs : List Binding) → list_all is_good_declaration bs ≡ true → list_all is_sound_binding bs ≡ true
+declared-soundly [] h = refl
+declared-soundly (b ∷ bs) h =
     let both = and_parts (is_good_declaration b) (list_all is_good_declaration bs) h in
-    and_from _ _ (and_parts (is_prefix b.prefix) (list_all is_char b.uri) (and_parts (is_good_binding b.prefix b.uri) (is_prefix b.prefix && list_all is_char b.uri) both.0).1).0 (declared-prefixes bs both.1)
+    let good = and_parts (is_good_binding b.prefix b.uri) (is_prefix b.prefix && list_all is_char b.uri) both.0 in
+    let parts = and_parts (is_prefix b.prefix) (list_all is_char b.uri) good.1 in
+    and_from _ _ (and_from _ _ (and_from _ _ parts.0 parts.1) good.0) (declared-soundly bs both.1)

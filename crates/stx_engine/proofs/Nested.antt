@@ -51,7 +51,7 @@ sound-leaf (CData offset text) h = h
 sound-leaf (Comment offset text) h = refl
 sound-leaf (Pi offset target text) h = refl
 
-sections-hold : (depth n : ℕ) (f : Forest) → FitsWithin depth n f → holds_sections f ≡ true
+pub sections-hold : (depth n : ℕ) (f : Forest) → FitsWithin depth n f → holds_sections f ≡ true
 sections-hold depth n (End m offset) h = refl
 sections-hold depth n (Cut why) h = refl
 sections-hold depth n (Single m leaf next) h = and_from _ _ (sound-leaf leaf h.0) (sections-hold depth n next h.1)

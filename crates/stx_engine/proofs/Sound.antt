@@ -19,23 +19,24 @@ use Rattle.xml_tokens.specs.declared.lexeme.Lexeme.{Lexeme}
 use Rattle.xml_tokens.specs.declared.lexeme.RawAttr.{RawAttr}
 use Rattle.xml_tokens.specs.declared.lexeme.Step.{Step}
 use Rattle.xml_tokens.specs.declared.lexeme.Step.TheVariants as step
-use Rattle.xml_names.specs.Tag.{name_fault, resolved}
+use Rattle.xml_names.specs.Tag.{is_good_binding, name_fault, resolved}
 use Rattle.xml_events.specs.Before.{Before, behind_text, without_text, before_next, fault_of, is_complete, is_full, is_innermost, is_inside, is_misplaced, outer_names, starting, unfit}
 use Rattle.xml_events.specs.Document.{Closes, Item, Opens, Says, Stands, at_end, completes, cuts, doc, doc_for, element_at, inner, items_of, judged, lists_of, outer, reading, readied, stops, stripped, text_before, text_items, with_item, with_items}
 use Rattle.xml_events.specs.Lexed.{answered, lexed_from, lexed_within, unread}
 use Rattle.xml_events.specs.Tree.{Why, Need, Bad, Mark, Fresh, Leaf, Chars, CData, Comment, Pi, Element, Forest, End, Cut, Single, Nested, Future}
-use Rattle.run_parts.specs.Sound.{declares_names}
+use Rattle.read_back.specs.Sound.{is_sound_binding}
+use Rattle.run_parts.specs.Sound.{declares, declares_names, is_named}
 use Rattle.stx_engine.specs.inside.Accepted.{DocumentsAreTaken, DocumentsNest, is_good, is_good_element, is_good_leaf}
 use Rattle.xml_tokens.specs.Judged.{is_target}
 use Rattle.xml_tokens.specs.Sayable.{LexemesAreSayable, is_comment, is_data, is_literal, is_sayable}
 use Rattle.stx_engine.proofs.Accepted.{takes-good}
 use Rattle.stx_engine.proofs.Declared.{runs-nest}
-use Rattle.stx_engine.proofs.Named.{declared-prefixes, is_good_path, tag-good, take-good}
+use Rattle.stx_engine.proofs.Named.{declared-soundly, is_good_path, tag-good, take-good}
 use Rattle.stx_engine.proofs.SayableParts.{comment-good, data-good, literal-chars, target-good}
 
 -- a list whose nodes are good, in which at most so many elements stand one within another
 abbrev Sound : (room : ℕ) → Forest → Type 0
-Sound room f = (is_good room f ≡ true) × (declares_names f ≡ true)
+Sound room f = (is_good room f ≡ true) × (declares is_sound_binding f ≡ true)
 
 -- the same of open lists, where that is the room in the innermost
 abbrev AreSound : (room : ℕ) → Future → Type 0
@@ -92,7 +93,7 @@ stands-sound room leaf f h k = (single-sound room Fresh leaf (inner f) h (inner-
 closes-sound : (room offset : ℕ) (f : Future) → AreSound (suc room) f → AreSound room (with_item (Closes offset) f)
 closes-sound room offset f k = ((refl, refl), k)
 
-opens-sound : (room : ℕ) (e : Element) (f : Future) → is_good_element e ≡ true → list_all (λ (b : Binding). is_prefix b.prefix) e.decls ≡ true → AreSound room f → AreSound (suc room) (with_item (Opens e) f)
+opens-sound : (room : ℕ) (e : Element) (f : Future) → is_good_element e ≡ true → list_all is_sound_binding e.decls ≡ true → AreSound room f → AreSound (suc room) (with_item (Opens e) f)
 opens-sound room e f h d k =
     let within = inner-sound room f k in
     let behind = outer-sound room f k in
@@ -157,7 +158,7 @@ module _ (limits : Limits) where
       let is : suc room ≡ Room b = omega (arith, less) in
       let e = element_at offset (resolved b.path name attrs) in
       sound-at (suc room) (Room b) (with_item (Opens e) (End Fresh offset ∷ f)) is
-      (opens-sound room e (End Fresh offset ∷ f) (and_from _ _ good.name_good good.attrs_good) (declared-prefixes e.decls good.decls_good)
+      (opens-sound room e (End Fresh offset ∷ f) (and_from _ _ good.name_good good.attrs_good) (declared-soundly e.decls good.decls_good)
       (closes-sound room offset f (sound-at (Room b) (suc room) f (sym is) h)))
   items-sound b offset (body.Start name attrs false) f s u p n h =
       let said = and_parts (is_name name) (list_all (λ (a : RawAttr). is_name a.name && list_all is_char a.value) attrs) s in
@@ -169,7 +170,7 @@ module _ (limits : Limits) where
       let is : suc room ≡ Room b = omega (arith, less) in
       let e = element_at offset (resolved b.path name attrs) in
       sound-at (suc room) (Room b) (with_item (Opens e) f) is
-      (opens-sound room e f (and_from _ _ good.name_good good.attrs_good) (declared-prefixes e.decls good.decls_good) h)
+      (opens-sound room e f (and_from _ _ good.name_good good.attrs_good) (declared-soundly e.decls good.decls_good) h)
   items-sound b offset (body.End name) f s u p n h =
       let more = innermost-named name b.names u in
       let is : limits.depth - length (outer_names b.names) ≡ suc (Room b) = omega (arith, more, n) in
@@ -294,13 +295,13 @@ readied-good room (Nested m e kids next) =
     ap (λ t. nat_lt 0 room && (is_good_element e && (t && is_good room (readied next)))) (readied-good (room - 1) kids)
     ∙ ap (λ t. nat_lt 0 room && (is_good_element e && (is_good (room - 1) kids && t))) (readied-good room next)
 
-readied-declares : (f : Forest) → declares_names (readied f) ≡ declares_names f
+readied-declares : (f : Forest) → declares is_sound_binding (readied f) ≡ declares is_sound_binding f
 readied-declares (End m offset) = refl
 readied-declares (Cut why) = refl
 readied-declares (Single m leaf next) = readied-declares next
 readied-declares (Nested m e kids next) =
-    ap (λ t. list_all (λ (b : Binding). is_prefix b.prefix) e.decls && (t && declares_names (readied next))) (readied-declares kids)
-    ∙ ap (λ t. list_all (λ (b : Binding). is_prefix b.prefix) e.decls && (declares_names kids && t)) (readied-declares next)
+    ap (λ t. list_all is_sound_binding e.decls && (t && declares is_sound_binding (readied next))) (readied-declares kids)
+    ∙ ap (λ t. list_all is_sound_binding e.decls && (declares is_sound_binding kids && t)) (readied-declares next)
 
 -- the list of the document node, before nodes are marked
 abbrev read : Limits → (cdata : Bool) → (bytes : List ℕ) → (ended : Bool) → Forest
@@ -322,30 +323,50 @@ doc-sound said limits bytes ended =
     (readied-good limits.depth list ∙ first.0, readied-declares list ∙ first.1)
 
 -- a list declares no more without some of its texts
-stripped-declares : (f : Forest) → declares_names f ≡ true → declares_names (stripped f) ≡ true
+stripped-declares : (f : Forest) → declares is_sound_binding f ≡ true → declares is_sound_binding (stripped f) ≡ true
 stripped-declares (End m offset) h = refl
 stripped-declares (Cut why) h = refl
 stripped-declares (Single m (Chars offset text) next) h = by_test (list_all is_space text) (stripped-declares next h) where
-  by_test : (t : Bool) → declares_names (stripped next) ≡ true → declares_names (if t then stripped next else Single m (Chars offset text) (stripped next)) ≡ true
+  by_test : (t : Bool) → declares is_sound_binding (stripped next) ≡ true → declares is_sound_binding (if t then stripped next else Single m (Chars offset text) (stripped next)) ≡ true
   by_test true k = k
   by_test false k = k
 stripped-declares (Single m (CData offset text) next) h = stripped-declares next h
 stripped-declares (Single m (Comment offset text) next) h = stripped-declares next h
 stripped-declares (Single m (Pi offset target text) next) h = stripped-declares next h
 stripped-declares (Nested m e kids next) h =
-    let b = and_parts (list_all (λ (b : Binding). is_prefix b.prefix) e.decls) (declares_names kids && declares_names next) h in
-    let c = and_parts (declares_names kids) (declares_names next) b.1 in
+    let b = and_parts (list_all is_sound_binding e.decls) (declares is_sound_binding kids && declares is_sound_binding next) h in
+    let c = and_parts (declares is_sound_binding kids) (declares is_sound_binding next) b.1 in
     and_from _ _ b.0 (and_from _ _ (stripped-declares kids c.0) (stripped-declares next c.1))
 
-finished-declares : (strip : Bool) (f : Forest) → declares_names f ≡ true → declares_names (if strip then stripped f else f) ≡ true
+finished-declares : (strip : Bool) (f : Forest) → declares is_sound_binding f ≡ true → declares is_sound_binding (if strip then stripped f else f) ≡ true
 finished-declares true f h = stripped-declares f h
 finished-declares false f h = h
 
 -- so it is however a document is read
-pub all-declare : LexemesAreSayable → (limits : Limits) (strip cdata : Bool) (bytes : List ℕ) (ended : Bool) → declares_names (doc_for limits strip cdata bytes ended) ≡ true
-all-declare said limits strip cdata bytes ended =
+pub all-soundly : LexemesAreSayable → (limits : Limits) (strip cdata : Bool) (bytes : List ℕ) (ended : Bool) → declares is_sound_binding (doc_for limits strip cdata bytes ended) ≡ true
+all-soundly said limits strip cdata bytes ended =
     let list = read limits cdata bytes ended in
     readied-declares (if strip then stripped list else list) ∙ finished-declares strip list (read-sound said limits cdata bytes ended).1
+
+-- and so all prefixes are names
+named-bindings : (bs : List Binding) → list_all is_sound_binding bs ≡ true → list_all is_named bs ≡ true
+named-bindings [] h = refl
+named-bindings (b ∷ bs) h =
+    let both = and_parts (is_sound_binding b) (list_all is_sound_binding bs) h in
+    let spelled = and_parts (is_prefix b.prefix && are_chars b.uri) (is_good_binding b.prefix b.uri) both.0 in
+    and_from _ _ (and_parts (is_prefix b.prefix) (are_chars b.uri) spelled.0).0 (named-bindings bs both.1)
+
+named-list : (f : Forest) → declares is_sound_binding f ≡ true → declares_names f ≡ true
+named-list (End m offset) h = refl
+named-list (Cut why) h = refl
+named-list (Single m leaf next) h = named-list next h
+named-list (Nested m e kids next) h =
+    let b = and_parts (list_all is_sound_binding e.decls) (declares is_sound_binding kids && declares is_sound_binding next) h in
+    let c = and_parts (declares is_sound_binding kids) (declares is_sound_binding next) b.1 in
+    and_from _ _ (named-bindings e.decls b.0) (and_from _ _ (named-list kids c.0) (named-list next c.1))
+
+pub all-declare : LexemesAreSayable → (limits : Limits) (strip cdata : Bool) (bytes : List ℕ) (ended : Bool) → declares_names (doc_for limits strip cdata bytes ended) ≡ true
+all-declare said limits strip cdata bytes ended = named-list (doc_for limits strip cdata bytes ended) (all-soundly said limits strip cdata bytes ended)
 
 -- more room does no harm
 more-room : (r s : ℕ) (f : Forest) → r ≤ s → is_good r f ≡ true → is_good s f ≡ true
@@ -366,4 +387,4 @@ documents-are-taken said limits pass bytes ended fault le h =
 
 pub documents-nest : LexemesAreSayable → WritesPrefixes → DocumentsNest
 documents-nest said prefixes limits pass bytes ended front begins =
-    runs-nest prefixes limits.elements pass (doc limits false bytes ended) front (doc-sound said limits bytes ended).1 begins
+    runs-nest prefixes limits.elements pass (doc limits false bytes ended) front (named-list (doc limits false bytes ended) (doc-sound said limits bytes ended).1) begins

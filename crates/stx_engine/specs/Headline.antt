@@ -7,7 +7,8 @@ use Rattle.stx_host.specs.Outside.{Outside, Rose, place}
 use Rattle.stx_host.specs.declared.act.Act.{Act}
 use Rattle.stx_host.specs.declared.act.Doc.{Doc}
 use Rattle.run_engine.specs.Run.{head}
-use Rattle.stx_engine.specs.Answer.{Answer, accepted, asks_any_run, asks_run, loaded, note_of, runs_none, sheet_named}
+use Rattle.stx_engine.specs.Answer.{Answer, Asked_for, accepted, asks_any_run, asks_run, loaded, note_of, runs_none, sheet_named}
+use Rattle.stx_engine.specs.ReadBack.{IsRead}
 use Rattle.stx_engine.specs.Doing.{DoesWords}
 use Rattle.sheet_runs.specs.Reading.{EndOnce, main_gots}
 use Rattle.fault_report.specs.Line.{line_of, status_of}
@@ -63,6 +64,10 @@ SomeGreater old new =
 abbrev pub GivesAnswer : (old new : Outside) → (status : ℕ) → Answer → Type 0
 GivesAnswer old new status a =
     (SomeRose old new → ⊥) → status ≢ 7 → (since old.out new.out ≡ a.out) × (since old.note new.note ≡ note_of a) × (status ≡ status_in a.end)
+
+-- where no count of faults rose and the status is 0, what was written is what the sheet means on the document's tree, and is read back as that
+abbrev pub ReadsBack : (old new : Outside) → (main : List ℕ) → (status : ℕ) → Asked_for → Type 0
+ReadsBack old new main status k = (SomeRose old new → ⊥) → status ≡ 0 → IsRead k main (since old.out new.out)
 
 -- whenever the main document is read, all that the bytes read so far settle was written, and no more; and more is needed
 abbrev pub AsksSettled : (old new : Outside) → Reads → (words : List (List ℕ)) → List Doc → (main : List ℕ) → Type 0

@@ -14,9 +14,10 @@ use Rattle.template_machine.specs.Ordinary.{IsOrdinary}
 use Rattle.run_engine.specs.Run.{head}
 use Rattle.run_parts.specs.Sound.{is_sound_part}
 use Rattle.sheet_runs.specs.Meant.{tree_of}
-use Rattle.stx_engine.specs.Answer.{Answer, Asked_for, answer, asked, given_of, is_run, runs_none, written}
+use Rattle.stx_engine.specs.Answer.{Answer, Asked_for, answer, asked, given_of, is_run, ran, runs_none, written}
 use Rattle.stx_engine.specs.Nesting.{EndsHaveStarts}
-use Rattle.stx_engine.specs.Plain.{is_ordinary, pass_of}
+use Rattle.stx_engine.specs.Plain.{is_ordinary, pass_of, takes_in_order}
+use Rattle.stx_engine.specs.ReadBack.{IsRead}
 use Rattle.stx_engine.specs.RunEnd.{status_in}
 
 -- No end tag in a result of accepted parts lacks its start tag, wherever the result stops.
@@ -31,6 +32,10 @@ PartsNest =
 -- No end tag in what the program answers lacks its start tag, wherever it stops.
 abbrev pub AnswersNest : Type 0
 AnswersNest = (reads : Reads) (words : List (List ℕ)) (docs : List Doc) (main front : List ℕ) (a : Answer) → answer reads words docs main ≡ Some a → Begins front a.out → EndsHaveStarts front
+
+-- Where a run is done it was said what the sheet means on the document's tree, and what it answers is read back as the nodes of that.
+abbrev pub AnswersAreRead : Type 0
+AnswersAreRead = (k : Asked_for) (opened : List (List ℕ)) (main : List ℕ) → takes_in_order k.sheet ≡ true → status_in (ran k opened main).end ≡ 0 → IsRead k main (ran k opened main).out
 
 -- Where no instruction is run, it doesn't answer that one has a fault.
 abbrev pub AnswersAreTaken : Type 0

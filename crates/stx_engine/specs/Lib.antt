@@ -5,6 +5,7 @@ pub mod Laws
 pub mod Nesting
 pub mod Older
 pub mod Plain
+pub mod ReadBack
 pub mod RunEnd
 pub mod Running
 pub mod Words

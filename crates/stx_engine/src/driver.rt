@@ -7,12 +7,13 @@ ghost use Rattle.command_words.specs.declared.command.Mode.TheVariants as mode;
 ghost use Rattle.run_engine.specs.Run.{IsAtStart};
 ghost use Rattle.sheet_loader.specs.Values.{Reads};
 ghost use Rattle.sheet_model.specs.Sound.{IsSound};
-ghost use Rattle.stx_engine.specs.Answer.{Answer, answer, param_of, runs_none};
+ghost use Rattle.stx_engine.specs.Answer.{Answer, Asked_for, answer, asked, param_of, runs_none};
 ghost use Rattle.stx_engine.specs.Doing.{AreUsual, Does, DoesCommand, DoesWords, RunsAny, asked_by};
 ghost use Rattle.stx_engine.specs.inside.Driving.{Drives, DrivesSample};
 ghost use Rattle.stx_engine.specs.inside.Engine.{GoesOn, IsWaiting, Means};
-ghost use Rattle.stx_engine.specs.Headline.{AsksSettled, BeginsWell, DoesAll, EndsInLine, GivesAnswer, IsPlainStatus, IsStatus, NotesAfterFailure, NotesItsFailure, OpensFirst, ReadsSheetFirst, ReadsToEnd, RefusesUnnamed, Tells, TellsMain};
+ghost use Rattle.stx_engine.specs.Headline.{AsksSettled, BeginsWell, DoesAll, EndsInLine, GivesAnswer, IsPlainStatus, IsStatus, NotesAfterFailure, NotesItsFailure, OpensFirst, ReadsBack, ReadsSheetFirst, ReadsToEnd, RefusesUnnamed, Tells, TellsMain};
 ghost use Rattle.stx_engine.specs.Nesting.{EndsHaveStarts};
+ghost use Rattle.stx_engine.specs.Plain.{takes_in_order};
 ghost use Rattle.stx_engine.specs.Running.{Reports, Runs};
 ghost use Rattle.stx_engine.specs.Words.{spelled};
 ghost use Rattle.xml_events.specs.Source.{source};
@@ -58,6 +59,8 @@ pub fn transform<H: Host>(alloc: Global, words: &[String], host: &mut H) -> u8
     ensures prefix { (reads : Reads) (docs : List Doc) (main : List ℕ) (a : Answer) → Tells (H.outside host.old) docs main → answer reads (spelled words.now) docs main ≡ Some a → Begins (since (H.outside host.old).out (H.outside host.new).out) a.out }
     // No end tag in it lacks its start tag.
     ensures nested { (reads : Reads) (docs : List Doc) (main : List ℕ) (a : Answer) → Tells (H.outside host.old) docs main → answer reads (spelled words.now) docs main ≡ Some a → EndsHaveStarts (since (H.outside host.old).out (H.outside host.new).out) }
+    // Where the status of a run is 0, what it wrote is read back, by the grammar of XML, as the nodes that the sheet means to put.
+    ensures read_back { (reads : Reads) (docs : List Doc) (main : List ℕ) (k : Asked_for) → Tells (H.outside host.old) docs main → asked reads (spelled words.now) docs ≡ Some k → takes_in_order k.sheet ≡ true → ReadsBack (H.outside host.old) (H.outside host.new) main result k }
     // Only documents that the answer opens are opened, in its order.
     ensures opened { (reads : Reads) (docs : List Doc) (main : List ℕ) (a : Answer) → Tells (H.outside host.old) docs main → answer reads (spelled words.now) docs main ≡ Some a → OpensFirst docs a.opened result (since (H.outside host.old).log (H.outside host.new).log) }
     // Where the host failed or memory was wanting, the line says which and where, behind first messages.

@@ -1,7 +1,7 @@
 //! Laws of the definitions, as contracts.
 
 ghost use Rattle.std.specs.Prelude.{codes};
-ghost use Rattle.stx_engine.specs.Laws.{AnswerStays, AnswersAreTaken, AnswersNest, BeginningIsOpen, PartsNest, SettledStays, TellsOrdinary, WholeIsOver};
+ghost use Rattle.stx_engine.specs.Laws.{AnswerStays, AnswersAreRead, AnswersAreTaken, AnswersNest, BeginningIsOpen, PartsNest, SettledStays, TellsOrdinary, WholeIsOver};
 ghost use Rattle.stx_engine.specs.Nesting.{EndsHaveStarts};
 ghost use Rattle.stx_engine.specs.Older.{RunsAsBefore};
 
@@ -26,12 +26,15 @@ pub fn answers()
     ensures nested { AnswersNest }
     // Where no instruction is run, it isn't that one has a fault.
     ensures taken { AnswersAreTaken }
+    // Where a run is done it is read back as the nodes of the result.
+    ensures read { AnswersAreRead }
 {
     xml_tokens::laws::said();
     result_writer::law::prefixes_are_names();
     run_engine::law::documents();
     run_parts::law::accepted();
     run_parts::law::sound();
+    run_parts::law::read();
     machine_law::one_meaning();
     copied::meant();
     copied::documents();

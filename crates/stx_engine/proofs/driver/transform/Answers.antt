@@ -10,6 +10,7 @@ use Rattle.stx_engine.specs.Running.{Reports, Runs}
 use Rattle.stx_engine.specs.Words.{spelled}
 use Rattle.stx_engine.specs.declared.run_end.RunEnd.{RunEnd}
 use Rattle.stx_engine.specs.declared.run_end.RunEnd.TheVariants.{Told, Unnoted}
+use Rattle.stx_engine.proofs.Back.{asked-answered, reads-back}
 use Rattle.stx_engine.proofs.Headed.{asks_settled, begins_output, begins_well, ends_in_line, gives_answer, gives_ids_back, is_plain, is_status, notes_failure, notes_its_failure, opens_first, reads_sheet_first, reads_to_end, refuses_unnamed, told_of}
 use Rattle.stx_engine.proofs.Answered.{answered-lacking, answered-words}
 use Rattle.stx_engine.proofs.LastLine.{ran-wanting-line}
@@ -36,6 +37,9 @@ returns-in-Ok g c =
       prefix = λ reads docs main a tells is. begins_output words old mid new end r result reports docs main tells reads a (said reads docs main a tells is);
       nested = λ reads docs main a tells is.
           c.answers.ensures.nested reads words docs main (since old.out new.out) a is (begins_output words old mid new end r result reports docs main tells reads a (said reads docs main a tells is));
+      read_back = λ reads docs main k tells is order.
+          let so = asked-answered reads words docs main k is order in
+          reads-back c.answers.ensures.read old new main result k so.0 order (gives_answer words old mid new end r result reports docs main tells reads _ (said reads docs main _ tells so.1));
       opened = λ reads docs main a tells is. opens_first words old mid new end r result reports docs main tells reads a (said reads docs main a tells is);
       failure = λ reads docs main a tells is. notes_failure words old mid new end r result reports docs main tells reads a (said reads docs main a tells is);
       plain = λ reads docs main tells none. is_plain words old mid new end r result reports docs main tells reads none;
@@ -71,6 +75,9 @@ returns g c =
       prefix = λ reads docs main a tells is. begins_output words old mid new end r result reports docs main tells reads a (said reads docs main a tells is);
       nested = λ reads docs main a tells is.
           c.answers.ensures.nested reads words docs main (since old.out new.out) a is (begins_output words old mid new end r result reports docs main tells reads a (said reads docs main a tells is));
+      read_back = λ reads docs main k tells is order.
+          let so = asked-answered reads words docs main k is order in
+          reads-back c.answers.ensures.read old new main result k so.0 order (gives_answer words old mid new end r result reports docs main tells reads _ (said reads docs main _ tells so.1));
       opened = λ reads docs main a tells is. opens_first words old mid new end r result reports docs main tells reads a (said reads docs main a tells is);
       failure = λ reads docs main a tells is. notes_failure words old mid new end r result reports docs main tells reads a (said reads docs main a tells is);
       plain = λ reads docs main tells none. is_plain words old mid new end r result reports docs main tells reads none;
