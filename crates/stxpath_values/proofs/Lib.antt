@@ -4,3 +4,4 @@ pub mod PlacesLemmas
 pub mod OccurrenceLemmas
 pub mod WordsLemmas
 pub mod NumberTextLemmas
+pub mod EqualTextLemmas

@@ -1,4 +1,4 @@
-ghost use Rattle.std.specs.Prelude.{◌≡◌};
+ghost use Rattle.std.specs.Prelude.{◌≡◌, Some};
 ghost use Rattle.std.specs.Ordering.{nat_cmp};
 ghost use Rattle.std.specs.Cmp.Lexicographic.{slice_cmp};
 ghost use Rattle.std.specs.Str.{chars};
@@ -79,8 +79,35 @@ fn compare_one(cmp: Cmp, x: AtomRef<'_>, right: &[Atom]) -> Result<bool, EvalFau
     Ok(false)
 }
 
-/// Whether a comparison holds of two atoms.
+/// Whether a comparison holds of two atoms. Texts are what is compared most, and most of them for whether they are equal.
+#[inline(always)]
 pub fn pair_holds(cmp: Cmp, x: AtomRef<'_>, y: AtomRef<'_>) -> Result<bool, EvalFault>
+    ensures { result ≡ spec.pair_holds cmp (atom_of x.entry) (atom_of y.entry) }
+{
+    match y {
+        AtomRef::Chars(right) => match x {
+            AtomRef::Chars(left) => Ok(texts_hold(cmp, left.as_str(), right.as_str())),
+            AtomRef::Whole(_) | AtomRef::Truth(_) => any_pair_holds(cmp, x, y),
+        },
+        AtomRef::Whole(_) | AtomRef::Truth(_) => any_pair_holds(cmp, x, y),
+    }
+}
+
+/// Whether a comparison holds of two texts: they are equal where their bytes are.
+#[inline(always)]
+fn texts_hold(cmp: Cmp, left: &str, right: &str) -> bool
+    ensures { result ≡ spec.admits cmp (Some (slice_cmp nat_cmp (chars left.now) (chars right.now))) }
+{
+    match cmp {
+        Cmp::Eq => left == right,
+        Cmp::Ne => left != right,
+        Cmp::Lt | Cmp::Le | Cmp::Gt | Cmp::Ge => admits(cmp, Some(order_of_texts(left, right))),
+    }
+}
+
+/// Whether a comparison holds of two atoms, whatever they are.
+#[inline(never)]
+fn any_pair_holds(cmp: Cmp, x: AtomRef<'_>, y: AtomRef<'_>) -> Result<bool, EvalFault>
     ensures { result ≡ spec.pair_holds cmp (atom_of x.entry) (atom_of y.entry) }
 {
     let order = order(x, y)?;
