@@ -12,7 +12,7 @@ use Rattle.stx_host.specs.Table.{ids_of, AreDifferent, AreOpen, count_between}
 count_cons : {X : Type 0} (p : X → Bool) (x : X) (xs : List X) → count_by p (x ∷ xs) ≡ cond (p x) 1 0 + count_by p xs
 count_cons p x xs = sum_by-cons (λ y. cond (p y) 1 0) x xs
 
-between_cons : (low high id : ℕ) (ids : List ℕ) → count_between low high (id ∷ ids) ≡ cond (nat_le low id && nat_lt id high) 1 0 + count_between low high ids
+pub between_cons : (low high id : ℕ) (ids : List ℕ) → count_between low high (id ∷ ids) ≡ cond (nat_le low id && nat_lt id high) 1 0 + count_between low high ids
 between_cons low high id ids = count_cons (λ k. nat_le low k && nat_lt k high) id ids
 
 inside_split : (low mid high id : ℕ) → low ≤ mid → mid ≤ high
@@ -69,7 +69,7 @@ uncounted [] id none = refl
 uncounted (k ∷ ids) id none = none_step (k == id) (count_by (λ j. j == id) ids) (is_among ids id) (uncounted ids id) (omega (arith, none, count_cons (λ j. j == id) k ids))
 
 -- a number more
-count_last : (low mid high : ℕ) → low ≤ mid → high ≡ mid + 1 → (ids : List ℕ) → count_between low high ids ≡ count_between low mid ids + count_by (λ k. k == mid) ids
+pub count_last : (low mid high : ℕ) → low ≤ mid → high ≡ mid + 1 → (ids : List ℕ) → count_between low high ids ≡ count_between low mid ids + count_by (λ k. k == mid) ids
 count_last low mid high h e ids = ap (λ k. count_between low k ids) e ∙ count_split low mid (mid + 1) h (omega arith) ids ∙ ap (λ n. count_between low mid ids + n) (count_one mid ids)
 
 -- no more ids are in a range than numbers

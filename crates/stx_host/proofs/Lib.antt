@@ -1,7 +1,9 @@
 pub mod CopiedSoFar
 pub mod Counted
 pub mod Counts
+pub mod Lacking
 pub mod OpenIds
+pub mod Rooms
 pub mod Stretches
 pub mod Tables
 pub mod ToCome

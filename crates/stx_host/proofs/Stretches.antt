@@ -17,7 +17,7 @@ use Rattle.stx_host.specs.Before.{AtMainReads, Between, Taken, before, is_main_r
 use Rattle.stx_host.specs.Laws.{NothingBetween, BetweenJoins, BetweenOpen, BetweenRead, BetweenClose, BetweenWrites, BetweenFault, open_acts, and_then}
 use Rattle.stx_host.proofs.ToCome.{with_other}
 
-and_nothing : {X : Type 0} (told : Option (List X)) → told ≡ and_more told []
+pub and_nothing : {X : Type 0} (told : Option (List X)) → told ≡ and_more told []
 and_nothing None = refl
 and_nothing (Some xs) = ap (λ ys. Some ys) (sym (append-nil xs))
 
@@ -48,6 +48,7 @@ nothing_between o = record {
   log = and_nothing o.log;
   out_lane = and_nothing o.out;
   note_lane = and_nothing o.note;
+  room = refl;
   out_written = refl;
   note_written = refl;
 }
@@ -63,34 +64,36 @@ between_joins a b c acts acts' out out' note note' first second = record {
   log = second.log ∙ ap (λ o. and_more o acts') first.log ∙ and_more_twice a.log acts acts';
   out_lane = second.out_lane ∙ ap (λ o. and_more o out') first.out_lane ∙ and_more_twice a.out out out';
   note_lane = second.note_lane ∙ ap (λ o. and_more o note') first.note_lane ∙ and_more_twice a.note note note';
+  room = second.room ∙ first.room;
   out_written = long_enough Out acts acts' out out' first.out_written second.out_written;
   note_written = long_enough Note acts acts' note note' first.note_written second.note_written;
 }
 
 -- acts that gave nothing to the lanes
 without_lanes : (old new : Outside) (acts : List Act) → new.documents ≡ old.documents → new.to_come 0 ≡ option_map (λ bytes. drop (main_read acts) bytes) (old.to_come 0)
-    → new.log ≡ and_more old.log acts → new.out ≡ old.out → new.note ≡ old.note → 0 ≡ written Out acts → 0 ≡ written Note acts → Between old new acts [] []
-without_lanes old new acts documents main log out note no_out no_note = record {
+    → new.log ≡ and_more old.log acts → new.out ≡ old.out → new.note ≡ old.note → new.room ≡ old.room → 0 ≡ written Out acts → 0 ≡ written Note acts → Between old new acts [] []
+without_lanes old new acts documents main log out note room no_out no_note = record {
   documents = documents;
   main = main;
   log = log;
   out_lane = out ∙ and_nothing old.out;
   note_lane = note ∙ and_nothing old.note;
+  room = room;
   out_written = no_out;
   note_written = no_note;
 }
 
 doc_fault : (o : Outside) (n : ℕ) → Between o (record o { doc_faults = n }) [] [] []
-doc_fault o n = without_lanes o (record o { doc_faults = n }) [] refl (drop_nothing (o.to_come 0)) (and_nothing o.log) refl refl refl refl
+doc_fault o n = without_lanes o (record o { doc_faults = n }) [] refl (drop_nothing (o.to_come 0)) (and_nothing o.log) refl refl refl refl refl
 
 main_fault : (o : Outside) (n : ℕ) → Between o (record o { main_faults = n }) [] [] []
-main_fault o n = without_lanes o (record o { main_faults = n }) [] refl (drop_nothing (o.to_come 0)) (and_nothing o.log) refl refl refl refl
+main_fault o n = without_lanes o (record o { main_faults = n }) [] refl (drop_nothing (o.to_come 0)) (and_nothing o.log) refl refl refl refl refl
 
 out_fault : (o : Outside) (n : ℕ) → Between o (record o { out_faults = n }) [] [] []
-out_fault o n = without_lanes o (record o { out_faults = n }) [] refl (drop_nothing (o.to_come 0)) (and_nothing o.log) refl refl refl refl
+out_fault o n = without_lanes o (record o { out_faults = n }) [] refl (drop_nothing (o.to_come 0)) (and_nothing o.log) refl refl refl refl refl
 
 note_fault : (o : Outside) (n : ℕ) → Between o (record o { note_faults = n }) [] [] []
-note_fault o n = without_lanes o (record o { note_faults = n }) [] refl (drop_nothing (o.to_come 0)) (and_nothing o.log) refl refl refl refl
+note_fault o n = without_lanes o (record o { note_faults = n }) [] refl (drop_nothing (o.to_come 0)) (and_nothing o.log) refl refl refl refl refl
 
 -- what holds of a moment holds of one that is the same
 at_same : (old new new' : Outside) (acts : List Act) (out note : List ℕ) → new ≡ new' → Between old new' acts out note → Between old new acts out note
@@ -105,10 +108,10 @@ zero_is_other to_come id bytes h = with_other to_come id bytes 0 (λ e. absurd (
 pub between_open : BetweenOpen
 between_open old new name (Id id) may e =
     at_same old new (opened old name id) (open_acts old name (Id id)) [] [] e
-    (without_lanes old (opened old name id) (open_acts old name (Id id)) refl (zero_is_other old.to_come id (option_and_then (λ docs. document docs name) old.documents) may.above_zero) refl refl refl refl refl)
+    (without_lanes old (opened old name id) (open_acts old name (Id id)) refl (zero_is_other old.to_come id (option_and_then (λ docs. document docs name) old.documents) may.above_zero) refl refl refl refl refl refl)
 between_open old new name Absent may e =
     at_same old new (record old { log = and_more old.log (Open None 0 ∷ []) }) (Open None 0 ∷ []) [] [] e
-    (without_lanes old (record old { log = and_more old.log (Open None 0 ∷ []) }) (Open None 0 ∷ []) refl (drop_nothing (old.to_come 0)) refl refl refl refl refl)
+    (without_lanes old (record old { log = and_more old.log (Open None 0 ∷ []) }) (Open None 0 ∷ []) refl (drop_nothing (old.to_come 0)) refl refl refl refl refl refl)
 between_open old new name Failed may fault = at_same old new (record old { doc_faults = new.doc_faults }) [] [] [] fault.alone (doc_fault old new.doc_faults)
 between_open old new name Memory may e = at_same old new old [] [] [] e (nothing_between old)
 
@@ -125,11 +128,11 @@ none_read false = refl
 pub between_read : BetweenRead
 between_read old new id (Bytes n) e =
     let after : Outside = record old { log = and_more old.log (Read id n ∷ []); to_come = with_bytes old.to_come id (option_map (λ bytes. drop n bytes) (old.to_come id)) } in
-    at_same old new after (Read id n ∷ []) [] [] e (without_lanes old after (Read id n ∷ []) refl (left_at old.to_come id n) refl refl refl refl refl)
+    at_same old new after (Read id n ∷ []) [] [] e (without_lanes old after (Read id n ∷ []) refl (left_at old.to_come id n) refl refl refl refl refl refl)
 between_read old new id End e =
     let after : Outside = record old { log = and_more old.log (Read id 0 ∷ []) } in
     at_same old new after (Read id 0 ∷ []) [] [] e (without_lanes old after (Read id 0 ∷ []) refl
-    (drop_nothing (old.to_come 0) ∙ ap (λ m. option_map (λ bytes. drop m bytes) (old.to_come 0)) (sym (none_read (id == 0)))) refl refl refl refl refl)
+    (drop_nothing (old.to_come 0) ∙ ap (λ m. option_map (λ bytes. drop m bytes) (old.to_come 0)) (sym (none_read (id == 0)))) refl refl refl refl refl refl)
 between_read old new id Unread fault = elim (cases_eq id 0) [
   | inl e ↦ at_same old new (record old { main_faults = new.main_faults }) [] [] [] (fault.main e).alone (main_fault old new.main_faults)
   | inr h ↦ at_same old new (record old { doc_faults = new.doc_faults }) [] [] [] (fault.doc (omega arith)).alone (doc_fault old new.doc_faults)
@@ -140,8 +143,8 @@ between_close old new id above change =
     let noted : Outside = record (closed old id) { log = and_more old.log (Close id ∷ []) } in
     let main = zero_is_other old.to_come id None above in
     elim change [
-      | inl e ↦ inl (at_same old new noted (Close id ∷ []) [] [] e (without_lanes old noted (Close id ∷ []) refl main refl refl refl refl refl))
-      | inr e ↦ inr (at_same old new (closed old id) [] [] [] e (without_lanes old (closed old id) [] refl main (and_nothing old.log) refl refl refl refl))
+      | inl e ↦ inl (at_same old new noted (Close id ∷ []) [] [] e (without_lanes old noted (Close id ∷ []) refl main refl refl refl refl refl refl))
+      | inr e ↦ inr (at_same old new (closed old id) [] [] [] e (without_lanes old (closed old id) [] refl main (and_nothing old.log) refl refl refl refl refl))
     ]
 
 written-writes : (lane : Lane) (lens : List ℕ) → sum lens ≡ written lane (writes lane lens)
@@ -167,6 +170,7 @@ between_writes old new Out lens bytes e is = at_same old new (wrote old Out lens
   log = refl;
   out_lane = refl;
   note_lane = and_nothing old.note;
+  room = refl;
   out_written = sym e ∙ written-writes Out lens;
   note_written = note-writes lens;
 })
@@ -176,6 +180,7 @@ between_writes old new Note lens bytes e is = at_same old new (wrote old Note le
   log = refl;
   out_lane = and_nothing old.out;
   note_lane = refl;
+  room = refl;
   out_written = out-writes lens;
   note_written = sym e ∙ written-writes Note lens;
 })

@@ -63,5 +63,6 @@ pub record Between (old new : Outside) (acts : List Act) (out note : List ℕ) :
   pub log : new.log ≡ and_more old.log acts
   pub out_lane : new.out ≡ and_more old.out out
   pub note_lane : new.note ≡ and_more old.note note
+  pub room : new.room ≡ old.room
   pub out_written : length out ≡ written Out acts
   pub note_written : length note ≡ written Note acts

@@ -3,13 +3,13 @@ use Rattle.std.specs.Prelude.{◌≡◌, ℕ, ◌<◌, Bool, true, false, List, 
 use Rattle.stx_host.specs.declared.act.Lane.{Lane}
 use Rattle.stx_host.specs.declared.copy.Copying.{Copying}
 use Rattle.stx_host.specs.declared.copy.Copying.TheVariants.{Whole, Unread, Unwritten}
-use Rattle.stx_host.specs.Outside.{Outside, Rose, LaneFault, wrote}
+use Rattle.stx_host.specs.Outside.{LacksRoom, LaneFault, Outside, Rose, for_writes, wrote}
 use Rattle.stx_host.specs.Before.{AtMainReads, since}
 
--- all bytes were taken, in some number of writes; or some first ones were, and then a write failed
+-- all bytes were taken, in some number of writes; or some first ones were, and then a write failed, for want of room where that is told
 abbrev pub WritesAll : Outside → Lane → List ℕ → Bool → Outside → Type 0
 WritesAll old lane bytes true new = (lens : List ℕ) × (sum lens ≡ length bytes) × (new ≡ wrote old lane lens bytes)
-WritesAll old lane bytes false new = (lens : List ℕ) × (sum lens < length bytes) × LaneFault lane (wrote old lane lens (take (sum lens) bytes)) new
+WritesAll old lane bytes false new = (lens : List ℕ) × (sum lens < length bytes) × LaneFault lane (wrote old lane lens (take (sum lens) bytes)) new × LacksRoom old (for_writes lane lens (length bytes))
 
 -- the host tells this main document, its log and its lanes
 pub record Tells (o : Outside) (main : List ℕ) : Type 0 where

@@ -4,4 +4,5 @@ pub mod Laws
 pub mod MemHost
 pub mod Outside
 pub mod RealHost
+pub mod Rooms
 pub mod Table

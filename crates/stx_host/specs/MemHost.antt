@@ -1,5 +1,5 @@
 -- What a host in memory tells, and where its calls fail.
-use Rattle.std.specs.Prelude.{◌≡◌, ◌≢◌, ◌+◌, ◌-◌, ◌<◌, ◌≤◌, ◌⊎◌, max, IsSome, Contains, vec_len, vec_capacity, [], ◌∷◌, ◌++◌, length, ℕ, ◌==◌, List, take, drop, find, min, IfSome, slice_get, Option, Some, None, option_map, if◌then◌else◌}
+use Rattle.std.specs.Prelude.{◌≡◌, ◌≢◌, ◌+◌, ◌-◌, ◌^◌, ◌<◌, ◌≤◌, ◌⊎◌, max, IsSome, Contains, vec_len, vec_capacity, [], ◌∷◌, ◌++◌, length, ℕ, ◌==◌, List, take, drop, find, min, IfSome, slice_get, Option, Some, None, option_map, if◌then◌else◌}
 use Rattle.std.specs.Option.{option_and_then, option_map_or}
 use Rattle.stx_host.specs.declared.act.Act.{Act}
 use Rattle.stx_host.specs.declared.act.Act.TheVariants.{Close, Write}
@@ -12,12 +12,13 @@ use Rattle.stx_host.specs.declared.act.Lane.TheVariants.{Out, Note}
 use Rattle.stx_host.specs.declared.act.Put.{Put}
 use Rattle.stx_host.specs.declared.act.Put.TheVariants.{Took, Failed}
 use Rattle.stx_host.specs.declared.act.Doc.{Doc}
+use Rattle.stx_host.specs.declared.act.Fail.{Fail}
 use Rattle.stx_host.specs.declared.table.Slot.{Slot}
 use Rattle.stx_host.specs.declared.mem_host.Reading.{Reading}
 use Rattle.stx_host.specs.declared.mem_host.MemHost.{MemHost}
 use Rattle.std.specs.declared.alloc.Global.{Global}
 use Rattle.std.specs.declared.vec.Vec.{Vec}
-use Rattle.stx_host.specs.Outside.{Outside, Raises, one_more, place}
+use Rattle.stx_host.specs.Outside.{Outside, Raises, Room, one_more, place}
 use Rattle.stx_host.specs.Table.{ids_of, IsEachOpen}
 
 -- the bytes that an open document has left
@@ -37,7 +38,21 @@ pub record Gives (rest : Option (List ℕ)) (n : ℕ) (room : List ℕ) : Type 0
 abbrev pub all_to_come : List ℕ → ℕ → List Doc → List (Slot Reading) → ℕ → Option (List ℕ)
 all_to_come main at docs slots id = if id == 0 then Some (drop at main) else rest_of_id docs slots id
 
--- what a host in memory tells: everything
+-- what it has room for: as much as its vectors hold, and no more ids than there are numbers above 0
+abbrev pub room_of : MemHost → Room
+room_of host = record {
+  acts = vec_capacity host.log;
+  ids = min (vec_capacity host.table.slots) (2 ^ 32 - 1);
+  out = vec_capacity host.out;
+  note = vec_capacity host.note;
+}
+
+-- that is told where no call is listed as one that is to fail
+abbrev pub unless_listed : List Fail → Room → Option Room
+unless_listed [] room = Some room
+unless_listed (fail ∷ fails) room = None
+
+-- what a host in memory tells: everything, and its room unless a call is to fail
 abbrev pub outside_of : MemHost → Outside
 outside_of host = record {
   documents = Some host.docs;
@@ -46,21 +61,23 @@ outside_of host = record {
   log = Some host.log.items;
   out = Some host.out.items;
   note = Some host.note.items;
+  room = unless_listed host.fails (room_of host);
   doc_faults = host.faults.doc;
   main_faults = host.faults.main;
   out_faults = host.faults.out;
   note_faults = host.faults.note;
 }
 
--- what a new one tells: all of its documents to come, no acts, and no faults
-abbrev pub start_of : List ℕ → List Doc → Outside
-start_of main docs = record {
+-- what a new one tells: all of its documents to come, no acts, room for so many acts and bytes, and no faults
+abbrev pub start_of : List ℕ → List Doc → List Fail → (acts bytes : ℕ) → Outside
+start_of main docs fails acts bytes = record {
   documents = Some docs;
   to_come = λ id. if id == 0 then Some main else None;
   open_ids = Some [];
   log = Some [];
   out = Some [];
   note = Some [];
+  room = unless_listed fails (record { acts = acts; ids = min acts (2 ^ 32 - 1); out = bytes; note = bytes });
   doc_faults = 0;
   main_faults = 0;
   out_faults = 0;

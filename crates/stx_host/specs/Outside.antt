@@ -14,6 +14,13 @@ use Rattle.stx_host.specs.declared.act.Got.TheVariants.{Bytes, End, Failed as Un
 use Rattle.stx_host.specs.declared.act.Put.{Put}
 use Rattle.stx_host.specs.declared.act.Put.TheVariants.{Took, Failed as Unwritten}
 
+-- an amount of what a host may have room for: acts in its log, ids that are open at once, and bytes in each lane
+pub record Room : Type 0 where
+  pub acts : ℕ
+  pub ids : ℕ
+  pub out : ℕ
+  pub note : ℕ
+
 -- What a host tells. Each meaning is told (`Some`) or not; the four counts of faults always are.
 pub record Outside : Type 0 where
   -- the documents; of two with one name the first counts
@@ -27,6 +34,8 @@ pub record Outside : Type 0 where
   -- the bytes that each lane took so far
   pub out : Option (List ℕ)
   pub note : Option (List ℕ)
+  -- what it has room for in all, told by a host whose calls fail for want of room alone
+  pub room : Option Room
   pub doc_faults : ℕ
   pub main_faults : ℕ
   pub out_faults : ℕ
@@ -60,6 +69,33 @@ and_more told more = option_map (λ so_far. so_far ++ more) told
 -- what is to come, but other bytes for one id
 abbrev pub with_bytes : (ℕ → Option (List ℕ)) → ℕ → Option (List ℕ) → ℕ → Option (List ℕ)
 with_bytes to_come id bytes k = if k == id then bytes else to_come k
+
+-- A host that has room for so much lacks room for more than it holds: for acts in its log, for ids, or for bytes in a lane.
+abbrev pub Lacks : Outside → (all more : Room) → Type 0
+Lacks o all more =
+    IfSome o.log (λ log. all.acts < length log + more.acts)
+    ⊎ (IfSome o.open_ids (λ ids. all.ids < length ids + more.ids)
+    ⊎ (IfSome o.out (λ taken. all.out < length taken + more.out)
+    ⊎ IfSome o.note (λ taken. all.note < length taken + more.note)))
+
+-- the host doesn't tell what it has room for, or lacks room for so much
+abbrev pub LacksRoom : Outside → (more : Room) → Type 0
+LacksRoom o more = IfSome o.room (λ all. Lacks o all more)
+
+-- what an act needs; one that gives an id; and one that gives a lane so many bytes
+abbrev pub for_act : Room
+for_act = record { acts = 1; ids = 0; out = 0; note = 0 }
+
+abbrev pub for_id : Room
+for_id = record { acts = 1; ids = 1; out = 0; note = 0 }
+
+abbrev pub for_bytes : Lane → ℕ → Room
+for_bytes Out n = record { acts = 1; ids = 0; out = n; note = 0 }
+for_bytes Note n = record { acts = 1; ids = 0; out = 0; note = n }
+
+-- and one more write after others, where it and they give so many bytes
+abbrev pub for_writes : Lane → (before : List ℕ) → ℕ → Room
+for_writes lane before n = record (for_bytes lane n) { acts = length before + 1 }
 
 -- a count rose: it is greater, or stands at the last value of u64
 abbrev pub Rose : ℕ → ℕ → Type 0
@@ -101,11 +137,11 @@ pub record IsNewId (old : Outside) (name : List ℕ) (id : ℕ) : Type 0 where
   pub not_open : IfSome old.open_ids (λ ids. is_among ids id ≡ false)
   pub known : IfSome old.documents (λ docs. IsSome (place docs name))
 
--- the answers that `open` may give
+-- the answers that `open` may give; it fails for want of room alone where that is told
 abbrev pub MayOpen : Outside → List ℕ → Opened → Type 0
 MayOpen old name (Id id) = IsNewId old name id
 MayOpen old name Absent = IfSome old.documents (λ docs. place docs name ≡ None)
-MayOpen old name Failed = Unit {0}
+MayOpen old name Failed = LacksRoom old for_id
 MayOpen old name Memory = Unit {0}
 
 -- after `Id`: an act more, an id more, and all bytes of the document to come
@@ -133,7 +169,7 @@ pub record GivesBytes (to_come : Option (List ℕ)) (n : ℕ) (room : List ℕ) 
 abbrev pub MayRead : Outside → ℕ → Got → List ℕ → Type 0
 MayRead old id (Bytes n) room = GivesBytes (old.to_come id) n room
 MayRead old id End room = IfSome (old.to_come id) (λ bytes. bytes ≡ [])
-MayRead old id Unread room = Unit {0}
+MayRead old id Unread room = LacksRoom old for_act
 
 -- a failing read: for id 0 the count of the main document, else that of documents
 pub record ReadFault (id : ℕ) (old new : Outside) : Type 0 where
@@ -161,9 +197,9 @@ abbrev pub Closes : Outside → ℕ → Outside → Type 0
 Closes old id new = (new ≡ record (closed old id) { log = and_more old.log (Close id ∷ []) }) ⊎ (new ≡ closed old id)
 
 -- the answers that `write` may give
-abbrev pub MayWrite : List ℕ → Put → Type 0
-MayWrite bytes (Took n) = (0 < n) × (n ≤ length bytes)
-MayWrite bytes Unwritten = Unit {0}
+abbrev pub MayWrite : Outside → Lane → List ℕ → Put → Type 0
+MayWrite old lane bytes (Took n) = (0 < n) × (n ≤ length bytes)
+MayWrite old lane bytes Unwritten = LacksRoom old (for_bytes lane (length bytes))
 
 -- writes to a lane, of these lengths
 abbrev pub writes : Lane → List ℕ → List Act

@@ -7,7 +7,8 @@ use stx_base::Text;
 /// The outside: documents by name, a main document, and two lanes to write to.
 ///
 /// Of what a host tells, each call changes what its clauses say and nothing else. A count of faults
-/// is raised by the calls that answer `Failed` alone, so code over a host can't raise one itself.
+/// is raised by the calls that answer `Failed` alone, so code over a host can't raise one itself; and
+/// where a host tells what it has room for, they answer so for want of room alone.
 pub trait Host {
     /// What the host tells.
     ghost outside: { Self → Outside };
@@ -32,6 +33,6 @@ pub trait Host {
     /// Writes some of the bytes, from the first on.
     fn write(&mut self, lane: Lane, bytes: &[u8]) -> Put
         requires { 0 < length bytes.now }
-        ensures answer { MayWrite bytes.now result }
+        ensures answer { MayWrite (outside self.old) lane bytes.now result }
         ensures change { Writes (outside self.old) lane bytes.now result (outside self.new) };
 }

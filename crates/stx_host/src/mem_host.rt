@@ -26,7 +26,7 @@ pub(crate) struct Calls {
     pub(crate) write: u64,
 }
 
-/// A host in memory, which tells everything.
+/// A host in memory, which tells everything, and what it has room for where `fails` lists no call.
 ///
 /// Room is kept in advance, so its calls take no memory. A call for which the room is too small
 /// fails, as one that `fails` lists does.
@@ -63,7 +63,7 @@ impl MemHost {
         acts: usize,
         bytes: usize,
     ) -> Result<MemHost, Memory>
-        ensures starts { IfOk result (λ host. outside_of host ≡ start_of main docs) }
+        ensures starts { IfOk result (λ host. outside_of host ≡ start_of main docs fails acts bytes) }
         ensures plan { IfOk result (λ host. (host.main ≡ main) × (host.docs ≡ docs) × (host.cuts ≡ cuts) × (host.fails ≡ fails)) }
         ensures calls { IfOk result (λ host. (call : Call) → calls_so_far host call ≡ 0) }
         ensures room { IfOk result (λ host. HasRoom host acts bytes) }
@@ -100,9 +100,20 @@ fn is_full(log: &Vec<Act>) -> bool
 fn add_act(log: &mut Vec<Act>, act: Act)
     requires { vec_len log.old < vec_capacity log.old }
     ensures added { log.new.items ≡ log.old.items ++ act ∷ [] }
-    ensures room { vec_capacity log.old ≤ vec_capacity log.new }
+    ensures room { vec_capacity log.new ≡ vec_capacity log.old }
 {
-    let _ = log.push(act);
+    log.push_reserved(act);
+}
+
+/// Adds bytes. Of `extend_from_slice` it isn't known that the room stays as it is.
+fn add_bytes(taken: &mut Vec<u8>, bytes: &[u8])
+    requires { vec_len taken.old + length bytes.now ≤ vec_capacity taken.old }
+    ensures added { taken.new.items ≡ taken.old.items ++ bytes.now }
+    ensures room { vec_capacity taken.new ≡ vec_capacity taken.old }
+{
+    for byte in bytes {
+        taken.push_reserved(*byte);
+    }
 }
 
 /// Where the first document of a name stands.
@@ -163,7 +174,7 @@ fn give_open(docs: &List<Doc>, table: &mut Table<Reading>, id: u32, room: &mut [
     ensures moved { rest_of_id docs.now table.new.slots.items ≡ with_bytes (rest_of_id docs.now table.old.slots.items) id
         (option_map (λ bytes. drop result bytes) (rest_of_id docs.now table.old.slots.items id)) }
     ensures ids { ids_of table.new.slots.items ≡ ids_of table.old.slots.items }
-    ensures room { vec_capacity table.old.slots ≤ vec_capacity table.new.slots }
+    ensures room { vec_capacity table.new.slots ≡ vec_capacity table.old.slots }
     ensures len { length room.new ≡ length room.old }
 {
     let Some(at) = table.position(id) else {
@@ -185,13 +196,13 @@ fn put(
     requires { IsFull log.old → IsTrue must_fail }
     ensures change { Puts log.old.items taken.old.items faults.old lane bytes.now result log.new.items taken.new.items faults.new }
     ensures fails { (result ≡ Put.Failed) ↔ (IsTrue must_fail ⊎ (vec_capacity taken.old - vec_len taken.old < length bytes.now)) }
-    ensures room { (vec_capacity log.old ≤ vec_capacity log.new) × (vec_capacity taken.old ≤ vec_capacity taken.new) }
+    ensures room { (vec_capacity log.new ≡ vec_capacity log.old) × (vec_capacity taken.new ≡ vec_capacity taken.old) }
 {
     if must_fail || taken.capacity() - taken.len() < bytes.len() {
         *faults = raised(*faults);
         return Put::Failed;
     }
-    let _ = taken.extend_from_slice(bytes);
+    add_bytes(taken, bytes);
     let len = bytes.len();
     add_act(log, Act::Write { lane, len });
     Put::Took(len)
@@ -327,7 +338,7 @@ impl Host for MemHost {
     /// room, or the lane has too little.
     fn write(&mut self, lane: Lane, bytes: &[u8]) -> Put
         requires { 0 < length bytes.now }
-        ensures answer { MayWrite bytes.now result }
+        ensures answer { MayWrite (outside_of self.old) lane bytes.now result }
         ensures change { Writes (outside_of self.old) lane bytes.now result (outside_of self.new) }
         ensures fails { (result ≡ Put.Failed) ↔ WriteFails self.old lane bytes.now }
         ensures raised { result ≡ Put.Failed → write_faults (outside_of self.new) lane ≡ one_more (write_faults (outside_of self.old) lane) }

@@ -155,7 +155,7 @@ impl<R: Files, I: Read, O: Write, N: Write> Host for RealHost<R, I, O, N> {
 
     fn write(&mut self, lane: Lane, bytes: &[u8]) -> Put
         requires { 0 < length bytes.now }
-        ensures answer { MayWrite bytes.now result }
+        ensures answer { MayWrite (⟦<RealHost<R, I, O, N> as Host>⟧.outside self.old) lane bytes.now result }
         ensures change { Writes (⟦<RealHost<R, I, O, N> as Host>⟧.outside self.old) lane bytes.now result (⟦<RealHost<R, I, O, N> as Host>⟧.outside self.new) }
         ensures out { lane ≡ Lane.Out → WritesSome (O.contents self.old.out) (O.contents self.new.out) bytes.now result × (self.new.note ≡ self.old.note) }
         ensures note { lane ≡ Lane.Note → WritesSome (N.contents self.old.note) (N.contents self.new.note) bytes.now result × (self.new.out ≡ self.old.out) }

@@ -101,21 +101,21 @@ impl<T: Drop> Table<T> {
         ensures taken { IfSome result (λ id. Adds self.old.slots.items id held self.new.slots.items) }
         ensures room { OnSome result (vec_len self.old.slots < vec_capacity self.old.slots) }
         ensures unchanged { IfNone result (self.new.slots.items ≡ self.old.slots.items) }
-        ensures kept { vec_capacity self.old.slots ≤ vec_capacity self.new.slots }
+        ensures kept { vec_capacity self.new.slots ≡ vec_capacity self.old.slots }
         ensures none { IfNone result ((vec_capacity self.old.slots ≤ vec_len self.old.slots) ⊎ IsEachOpen (ids_of self.old.slots.items)) }
     {
         if self.slots.capacity() <= self.slots.len() {
             return None;
         }
         let id = self.free_id()?;
-        let _ = self.slots.push(Slot { id, held });
+        self.slots.push_reserved(Slot { id, held });
         Some(id)
     }
 
     /// Takes the slots of an id away.
     pub(crate) fn remove(&mut self, id: u32)
         ensures removed { self.new.slots.items ≡ filter (λ slot. not (slot.id == id)) self.old.slots.items }
-        ensures room { vec_capacity self.old.slots ≤ vec_capacity self.new.slots }
+        ensures room { vec_capacity self.new.slots ≡ vec_capacity self.old.slots }
     {
         while let Some(at) = self.position(id) {
             self.slots.remove(at);

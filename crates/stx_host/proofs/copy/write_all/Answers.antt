@@ -1,8 +1,9 @@
-use Rattle.std.proofs.Common.{◌≡◌, ◌+◌, ◌∷◌, [], ◌++◌, take, drop, sum, length, length-drop, ◌-◌, ap, sym, ◌∙◌, arith}
+use Rattle.std.proofs.Common.{◌≡◌, ◌+◌, ◌∷◌, [], ◌++◌, take, drop, sum, length, length-drop, length-take, ◌-◌, ap, sym, subst, ◌∙◌, arith}
 use Rattle.std.proofs.lemmas.List.{take_all}
 use Rattle.std.proofs.lemmas.List.Sums.{sum_by_push}
 use Rattle.std.proofs.Math.Seq.{take-add}
-use Rattle.stx_host.specs.Outside.{wrote}
+use Rattle.stx_host.specs.Outside.{LacksRoom, LaneFault, Outside, for_bytes, wrote}
+use Rattle.stx_host.proofs.Lacking.{lacks_writes}
 use Rattle.stx_host.proofs.Stretches.{wrote_twice}
 use Rattle.stx_host.proofs.copy.write_all.Goals as goal
 
@@ -19,3 +20,19 @@ loop-done-preserved g c =
     ∙ ap (λ o. wrote o c.args.lane (n ∷ []) (take n (drop done bytes))) c.loop-done.invariant.1.2
     ∙ wrote_twice old c.args.lane lens (n ∷ []) (take done bytes) (take n (drop done bytes)) in
     (omega (arith, c.in-Took.ensures.answer, ap length rest, length-drop done bytes), (lens ++ n ∷ [], total, change ∙ ap (wrote old c.args.lane (lens ++ n ∷ [])) (sym (take-add done n bytes))))
+
+pub returns-in-Failed : goal.returns-in-Failed
+returns-in-Failed g c =
+    let old = g.H.Host.outside c.args.host.now in
+    let bytes = c.args.bytes.now in
+    let done = c.loop-done.done in
+    let so_far = c.loop-done.invariant.1 in
+    let lens = so_far.0 in
+    let rest = length (take (length bytes - done) (drop done bytes)) in
+    let front : sum lens ≡ length (take done bytes) = omega (arith, so_far.1, length-take done bytes, c.loop-done.invariant.0) in (
+      lens,
+      omega (arith, so_far.1, c.loop-done-test.true),
+      subst (λ (o : Outside). LaneFault c.args.lane o (g.H.Host.outside c.write.new.self)) (so_far.2 ∙ ap (λ n. wrote old c.args.lane lens (take n bytes)) (sym so_far.1)) c.in-Failed.ensures.change,
+      lacks_writes old c.args.lane lens (take done bytes) rest (length bytes) front (omega (arith, length-take done bytes, length-take (length bytes - done) (drop done bytes), length-drop done bytes))
+          (subst (λ (o : Outside). LacksRoom o (for_bytes c.args.lane rest)) so_far.2 c.in-Failed.ensures.answer),
+    )

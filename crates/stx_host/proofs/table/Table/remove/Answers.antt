@@ -1,4 +1,4 @@
-use Rattle.std.proofs.Common.{◌≡◌, ◌==◌, false, ◌∙◌, sym, ap, is_some, arith}
+use Rattle.std.proofs.Common.{◌≡◌, ◌==◌, false, ◌∙◌, sym, ap, is_some}
 use Rattle.std.specs.List.{list_any}
 use Rattle.std.proofs.lemmas.List.Quantifiers.{position-Some}
 use Rattle.stx_host.proofs.Tables.{filter-remove, filter-none, is_some-position}
@@ -11,7 +11,7 @@ loop-at-preserved g c =
     let found = position-Some (λ slot. slot.id == c.args.id) slots c.in-Some.at c.remove.result (sym c.in-Some.ensures) in
     record {
       kept = rw c.remove.ensures.items (filter-remove (λ slot. slot.id == c.args.id) slots c.in-Some.at c.remove.result found.0 found.1 ∙ c.loop-at.invariant.kept);
-      room = omega (arith, c.remove.ensures.capacity, c.loop-at.invariant.room);
+      room = c.remove.ensures.capacity ∙ c.loop-at.invariant.room;
     }
 
 pub invariant_of-self : goal.invariant_of-self
