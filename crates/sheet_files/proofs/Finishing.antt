@@ -159,7 +159,7 @@ module _ (start o q p : Outside) (limits : Limits) (name : List ℕ) (first mid 
         by : (why : Halt) (h : IsHalted name start q mid why) → IsUndecided start limits name h.acts → FailsAs why mid told → LoadsTo start p limits name (Err told)
         by (halt.Unopened file) h undecided fails =
             subst (λ (t : Outcome). LoadsTo start p limits name (Err t)) (sym fails)
-            (unopened_loads_to start q p limits name h.acts leaves.acts h.names h.done h.opened h.once undecided leaves.closes leaves.done (leaves.ids start.open_ids (h.ids ∙ ap (λ (l : List Going). and_more start.open_ids (ids_of l)) (sym (ap (λ v. v.items) keeps.0)))) leaves.counts file (first_by (halt.Unopened file) h) h.counts)
+            (unopened_loads_to start q p limits name h.acts leaves.acts h.names h.done h.opened h.once undecided leaves.closes leaves.done (leaves.ids start.open_ids (h.ids ∙ ap (λ (l : List Going). and_more start.open_ids (ids_of l)) (sym (ap (λ v. v.items) keeps.0)))) leaves.counts file (first_by (halt.Unopened file) h) h.counts h.lacks)
         by halt.Memory h undecided fails =
             subst (λ (t : Outcome). LoadsTo start p limits name (Err t)) (sym fails)
             (memory_loads_to start q p limits name h.acts leaves.acts h.names h.done h.opened h.once undecided leaves.closes leaves.done (leaves.ids start.open_ids (h.ids ∙ ap (λ (l : List Going). and_more start.open_ids (ids_of l)) (sym (ap (λ v. v.items) keeps.0)))) leaves.counts (first_by halt.Memory h) h.counts)
@@ -172,5 +172,5 @@ module _ (start o q p : Outside) (limits : Limits) (name : List ℕ) (first mid 
                   let names = ap length h.at.3 in
                   let told_is = some.3 ∙ ap (λ (g : Going). outcome.Host (name_at (names_of mid.files.items) g.number) host_fault.Doc (length g.bytes.items)) (sym same) ∙ ap (λ (ns : List (List ℕ)). outcome.Host (name_at ns h.at.1.number) host_fault.Doc (length h.at.1.bytes.items)) (sym h.at.3) in
                   subst (λ (t : Outcome). LoadsTo start p limits name (Err t)) (sym told_is)
-                  (unread_loads_to start q p limits name h.acts leaves.acts h.names h.done h.opened h.once undecided leaves.closes leaves.done (leaves.ids start.open_ids (h.ids ∙ ap (λ (l : List Going). and_more start.open_ids (ids_of l)) (sym (ap (λ v. v.items) keeps.0)))) leaves.counts h.at.1.id h.at.1.number (length h.at.1.bytes.items) (omega (arith, number, count, names)) (first_by halt.Unread h) h.counts h.at.4)
+                  (unread_loads_to start q p limits name h.acts leaves.acts h.names h.done h.opened h.once undecided leaves.closes leaves.done (leaves.ids start.open_ids (h.ids ∙ ap (λ (l : List Going). and_more start.open_ids (ids_of l)) (sym (ap (λ v. v.items) keeps.0)))) leaves.counts h.at.1.id h.at.1.number (length h.at.1.bytes.items) (omega (arith, number, count, names)) (first_by halt.Unread h) h.counts h.lacks h.at.4)
             ]

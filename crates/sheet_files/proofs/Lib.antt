@@ -22,6 +22,7 @@ pub mod Halting
 pub mod Handing
 pub mod Holding
 pub mod Including
+pub mod Lacking
 pub mod Lasting
 pub mod Leaving
 pub mod Letting

@@ -2,7 +2,7 @@
 use Rattle.std.proofs.Common.{◌≡◌, ℕ, suc, ◌+◌, ◌<◌, ◌≤◌, Bool, true, false, List, [], ◌∷◌, ◌++◌, length, get_or, Option, None, IfSome, Ok, Err, refl, sym, ap, subst, ◌∙◌, arith, inl, inr}
 use Rattle.std.specs.Vec.{vec_len}
 use Rattle.stx_base.specs.declared.limits.Limits.{Limits}
-use Rattle.stx_host.specs.Outside.{Outside, ReadFault, Reads, and_more}
+use Rattle.stx_host.specs.Outside.{LacksRoom, Outside, ReadFault, Reads, and_more, for_act}
 use Rattle.stx_host.specs.declared.act.Act.{Act}
 use Rattle.stx_host.specs.declared.act.Act.TheVariants.{Read}
 use Rattle.stx_host.specs.declared.act.Got.TheVariants.{End}
@@ -28,6 +28,7 @@ use Rattle.sheet_files.proofs.Ends.{ReadsOn, reads_on, reads_once}
 use Rattle.sheet_files.proofs.Giving.{byte_read, end_read, limit_read}
 use Rattle.sheet_files.proofs.Halting.{first_like, first_told}
 use Rattle.sheet_files.proofs.Holding.{held_same, ids_same, limited_front}
+use Rattle.sheet_files.proofs.Lacking.{halts_lacking}
 use Rattle.sheet_files.proofs.Lasting.{StandsLast, front, held_swapped, held_was, now_is, read_was, swapped, was_is, within_was}
 use Rattle.sheet_files.proofs.Opening.{append_none}
 use Rattle.sheet_files.proofs.Staying.{AsksRightly, stays_more, stays_none, stays_then}
@@ -46,7 +47,7 @@ module _ (old : Reading) (was : Going) (last : StandsLast old.going.items (vec_l
   some_id = (limited_front old.limits before was held_it.limited).1
 
   -- it couldn't be read
-  module _ (new : Reading) (k : Going) (same : k ≡ was) (fault : ReadFault was.id o q) (going : new.going.items ≡ swapped old was last k) (files : new.files.items ≡ old.files.items) (limits : new.limits ≡ old.limits) where
+  module _ (new : Reading) (k : Going) (same : k ≡ was) (fault : ReadFault was.id o q) (lacks : LacksRoom o for_act) (going : new.going.items ≡ swapped old was last k) (files : new.files.items ≡ old.files.items) (limits : new.limits ≡ old.limits) where
     now_was : new.going.items ≡ before ++ was ∷ []
     now_was = going ∙ now_is old was last k ∙ ap (λ (g : Going). before ++ g ∷ []) same
 
@@ -62,6 +63,7 @@ module _ (old : Reading) (was : Going) (last : StandsLast old.going.items (vec_l
             ids = ap (λ (x : Outside). x.open_ids) (fault.doc some_id).alone ∙ w.ids ∙ ap (λ (l : List Going). and_more start.open_ids (ids_of l)) (sym now_was);
             counts = counts_failed start o q within.counts (fault.doc some_id);
             once = if_at start.open_ids (λ s e. (some_at _ start.open_ids s e within.once).none_behind);
+            lacks = halts_lacking start o old.going.items old.files.items [] acts within held.numbered for_act (omega arith) (omega arith) refl refl lacks;
             at = (before, was, now_was, ap names_of (sym files), if_at start.open_ids (λ s e. (given_front start acts (names_of old.files.items) before was (some_at _ start.open_ids s e w.given)).1));
           },
           λ undecided. undecided,
@@ -81,6 +83,7 @@ module _ (old : Reading) (was : Going) (last : StandsLast old.going.items (vec_l
           ids = ids ∙ w.ids ∙ ap (and_more start.open_ids) (sym (ids_same before was k id)) ∙ ap (λ (l : List Going). and_more start.open_ids (ids_of l)) (sym (going ∙ now_is old was last k));
           counts = counts_then start o q within.counts same;
           at = tt;
+          lacks = tt;
           once = if_at start.open_ids (λ s e. reads_on acts more before was (some_at _ start.open_ids s e w.once) reads);
         },
         stays_more old.limits name start acts more asks,
@@ -104,7 +107,7 @@ module _ (old : Reading) (was : Going) (last : StandsLast old.going.items (vec_l
         → (new : Reading) (k : Going) (why : Halt) → Looks o q was k (Err why) → new.going.items ≡ swapped old was last k → new.files.items ≡ old.files.items → new.limits ≡ old.limits
         → (start : Outside) (acts : List Act) → IsWithin start o old.going.items old.files.items [] acts → (halted : IsHalted name start q new why) × StayUndecided old.limits name start acts halted.acts
     looks_halts name read on none new k (halt.Unopened file) looks going files limits start acts within = absurd looks
-    looks_halts name read on none new k halt.Unread looks going files limits start acts within = unread_halts new k looks.0 looks.1 going files limits name read start acts within
+    looks_halts name read on none new k halt.Unread looks going files limits start acts within = unread_halts new k looks.0 looks.1 looks.2 going files limits name read start acts within
     looks_halts name read on none new k halt.Memory looks going files limits start acts within =
         memory_halts new (Read was.id looks.4.0 ∷ []) k (done_bytes o q was.id looks.4.0 some_id looks.4.2 looks.4.1) refl (ap (λ (x : Outside). x.open_ids) looks.4.1) (subst (SameCounts o) (sym looks.4.1) (record { doc = refl; main = refl; out = refl; note = refl }))
         (reads_once was looks.4.0 not_ended) looks.0 going limits name read start acts (asks_rightly old was last o wants name read on none looks.3 start acts within looks.4.0) within

@@ -5,7 +5,9 @@ use Rattle.stx_base.specs.declared.fault.SheetCode.TheVariants as code
 use Rattle.stx_base.specs.declared.fault.SheetFault.{SheetFault}
 use Rattle.stx_base.specs.declared.limits.Limits.{Limits}
 use Rattle.stx_host.specs.Laws.{CountsLater, Later}
-use Rattle.stx_host.specs.Outside.{MayOpen, Opens, Outside, document, place}
+use Rattle.stx_host.proofs.Lacking.{lacks_more, needs_more}
+use Rattle.stx_host.specs.Outside.{LacksRoom, MayOpen, Opens, Outside, document, for_id, place}
+use Rattle.stx_host.specs.Rooms.{needed}
 use Rattle.stx_host.specs.declared.act.Act.{Act}
 use Rattle.stx_host.specs.declared.act.Act.TheVariants.{Open}
 use Rattle.stx_host.specs.declared.act.Doc.{Doc}
@@ -101,6 +103,7 @@ module _ (old new : Outside) (limits : Limits) (name : List ℕ) where
             fails = if_at old.open_ids (λ s e. tt);
             once = if_at old.open_ids (λ s e. tt);
             undecided = opened_undecided limits name old None 0;
+            room = tt;
           },
         );
         counts = counts_refused old new (record { file = name; code = code.NoDocument; offset = 0 }) (subst (SameCounts old) (sym does) (record { doc = refl; main = refl; out = refl; note = refl }));
@@ -108,9 +111,9 @@ module _ (old new : Outside) (limits : Limits) (name : List ℕ) where
         sound = λ depth small. tt;
       }
 
-  pub failed_loads_to : Opens old name answered.Failed new → LoadsTo old new limits name (Err (outcome.Host name host_fault.Doc 0))
-  failed_loads_to fault =
-      let done = done_open old new name answered.Failed tt fault in
+  pub failed_loads_to : MayOpen old name answered.Failed → Opens old name answered.Failed new → LoadsTo old new limits name (Err (outcome.Host name host_fault.Doc 0))
+  failed_loads_to may fault =
+      let done = done_open old new name answered.Failed may fault in
       record {
         answers = tt;
         acts = (
@@ -125,6 +128,7 @@ module _ (old new : Outside) (limits : Limits) (name : List ℕ) where
             fails = if_at old.open_ids (λ s e. inl refl);
             once = if_at old.open_ids (λ s e. tt);
             undecided = begins_undecided limits name old;
+            room = lacks_more old for_id (needed [] [] []) (omega arith) (omega arith) (omega arith) (omega arith) may;
           },
         );
         counts = counts_failing old new name 0 (record {
@@ -155,6 +159,7 @@ module _ (old new : Outside) (limits : Limits) (name : List ℕ) where
             fails = if_at old.open_ids (λ s e. tt);
             once = once;
             undecided = undecided;
+            room = tt;
           },
         );
         counts = counts_short old new same;
@@ -229,6 +234,7 @@ module _ (start o p : Outside) (limits : Limits) (name : List ℕ) (going : List
             fails = if_at start.open_ids (λ s e. tt);
             once = all_once;
             undecided = stays_closed limits name start acts closes closing asked;
+            room = tt;
           },
         );
         counts = counts_refused start p fault all_counts;
@@ -260,6 +266,7 @@ module _ (start o p : Outside) (limits : Limits) (name : List ℕ) (going : List
             fails = if_at start.open_ids (λ s e. tt);
             once = all_once;
             undecided = stays_closed limits name start acts closes closing asked;
+            room = tt;
           },
         );
         counts = counts_are start p loaded all_counts;
@@ -287,8 +294,8 @@ module _ (start o p : Outside) (limits : Limits) (name : List ℕ) (acts closes 
   abbrev FailsThere : (file : List ℕ) (offset : ℕ) → List Doc → Type 0
   FailsThere file offset docs = (reads : Reads) → (rest : List (List ℕ)) × (names ++ rest ≡ (load reads limits (document docs) name).opened) × FailsInOrder (place docs) names rest file offset (acts ++ closes)
 
-  fails_to : (file : List ℕ) (offset : ℕ) → HasFailed start o → NamesFile names (Err (outcome.Host file host_fault.Doc offset)) → IfSome (documents_told start) (FailsThere file offset) → IfSome start.open_ids (λ ids. FailsAfter start.documents (Err (outcome.Host file host_fault.Doc offset)) (acts ++ closes)) → LoadsTo start p limits name (Err (outcome.Host file host_fault.Doc offset))
-  fails_to file offset failed in_names there after =
+  fails_to : (file : List ℕ) (offset : ℕ) → HasFailed start o → LacksRoom start (needed acts [] []) → NamesFile names (Err (outcome.Host file host_fault.Doc offset)) → IfSome (documents_told start) (FailsThere file offset) → IfSome start.open_ids (λ ids. FailsAfter start.documents (Err (outcome.Host file host_fault.Doc offset)) (acts ++ closes)) → LoadsTo start p limits name (Err (outcome.Host file host_fault.Doc offset))
+  fails_to file offset failed lacks in_names there after =
       record {
         answers = tt;
         acts = (
@@ -304,6 +311,7 @@ module _ (start o p : Outside) (limits : Limits) (name : List ℕ) (acts closes 
             fails = after;
             once = halt_once;
             undecided = stays_closed limits name start acts closes closing asked;
+            room = needs_more start acts closes [] [] [] [] lacks;
           },
         );
         counts = counts_failing start p file offset (failed_then start o p failed same);
@@ -312,9 +320,9 @@ module _ (start o p : Outside) (limits : Limits) (name : List ℕ) (acts closes 
       }
 
   -- a file that couldn't be opened
-  pub unopened_loads_to : (file : List ℕ) → OpensFirst start limits name (names ++ file ∷ []) → HasFailed start o → LoadsTo start p limits name (Err (outcome.Host file host_fault.Doc 0))
-  unopened_loads_to file first failed =
-      fails_to file 0 failed (inr refl)
+  pub unopened_loads_to : (file : List ℕ) → OpensFirst start limits name (names ++ file ∷ []) → HasFailed start o → LacksRoom start (needed acts [] []) → LoadsTo start p limits name (Err (outcome.Host file host_fault.Doc 0))
+  unopened_loads_to file first failed lacks =
+      fails_to file 0 failed lacks (inr refl)
       (if_told start.open_ids start.documents
       (λ s docs e d reads.
       let f = told_at _ start.open_ids start.documents s docs e d first reads in
@@ -322,15 +330,15 @@ module _ (start o p : Outside) (limits : Limits) (name : List ℕ) (acts closes 
       (if_at start.open_ids (λ s e. inl refl))
 
   -- one that couldn't be read
-  pub unread_loads_to : (id number offset : ℕ) → number < length names → OpensFirst start limits name names → HasFailed start o
+  pub unread_loads_to : (id number offset : ℕ) → number < length names → OpensFirst start limits name names → HasFailed start o → LacksRoom start (needed acts [] [])
       → IfSome start.open_ids (λ ids. (given_for id acts ≡ Some (place_told start (name_at names number))) × (read_since_open id acts ≡ offset)) → LoadsTo start p limits name (Err (outcome.Host (name_at names number) host_fault.Doc offset))
-  unread_loads_to id number offset within first failed given =
+  unread_loads_to id number offset within first failed lacks given =
       let file = name_at names number in
       let after : (s : List ℕ) → start.open_ids ≡ Some s → (given_for id (acts ++ closes) ≡ Some (place_told start file)) × (offset ≡ read_since_open id (acts ++ closes)) =
       λ s e.
       let g = some_at _ start.open_ids s e given in
       (given_more None id acts closes ∙ closes_give_none (given_for id acts) id closes closing ∙ g.0, sym (read_more 0 id acts closes ∙ closes_read_none (read_since_open id acts) id closes closing ∙ g.1)) in
-      fails_to file offset failed (inl (contains_name names number within))
+      fails_to file offset failed lacks (inl (contains_name names number within))
       (if_told start.open_ids start.documents
       (λ s docs e d reads.
       let f = told_at _ start.open_ids start.documents s docs e d first reads in

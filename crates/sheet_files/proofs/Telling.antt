@@ -91,6 +91,7 @@ short_halts name start o old new acts same first within = (
     ids = subst (λ l. o.open_ids ≡ and_more start.open_ids (ids_of l)) (sym same) within.ids;
     counts = within.counts;
     at = tt;
+    lacks = tt;
     once = if_some start.open_ids (λ ids once. once.none_behind) within.once;
   },
   λ undecided. undecided,

@@ -1,9 +1,10 @@
 -- What comes of a file that an include wants: it is opened, it is absent, or it can't be opened.
-use Rattle.std.proofs.Common.{◌≡◌, ℕ, ◌+◌, ◌<◌, true, false, List, [], ◌∷◌, ◌++◌, length, Option, Some, None, Ok, Err, refl, sym, ap, subst, ◌∙◌, length-append}
+use Rattle.std.proofs.Common.{◌≡◌, ℕ, ◌+◌, ◌<◌, true, false, List, [], ◌∷◌, ◌++◌, length, Option, Some, None, Ok, Err, refl, sym, ap, subst, ◌∙◌, arith, length-append}
 use Rattle.std.specs.Option.{option_and_then}
 use Rattle.stx_base.specs.declared.limits.Limits.{Limits}
 use Rattle.stx_base.specs.declared.memory.Memory.{Memory}
-use Rattle.stx_host.specs.Outside.{Closes, DocFault, MayOpen, Opens, Outside, and_more, place}
+use Rattle.stx_host.specs.Outside.{Closes, DocFault, LacksRoom, MayOpen, Opens, Outside, and_more, for_id, place}
+use Rattle.stx_host.specs.Rooms.{needed}
 use Rattle.stx_host.specs.declared.act.Act.{Act}
 use Rattle.stx_host.specs.declared.act.Act.TheVariants.{Open}
 use Rattle.stx_host.specs.declared.act.Doc.{Doc}
@@ -28,6 +29,7 @@ use Rattle.sheet_files.proofs.Doing.{closes_open_none, counts_closed, counts_fai
 use Rattle.sheet_files.proofs.Ends.{none_quiet, quiet_closes, quiet_open}
 use Rattle.sheet_files.proofs.Halting.{first_like, first_wanted}
 use Rattle.sheet_files.proofs.Holding.{closed_ids, held_more, held_still, if_some}
+use Rattle.sheet_files.proofs.Lacking.{halts_lacking}
 use Rattle.sheet_files.proofs.Opening.{append_none, map_append}
 use Rattle.sheet_files.proofs.Staying.{stays_closed, stays_none, stays_opened, stays_then}
 use Rattle.sheet_files.proofs.Stepping.{held_like, over_wants_none, read_like, within_like}
@@ -139,6 +141,7 @@ module _ (o q p : Outside) (old new : Reading) (href : List ℕ) (id : ℕ) (hel
           ids = ids_back ∙ within.ids ∙ ap (λ (l : List Going). and_more start.open_ids (ids_of l)) (sym fails.0);
           counts = counts_then start o p within.counts (counts_then o q p (subst (SameCounts o) (sym does) (record { doc = refl; main = refl; out = refl; note = refl })) (counts_closed q p id closes));
           at = tt;
+          lacks = tt;
           once = if_some start.open_ids (λ ids once. none_quiet (acts ++ Open doc id ∷ []) closed.acts (none_quiet acts (Open doc id ∷ []) once.none_behind (quiet_open doc id)) (quiet_closes closed.acts closed.closes)) within.once;
         },
         stays_then old.limits name start acts (acts ++ Open doc id ∷ []) ((acts ++ Open doc id ∷ []) ++ closed.acts) (stays_opened old.limits name start acts doc id) (stays_closed old.limits name start (acts ++ Open doc id ∷ []) closed.acts closed.closes),
@@ -161,18 +164,19 @@ module _ (o p : Outside) (old : Reading) (href : List ℕ) (y : Standing) (held 
       )
 
 -- it couldn't be opened
-pub unopened_steps : (o p : Outside) (old : Reading) (file : List ℕ) → DocFault o p → (name : List ℕ) → IsRead name old [] → wanted_in old.loader.progress ≡ Some file → WantsFile old.going.items old.loader
+pub unopened_steps : (o p : Outside) (old : Reading) (file : List ℕ) → IsHeld o old → MayOpen o file Failed → DocFault o p → (name : List ℕ) → IsRead name old [] → wanted_in old.loader.progress ≡ Some file → WantsFile old.going.items old.loader
     → (start : Outside) (acts : List Act) → IsWithin start o old.going.items old.files.items [] acts → (halted : IsHalted name start p old (halt.Unopened file)) × StayUndecided old.limits name start acts halted.acts
-unopened_steps o p old file fault name read wanted wants start acts within = (
+unopened_steps o p old file held may fault name read wanted wants start acts within = (
   record {
     acts = acts ++ [];
-    done = done_then start o p acts [] within.done (done_open o p file Failed tt fault);
+    done = done_then start o p acts [] within.done (done_open o p file Failed may fault);
     names = names_of old.files.items;
     opened = ap opens (append_none acts) ∙ within.opened ∙ ap (places start) (append_none (names_of old.files.items));
     first = first_wanted start o name old file acts read wanted wants within;
     ids = ap (λ (x : Outside). x.open_ids) fault.alone ∙ within.ids;
     counts = counts_failed start o p within.counts fault;
     at = tt;
+    lacks = subst (λ (l : List Act). LacksRoom start (needed l [] [])) (sym (append_none acts)) (halts_lacking start o old.going.items old.files.items [] acts within held.numbered for_id (omega arith) (omega arith) refl refl may);
     once = if_some start.open_ids (λ ids once. subst NoneBehindEnd (sym (append_none acts)) once.none_behind) within.once;
   },
   stays_none old.limits name start acts,

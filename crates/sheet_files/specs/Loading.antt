@@ -7,7 +7,8 @@ use Rattle.stx_base.specs.declared.fault.SheetFault.{SheetFault}
 use Rattle.stx_base.specs.declared.limits.Limits.{Limits}
 use Rattle.stx_host.specs.Before.{Between, is_main_read}
 use Rattle.stx_host.specs.Laws.{CountsLater}
-use Rattle.stx_host.specs.Outside.{Outside, Rose, document, place}
+use Rattle.stx_host.specs.Outside.{LacksRoom, Outside, Rose, document, place}
+use Rattle.stx_host.specs.Rooms.{needed}
 use Rattle.stx_host.specs.declared.act.Act.{Act}
 use Rattle.stx_host.specs.declared.act.Doc.{Doc}
 use Rattle.fault_report.specs.declared.outcome.HostFault.TheVariants as host_fault
@@ -64,6 +65,11 @@ FailsAfter told (Err (Host file fault offset)) acts =
     (offset ≡ 0) ⊎ ((id : ℕ) × (given_for id acts ≡ Some (option_and_then (λ docs. place docs file) told)) × (offset ≡ read_since_open id acts))
 FailsAfter told answer acts = Unit {0}
 
+-- this holds where the answer is a failure of the host
+abbrev pub IfFailed : Result Loaded Outcome → Type 0 → Type 0
+IfFailed (Err (Host file fault offset)) P = P
+IfFailed answer P = Unit {0}
+
 -- What loading does: it opens the sheet's files in their order, reads of them 4,096 bytes at a time at most, only while what was read doesn't
 -- decide the sheet, and not behind their ends, reads nothing of the main document, and gives the lanes nothing.
 pub record LoadActs (old new : Outside) (limits : Limits) (name : List ℕ) (answer : Result Loaded Outcome) (acts : List Act) : Type 0 where
@@ -76,6 +82,8 @@ pub record LoadActs (old new : Outside) (limits : Limits) (name : List ℕ) (ans
   pub fails : IfSome old.open_ids (λ ids. FailsAfter old.documents answer acts)
   pub once : IfSome old.open_ids (λ ids. NoneBehindEnd acts)
   pub undecided : IsUndecided old limits name acts
+  -- the host failed for want of room alone, where it tells what it has room for
+  pub room : IfFailed answer (LacksRoom old (needed acts [] []))
 
 -- the count of documents rises where the answer is a failure of the host, and else stays
 abbrev pub DocCount : Result Loaded Outcome → (before now : ℕ) → Type 0

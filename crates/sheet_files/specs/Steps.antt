@@ -3,7 +3,8 @@ use Rattle.std.specs.Prelude.{◌≡◌, ℕ, Bool, ◌+◌, ◌<◌, ◌≤◌,
 use Rattle.stx_base.specs.declared.limits.Limits.{Limits}
 use Rattle.stx_base.specs.declared.memory.Memory.{Memory}
 use Rattle.stx_host.specs.Laws.{Later}
-use Rattle.stx_host.specs.Outside.{Closes, MayOpen, Opens, Outside, ReadFault, Reads as HostReads, Rose, and_more, document, is_among}
+use Rattle.stx_host.specs.Outside.{Closes, LacksRoom, MayOpen, Opens, Outside, ReadFault, Reads as HostReads, Rose, and_more, document, for_act, is_among}
+use Rattle.stx_host.specs.Rooms.{needed}
 use Rattle.stx_host.specs.declared.act.Act.{Act}
 use Rattle.stx_host.specs.declared.act.Act.TheVariants.{Close, Read}
 use Rattle.stx_host.specs.declared.act.Doc.{Doc}
@@ -54,7 +55,7 @@ pub record Gets (old new : Outside) (g h : Going) : Type 0 where
 abbrev pub Looks : (old new : Outside) → (g h : Going) → Result Next Halt → Type 0
 Looks old new g h (Ok next.Byte) = Gets old new g h × (h.taken < length h.bytes.items)
 Looks old new g h (Ok next.End) = (h ≡ g) × (length g.bytes.items ≤ g.taken) × IfSome (old.to_come g.id) (λ bytes. bytes ≡ []) × HostReads old g.id End new
-Looks old new g h (Err halt.Unread) = (h ≡ g) × ReadFault g.id old new
+Looks old new g h (Err halt.Unread) = (h ≡ g) × ReadFault g.id old new × LacksRoom old for_act
 Looks old new g h (Err halt.Memory) = (h.id ≡ g.id) × (h.number ≡ g.number) × (h.reader ≡ g.reader) × (length g.bytes.items ≤ g.taken) × ((got : ℕ) × HostReads old g.id (Bytes got) new × (got ≤ 4096))
 Looks old new g h (Err other) = ⊥
 
@@ -146,6 +147,11 @@ abbrev pub HaltCounts : (start o : Outside) → Halt → Type 0
 HaltCounts start o halt.Memory = SameCounts start o
 HaltCounts start o other = HasFailed start o
 
+-- the room that the host lacked, where it failed
+abbrev pub HaltLacks : (start : Outside) → List Act → Halt → Type 0
+HaltLacks start acts halt.Memory = Unit {0}
+HaltLacks start acts other = LacksRoom start (needed acts [] [])
+
 -- The file of a failure, where these were opened: the innermost one couldn't be read, of which so many bytes were read since its id was given
 -- for it, or another one couldn't be opened.
 abbrev pub HaltsAt : (start : Outside) → (opened : List (List ℕ)) → Reading → List Act → Halt → Type 0
@@ -175,6 +181,7 @@ pub record IsHalted (name : List ℕ) (start o : Outside) (r : Reading) (why : H
   pub counts : HaltCounts start o why
   pub at : HaltsAt start names r acts why
   pub once : IfSome start.open_ids (λ ids. NoneBehindEnd acts)
+  pub lacks : HaltLacks start acts why
 
 -- where the sheet wasn't decided yet at the reads of acts, neither was it at those of all
 abbrev pub StayUndecided : Limits → (name : List ℕ) → (start : Outside) → (acts all : List Act) → Type 0

@@ -73,7 +73,7 @@ returns-in-Failed-clause-acts g c =
     let old = g.H.Host.outside c.args.host.now in
     let new = g.H.Host.outside c.open.new.self in
     (subst (λ (t : Outcome). LoadsTo old new c.args.limits c.args.name.now (Err t)) (sym (c.failure.ensures ∙ ap (λ (f : List ℕ). outcome.Host f host_fault.Doc 0) c.in-Ok.ensures.0))
-    (failed_loads_to old new c.args.limits c.args.name.now c.in-Failed.ensures.change)).acts
+    (failed_loads_to old new c.args.limits c.args.name.now c.in-Failed.ensures.answer c.in-Failed.ensures.change)).acts
 
 pub returns-in-Memory-clause-acts : goal.returns-in-Memory-clause-acts
 returns-in-Memory-clause-acts g c =

@@ -37,7 +37,7 @@ returns-in-Absent-clause-steps g c name read =
 
 pub returns-in-Failed-clause-steps : goal.returns-in-Failed-clause-steps
 returns-in-Failed-clause-steps g c name read start acts within =
-    unopened_steps (g.H.Host.outside c.args.host.now) (g.H.Host.outside c.open.new.self) c.args.self.now c.args.name c.in-Failed.ensures.change name read c.requires.wanted c.requires.includes start acts within
+    unopened_steps (g.H.Host.outside c.args.host.now) (g.H.Host.outside c.open.new.self) c.args.self.now c.args.name c.requires.held c.in-Failed.ensures.answer c.in-Failed.ensures.change name read c.requires.wanted c.requires.includes start acts within
 
 pub returns-in-Memory-clause-steps : goal.returns-in-Memory-clause-steps
 returns-in-Memory-clause-steps g c name read start acts within =
