@@ -1,7 +1,6 @@
 -- Documents beside the main one are handed in as they are told.
-use Rattle.std.proofs.Common.{◌≡◌, ℕ, ◌+◌, ◌<◌, ◌==◌, ◌||◌, Bool, true, false, List, [], ◌∷◌, ◌++◌, length, map, reverse, take, drop, Option, Some, None, IfSome, IsSome, inl, inr, refl, sym, ap, subst, ◌∙◌, arith, append_assoc}
-use Rattle.std.specs.Prelude.{◌⊎◌, bytes_eq, if◌then◌else◌, slice_get}
-use Rattle.std.specs.List.{list_any}
+use Rattle.std.proofs.Common.{◌≡◌, ℕ, ◌+◌, ◌<◌, ◌==◌, ◌||◌, Bool, true, false, List, [], ◌∷◌, ◌++◌, length, reverse, take, drop, Option, Some, None, IfSome, IsSome, inl, inr, refl, sym, ap, subst, ◌∙◌, arith, append_assoc}
+use Rattle.std.specs.Prelude.{bytes_eq, if◌then◌else◌, slice_get}
 use Rattle.std.specs.Option.{option_and_then, option_map}
 use Rattle.std.proofs.lemmas.Bool.{false≢true}
 use Rattle.std.proofs.lemmas.Bool.Decides.{nat_tests}
@@ -17,7 +16,7 @@ use Rattle.stx_host.specs.declared.act.Opened.TheVariants.{Absent, Id}
 use Rattle.sheet_runs.specs.Runs.{AreAbsent, AreAsTold, AreParts, AreWhole, HandsOthers}
 use Rattle.sheet_runs.specs.Talk.{Besides, Part, end_in_first, more_in_first, none_beside}
 use Rattle.sheet_runs.specs.declared.other.Other.{Other}
-use Rattle.sheet_runs.specs.inside.Running.{AreHandedOn, AreHeld, AreNew, AreReadAs, HandsOthersOn, IsReadAs, ids_of}
+use Rattle.sheet_runs.specs.inside.Running.{AreHandedOn, AreHeld, AreNew, AreReadAs, HandsOthersOn, ids_of}
 use Rattle.sheet_runs.proofs.Ids.{last-apart, one-apart}
 
 -- where both are told

@@ -1,5 +1,5 @@
 -- Which documents go on behind a piece.
-use Rattle.std.proofs.Common.{◌≡◌, ℕ, ◌+◌, ◌≤◌, Bool, true, false, List, [], ◌∷◌, ◌++◌, length, map, reverse, drop, Option, Some, None, IsSome, inl, inr, refl, sym, ap, subst, ◌∙◌, arith, append_assoc, length-append}
+use Rattle.std.proofs.Common.{◌≡◌, ℕ, ◌+◌, ◌≤◌, Bool, true, false, List, [], ◌∷◌, ◌++◌, length, map, drop, Option, Some, None, IsSome, inl, inr, refl, sym, ap, subst, ◌∙◌, arith, length-append}
 use Rattle.std.specs.Prelude.{◌⊎◌, if◌then◌else◌}
 use Rattle.std.proofs.lemmas.List.{reverse-append}
 use Rattle.std.proofs.lemmas.Bool.{false≢true}
@@ -8,7 +8,7 @@ use Rattle.xml_tokens.specs.Reader.{fed}
 use Rattle.fault_report.specs.declared.outcome.Outcome.TheVariants as ended
 use Rattle.run_engine.specs.Run.{IsHungry, Main, MainIsHungry, Open, OtherIsHungry, Over, Run, Stage, Wants}
 use Rattle.run_engine.specs.Run as spec
-use Rattle.run_engine.specs.Taking.{AreEnded, AreReadOn, Takes, Took, ended_first, fed_first, opened_first}
+use Rattle.run_engine.specs.Taking.{AreEnded, AreReadOn, Takes, Took, ended_first, fed_first}
 use Rattle.sheet_runs.specs.declared.other.Other.{Other}
 use Rattle.sheet_runs.specs.inside.Running.{AreLimited, Going, UnlessLacking, all_going, going_in, going_of, main_going}
 

@@ -1,6 +1,6 @@
 -- What is read is handed in.
-use Rattle.std.proofs.Common.{◌≡◌, ℕ, ◌+◌, ◌<◌, ◌≤◌, ◌^◌, ◌||◌, Bool, true, false, List, [], ◌∷◌, ◌++◌, length, map, take, drop, Option, Some, None, IfSome, refl, sym, ap, subst, ◌∙◌, arith, append_assoc, length-append, length-take, add-zero}
-use Rattle.std.specs.List.{concat, list_any}
+use Rattle.std.proofs.Common.{◌≡◌, ℕ, ◌+◌, ◌≤◌, ◌^◌, ◌||◌, Bool, true, false, List, [], ◌∷◌, ◌++◌, length, map, take, drop, Option, Some, None, IfSome, refl, sym, ap, subst, ◌∙◌, arith, append_assoc, length-append, length-take}
+use Rattle.std.specs.List.{concat}
 use Rattle.std.specs.Option.{option_map}
 use Rattle.std.specs.Prelude.{encode_utf8_all}
 use Rattle.std.proofs.lemmas.Str.{encodes-append}
@@ -9,19 +9,15 @@ use Rattle.std.proofs.lemmas.List.{append-nil}
 use Rattle.std.proofs.lemmas.List.Folds.{concat-append}
 use Rattle.std.proofs.Math.Seq.{drop-append_seam}
 use Rattle.stx_base.specs.Course.{Begins}
-use Rattle.stx_base.specs.declared.limits.Limits.{Limits}
-use Rattle.stx_host.specs.Before.{AtMainReads, Between, Taken, main_read}
-use Rattle.stx_host.specs.Outside.{GivesBytes, MayOpen, Opens, Outside, Reads, with_bytes}
+use Rattle.stx_host.specs.Before.{AtMainReads, Between, main_read}
+use Rattle.stx_host.specs.Outside.{GivesBytes, Outside, Reads, with_bytes}
 use Rattle.stx_host.specs.declared.act.Act.{Act}
-use Rattle.stx_host.specs.declared.act.Act.TheVariants.{Close, Open as OpenAct, Read}
+use Rattle.stx_host.specs.declared.act.Act.TheVariants.{Read}
 use Rattle.stx_host.specs.declared.act.Got.TheVariants.{Bytes as Got', End as GotEnd}
-use Rattle.stx_host.specs.declared.act.Opened.TheVariants.{Absent, Id}
-use Rattle.stx_host.proofs.Stretches.{between_close, between_open, between_read, main_read-append, main_reads_one}
+use Rattle.stx_host.proofs.Stretches.{between_read, main_read-append, main_reads_one}
 use Rattle.xml_tokens.specs.Reader.{fed}
-use Rattle.run_engine.specs.Run as spec
-use Rattle.run_engine.specs.Run.{MayCome, Open, Run, Says, Stage, Stands, StandsAt}
-use Rattle.run_engine.specs.Taking.{ended_first, fed_first, handed, opened_first}
-use Rattle.run_engine.specs.declared.piece.Piece.{Piece}
+use Rattle.run_engine.specs.Run.{MayCome, Run, StandsAt}
+use Rattle.run_engine.specs.Taking.{ended_first, fed_first, handed}
 use Rattle.run_engine.specs.declared.piece.Piece.TheVariants as piece
 use Rattle.run_engine.specs.declared.piece.Pumped.TheVariants as pumped
 use Rattle.sheet_files.specs.Acts.{opens}
@@ -32,14 +28,12 @@ use Rattle.sheet_runs.specs.Talk.{Besides, Leads, beside_in, beside_with, bytes_
 use Rattle.sheet_runs.specs.Writing.{counted}
 use Rattle.sheet_runs.specs.declared.main_document.Main.{Main}
 use Rattle.sheet_runs.specs.declared.main_document.Main.TheVariants.{Host as OfHost, Sample}
-use Rattle.sheet_runs.specs.declared.other.Other.{Other}
 use Rattle.sheet_runs.specs.declared.running.Running.{Running}
-use Rattle.sheet_runs.specs.inside.Running.{AreHeld, AreLimited, Driving, Going, Handing, HandingBytes, HandingChunk, HandsOn, HandsOthersOn, IsBytes, IsTied, IsWritten, UnlessLacking, all_going, going_in, ids_of, main_going, place_in}
-use Rattle.sheet_runs.proofs.Acting.{between-acts, between-nothing, none-then, once-bytes, once-end, once-same, opens-nothing, opens-then}
+use Rattle.sheet_runs.specs.inside.Running.{AreHeld, AreLimited, Driving, Handing, HandingBytes, HandingChunk, HandsOn, HandsOthersOn, IsTied, IsWritten, UnlessLacking, all_going, going_in, place_in}
+use Rattle.sheet_runs.proofs.Acting.{between-acts, once-bytes, once-end, opens-nothing}
 use Rattle.sheet_runs.proofs.Besides.{handed-still, main-beside-read}
-use Rattle.sheet_runs.proofs.Documents.{AsksForMain, AsksForOther, all-more, asks-main, asks-other, going-fed, limited-ended, limited-fed}
-use Rattle.sheet_runs.proofs.Ids.{ids-same, last-closed, more-held, same-held}
-use Rattle.sheet_runs.proofs.Stepping.{counted-more, counts-then, hands-still, same-counts}
+use Rattle.sheet_runs.proofs.Documents.{AsksForMain, AsksForOther, asks-main, asks-other, going-fed, limited-ended, limited-fed}
+use Rattle.sheet_runs.proofs.Stepping.{counted-more, counts-then, same-counts}
 use Rattle.sheet_runs.proofs.Talking.{or-false}
 
 or-true : (a : Bool) → (a || true) ≡ true
@@ -172,6 +166,7 @@ module _ (start : Run) (main : Main) (old now new : Outside) (r s : Running) (d 
         (subst (λ s. HandsOthersOn old new.to_come (beside_with s (piece.Bytes b) (beside_in none_beside start d.talk)) r.others.items) (sym d.says) beside);
     opened = opened-is ∙ ap (λ (x : Running). map (place_in old) (names_in start d.talk ++ name_asked x.engine.stage)) (sym same);
     held = subst (λ (x : Running). AreHeld old.open_ids new.open_ids x.others.items) (sym same) (subst (λ t. AreHeld old.open_ids t r.others.items) (sym ids) d.held);
+    few = omega (arith, d.few, ap length opened, ap (λ (x : Running). length x.others.items) same);
     counts = counts-then old now new d.counts counts;
     tied = subst (λ (x : Running). IsTied x.engine (handed x.engine (piece.Bytes b)) x.others.items over (length (given ++ bytes))) (sym same) (record {
       going = ap (λ ds. going_in (fed_first b.now ds)) asks.documents_is ∙ going-fed b.now asks.newest asks.older asks.unended
@@ -214,6 +209,7 @@ module _ (start : Run) (main : Main) (old now new : Outside) (r s : Running) (d 
         (subst (λ s. HandsOthersOn old new.to_come (beside_with s piece.End (beside_in none_beside start d.talk)) r.others.items) (sym d.says) beside);
     opened = opened-is ∙ ap (λ (x : Running). map (place_in old) (names_in start d.talk ++ name_asked x.engine.stage)) (sym same);
     held = subst (λ (x : Running). AreHeld old.open_ids new.open_ids x.others.items) (sym same) (subst (λ t. AreHeld old.open_ids t r.others.items) (sym ids) d.held);
+    few = omega (arith, d.few, ap length opened, ap (λ (x : Running). length x.others.items) same);
     counts = counts-then old now new d.counts counts;
     tied = subst (λ (x : Running). IsTied x.engine (handed x.engine piece.End) x.others.items true (length given)) (sym same) (record {
       going = ap (λ ds. going_in (ended_first ds)) asks.documents_is ∙ asks.older_is ∙ ap (λ os. all_going os true (length given)) (sym asks.alone);

@@ -1,22 +1,21 @@
 -- How a run comes to its end.
-use Rattle.std.proofs.Common.{◌≡◌, ℕ, ◌+◌, ◌<◌, ◌≤◌, ◌^◌, ◌||◌, Bool, true, false, List, [], ◌∷◌, ◌++◌, length, map, reverse, take, drop, sum, Option, Some, None, IsSome, inl, inr, refl, sym, ap, subst, ◌∙◌, arith, append_assoc, length-append, length-take}
+use Rattle.std.proofs.Common.{◌≡◌, ℕ, ◌+◌, ◌<◌, Bool, true, false, List, [], ◌∷◌, ◌++◌, length, map, take, drop, sum, Option, Some, None, IsSome, inl, inr, refl, sym, ap, subst, ◌∙◌, arith, append_assoc, length-append, length-take}
 use Rattle.std.specs.Prelude.{◌⊎◌, Err, IsErrAnd, Ok, codes}
 use Rattle.std.specs.declared.result.Result.{Result}
 use Rattle.std.proofs.lemmas.Bool.{false≢true}
 use Rattle.std.specs.Option.{option_and_then}
-use Rattle.std.specs.List.{list_any}
-use Rattle.std.proofs.lemmas.List.{append-nil, map-append, take-append-drop}
+use Rattle.std.proofs.lemmas.List.{append-nil, length-map, map-append, take-append-drop}
 use Rattle.stx_base.specs.Course.{Begins}
-use Rattle.stx_base.specs.declared.limits.Limits.{Limits}
 use Rattle.stx_host.specs.Before.{AtMainReads, Between, main_read}
-use Rattle.stx_host.specs.Outside.{Closes, DocFault, MainFault, MayOpen, NoteFault, Opens, OutFault, Outside, ReadFault, Rose, and_more, place, wrote, writes}
+use Rattle.stx_host.proofs.Lacking.{needs_for, openings-append}
+use Rattle.stx_host.specs.Rooms.{needed}
+use Rattle.stx_host.specs.Outside.{Closes, DocFault, LacksRoom, MainFault, MayOpen, NoteFault, Opens, OutFault, Outside, ReadFault, Rose, and_more, for_act, for_id, for_writes, place, wrote, writes}
 use Rattle.stx_host.specs.declared.act.Act.{Act}
-use Rattle.stx_host.specs.declared.act.Act.TheVariants.{Close, Open as OpenAct}
+use Rattle.stx_host.specs.declared.act.Act.TheVariants.{Close, Open as OpenAct, Write}
 use Rattle.stx_host.specs.declared.act.Got.TheVariants.{Failed as Unread}
 use Rattle.stx_host.specs.declared.act.Lane.TheVariants.{Note, Out}
-use Rattle.stx_host.specs.declared.act.Opened.TheVariants.{Failed as Unopened, Id, Memory as NoRoom}
+use Rattle.stx_host.specs.declared.act.Opened.TheVariants.{Failed as Unopened, Id}
 use Rattle.stx_host.proofs.Stretches.{between_fault, between_joins, between_open, between_read, between_writes, main_read-append, main_read-writes, main_reads_one, main_reads_writes, between_close}
-use Rattle.xml_tokens.specs.Reader.{fed}
 use Rattle.fault_report.specs.declared.outcome.HostFault.{HostFault}
 use Rattle.fault_report.specs.declared.outcome.HostFault.TheVariants as fault
 use Rattle.fault_report.specs.declared.outcome.Outcome.{Outcome}
@@ -25,8 +24,7 @@ use Rattle.run_engine.specs.Run as spec
 use Rattle.run_engine.specs.Run.{CanStop, Open, Run, Says, Stage, StandsAt, outcome_in}
 use Rattle.run_engine.specs.declared.piece.Pumped.{Pumped}
 use Rattle.run_engine.specs.declared.piece.Pumped.TheVariants as pumped
-use Rattle.sheet_files.specs.Acts.{opens}
-use Rattle.sheet_runs.specs.Counts.{CountsAt, CountsBy, FailsBy, SameCounts}
+use Rattle.sheet_runs.specs.Counts.{CountsAt, CountsBy, FailsBy, IfFailed, SameCounts}
 use Rattle.sheet_runs.specs.Runs.{EndsBy, HandsMain, HandsOthers, IsAsked, NewestIs, OpensNames, RunsSheet, Writes, WritesAll, WritesFront}
 use Rattle.sheet_runs.specs.Talk.{Exchange, Leads, beside_in, bytes_in, main_ends, main_in, names_in, none_beside, notes_in}
 use Rattle.sheet_runs.specs.Writing.{counted}
@@ -39,12 +37,13 @@ use Rattle.sheet_runs.specs.declared.run.Ran.{Ran}
 use Rattle.sheet_runs.specs.declared.running.Halt.{Halt}
 use Rattle.sheet_runs.specs.declared.running.Halt.TheVariants as halt
 use Rattle.sheet_runs.specs.declared.running.Running.{Running}
-use Rattle.sheet_runs.specs.inside.Running.{AreHeld, Driving, Going, Halted, HaltsAs, HandsOn, IsTied, IsWritten, UnlessLacking, WroteTo, all_going, going_in, going_of, ids_of, main_going, place_in}
-use Rattle.sheet_runs.proofs.Acting.{between-acts, between-nothing, none-then, once-same, opens-then, gots-writes, none-writes, opens-nothing, opens-writes}
+use Rattle.sheet_runs.specs.inside.Running.{AreHeld, Driving, Halted, HaltsAs, HandsOn, IsTied, IsWritten, UnlessLacking, WroteTo, all_going, going_in, going_of, ids_of, place_in}
+use Rattle.sheet_runs.proofs.Acting.{between-acts, between-nothing, none-then, once-same, gots-writes, none-writes, opens-nothing, opens-writes}
 use Rattle.sheet_runs.proofs.Besides.{as-told}
 use Rattle.sheet_runs.proofs.Documents.{all-more, lasts, not-empty}
 use Rattle.sheet_runs.proofs.Ids.{last-closed, last-open, more-held}
-use Rattle.sheet_runs.proofs.Others.{Quiet, quiet-close, quiet-open, quiet-so-far}
+use Rattle.sheet_runs.proofs.Others.{quiet-close, quiet-open, quiet-so-far}
+use Rattle.sheet_runs.proofs.Lacking.{lacked}
 use Rattle.sheet_runs.proofs.Feeding.{at-main, at-other, read-count}
 use Rattle.sheet_runs.proofs.Stepping.{counted-more, counts-then, hands-of, hands-still}
 
@@ -79,6 +78,17 @@ counts-same outcome.Usage none old new same = same
 counts-same (outcome.Sheet why) none old new same = same
 counts-same (outcome.Xml file why) none old new same = same
 counts-same (outcome.Fuel file offset) none old new same = same
+
+-- where it ended by itself there is nothing to be shown but that
+unfailed : (o : Outcome) → ((file : List ℕ) (f : HostFault) (offset : ℕ) → o ≡ outcome.Host file f offset → ⊥) → (old new : Outside) (P : Type 0) → SameCounts old new → IfFailed (Told o) old new P
+unfailed (outcome.Host file f offset) none old new P same = absurd (none file f offset refl)
+unfailed outcome.Memory none old new P same = inl same
+unfailed outcome.Done none old new P same = tt
+unfailed (outcome.Run file code offset) none old new P same = tt
+unfailed outcome.Usage none old new P same = tt
+unfailed (outcome.Sheet why) none old new P same = tt
+unfailed (outcome.Xml file why) none old new P same = tt
+unfailed (outcome.Fuel file offset) none old new P same = tt
 
 not-memory : Told outcome.Memory ≡ Told outcome.Done → ⊥
 not-memory e = cc
@@ -148,6 +158,7 @@ module _ (start : Run) (main : Main) (old now : Outside) (r : Running) (asked : 
     opened = inl d.opened;
     held = d.held;
     counts = counts-same o (no-host o can) old now d.counts;
+    room = unfailed o (no-host o can) old now (LacksRoom old (needed d.acts (bytes_in d.talk) (notes_in d.talk))) d.counts;
     ends = ends-by o can is;
     input = d.input;
     output = d.output;
@@ -183,8 +194,8 @@ module _ (start : Run) (main : Main) (old now : Outside) (r : Running) (asked : 
 
   pub halts-quietly : (new : Outside) (s : Running) (o : Outcome) (acts : List Act) → IsWritten r → s ≡ record r { others = s.others } → Between old new acts d.out d.note → AtMainReads acts d.out d.note (IsAsked (old.to_come 0) start)
       → HandsOn main r.main old acts (main_in start d.talk) (main_ends start d.talk) → OpensNames (place_in old) r.engine (names_in start d.talk) acts → AreHeld old.open_ids new.open_ids s.others.items
-      → CountsBy o old new → EndsBy r.engine acts d.out (Told o) → (Told o ≡ Told outcome.Done → ⊥) → Halted start main old new s (halt.Failed o)
-  halts-quietly new s o acts written same between reads hands opened held counts ends undone =
+      → CountsBy o old new → IfFailed (Told o) old new (LacksRoom old (needed acts (bytes_in d.talk) (notes_in d.talk))) → EndsBy r.engine acts d.out (Told o) → (Told o ≡ Told outcome.Done → ⊥) → Halted start main old new s (halt.Failed o)
+  halts-quietly new s o acts written same between reads hands opened held counts room ends undone =
       let engine : s.engine ≡ r.engine = ap (λ (x : Running). x.engine) same in
       record {
         end = Told o;
@@ -203,6 +214,7 @@ module _ (start : Run) (main : Main) (old now : Outside) (r : Running) (asked : 
         opened = subst (λ (e : Run). OpensNames (place_in old) e (names_in start d.talk) acts) (sym engine) opened;
         held = held;
         counts = counts;
+        room = room;
         ends = subst (λ (e : Run). EndsBy e acts d.out (Told o)) (sym engine) ends;
         input = ap (λ (x : Running). x.input) same ∙ d.input;
         output = ap (λ (x : Running). x.output) same ∙ d.output;
@@ -227,6 +239,7 @@ module _ (start : Run) (main : Main) (old now : Outside) (r : Running) (asked : 
     opened = inl d.opened;
     held = d.held;
     counts = d.counts.note;
+    room = inl d.counts;
     ends = tt;
     input = d.input;
     output = d.output;
@@ -234,9 +247,9 @@ module _ (start : Run) (main : Main) (old now : Outside) (r : Running) (asked : 
 
   -- A write failed
 
-  pub write-fails : (new : Outside) (o : Outcome) (bytes lens : List ℕ) (taken offset : ℕ) → bytes ≡ r.out.items → sum lens ≡ taken → taken < length bytes → OutFault (wrote now Out lens (take taken bytes)) new
+  pub write-fails : (new : Outside) (o : Outcome) (bytes lens : List ℕ) (taken offset : ℕ) → bytes ≡ r.out.items → sum lens ≡ taken → taken < length bytes → OutFault (wrote now Out lens (take taken bytes)) new → LacksRoom now (for_writes Out lens (length bytes))
       → offset ≡ counted (r.output + taken) → FailsBy fault.Write offset o → (s : Running) → s ≡ record r { output = s.output } → s.output ≡ offset → Halted start main old new s (halt.Failed o)
-  write-fails new o bytes lens taken offset is total some failed at told_by s same count =
+  write-fails new o bytes lens taken offset is total some failed short at told_by s same count =
       let front = take taken bytes in
       let mid = wrote now Out lens front in
       let acts = d.acts ++ writes Out lens in
@@ -247,8 +260,10 @@ module _ (start : Run) (main : Main) (old now : Outside) (r : Running) (asked : 
       let place : offset ≡ counted (length out) = at ∙ ap (λ n. counted (n + taken)) d.output ∙ counted-more (length d.out) taken ∙ ap (λ n. counted (length d.out + n)) fits ∙ ap counted (sym (length-append d.out front)) in
       let engine : s.engine ≡ r.engine = ap (λ (x : Running). x.engine) same in
       let note_same : new.note_faults ≡ old.note_faults = ap (λ x. x.note_faults) failed.alone ∙ counts.note in
-      let made : (o : Outcome) → CountsBy o old new → EndsBy r.engine acts out (Told o) → Writes (Told o) d.talk out d.note → (Told o ≡ Told outcome.Done → ⊥) → Halted start main old new s (halt.Failed o) =
-      λ o counts ends wrote_so undone. record {
+      let short_so : LacksRoom old (needed acts (bytes_in d.talk) (notes_in d.talk)) =
+      lacked start main old now r asked d acts (for_writes Out lens (length bytes)) (omega (arith, length-append d.acts (writes Out lens), length-map lens (λ len. Write Out len))) (omega (arith, openings-append d.acts (writes Out lens))) (omega arith) (omega (arith, ap length is)) (omega arith) short in
+      let made : (o : Outcome) → CountsBy o old new → IfFailed (Told o) old new (LacksRoom old (needed acts (bytes_in d.talk) (notes_in d.talk))) → EndsBy r.engine acts out (Told o) → Writes (Told o) d.talk out d.note → (Told o ≡ Told outcome.Done → ⊥) → Halted start main old new s (halt.Failed o) =
+      λ o counts room ends wrote_so undone. record {
         end = Told o;
         halts = refl;
         acts = acts;
@@ -267,6 +282,7 @@ module _ (start : Run) (main : Main) (old now : Outside) (r : Running) (asked : 
         opened = inl (opens-nothing d.acts (writes Out lens) (opens-writes Out lens) ∙ d.opened);
         held = subst (λ t. AreHeld old.open_ids t s.others.items) (sym (ap (λ o. o.open_ids) failed.alone)) (subst (λ (x : Running). AreHeld old.open_ids now.open_ids x.others.items) (sym same) d.held);
         counts = counts;
+        room = room;
         ends = subst (λ (e : Run). EndsBy e acts out (Told o)) (sym engine) ends;
         input = ap (λ (x : Running). x.input) same ∙ d.input;
         output = count ∙ place;
@@ -275,18 +291,19 @@ module _ (start : Run) (main : Main) (old now : Outside) (r : Running) (asked : 
         (drop taken bytes ++ [], append_assoc d.out front (drop taken bytes ++ []) ∙ ap (λ l. d.out ++ (front ++ l)) (append-nil (drop taken bytes)) ∙ ap (λ l. d.out ++ l) (take-append-drop taken bytes ∙ is) ∙ d.written),
         (r.notes.items, d.noted),
       ) in
-      fails-so (λ o. Halted start main old new s (halt.Failed o)) fault.Write offset (made outcome.Memory note_same tt front_written not-memory)
+      fails-so (λ o. Halted start main old new s (halt.Failed o)) fault.Write offset (made outcome.Memory note_same (inr short_so) tt front_written not-memory)
       (made (outcome.Host (codes "-") fault.Write offset) (
         subst (λ n. Rose n new.out_faults) counts.out failed.count.rose,
         record { doc = ap (λ x. x.doc_faults) failed.alone ∙ counts.doc; main = ap (λ x. x.main_faults) failed.alone ∙ counts.main; out = refl; note = note_same },
       )
+      short_so
       (refl, place) front_written (told-host (codes "-") fault.Write offset))
       o told_by
 
   -- `Note` failed
-  pub notes-fail : (new : Outside) (bytes lens : List ℕ) (taken : ℕ) → r.out.items ≡ [] → bytes ≡ r.notes.items → sum lens ≡ taken → taken < length bytes → NoteFault (wrote now Note lens (take taken bytes)) new
+  pub notes-fail : (new : Outside) (bytes lens : List ℕ) (taken : ℕ) → r.out.items ≡ [] → bytes ≡ r.notes.items → sum lens ≡ taken → taken < length bytes → NoteFault (wrote now Note lens (take taken bytes)) new → LacksRoom now (for_writes Note lens (length bytes))
       → Halted start main old new r halt.Unnoted
-  notes-fail new bytes lens taken nothing is total some failed =
+  notes-fail new bytes lens taken nothing is total some failed short =
       let front = take taken bytes in
       let mid = wrote now Note lens front in
       let acts = d.acts ++ writes Note lens in
@@ -318,6 +335,7 @@ module _ (start : Run) (main : Main) (old now : Outside) (r : Running) (asked : 
           subst (λ n. Rose n new.note_faults) d.counts.note failed.count.rose,
           record { doc = ap (λ x. x.doc_faults) failed.alone ∙ d.counts.doc; main = ap (λ x. x.main_faults) failed.alone ∙ d.counts.main; out = ap (λ x. x.out_faults) failed.alone ∙ d.counts.out; note = refl },
         );
+        room = lacked start main old now r asked d acts (for_writes Note lens (length bytes)) (omega (arith, length-append d.acts (writes Note lens), length-map lens (λ len. Write Note len))) (omega (arith, openings-append d.acts (writes Note lens))) (omega arith) (omega arith) (omega (arith, ap length is)) short;
         ends = tt;
         input = d.input;
         output = d.output;
@@ -344,6 +362,7 @@ halts-with start whole old now r main why h = record {
   opened = h.opened;
   held = h.held;
   counts = h.counts;
+  room = h.room;
   ends = h.ends;
   input = h.input;
   output = h.output;
@@ -362,8 +381,8 @@ module _ (start : Run) (main : Main) (old now new : Outside) (r : Running) where
   quiet-names asked d = inl d.opened
 
   -- that of the main document
-  pub read-fails : (d : Driving start main old now r pumped.Main) → IsWritten r → r.main ≡ OfHost → MainFault now new → (o : Outcome) → FailsBy fault.Read r.input o → Halted start main old new r (halt.Failed o)
-  read-fails d written host failed o told_by =
+  pub read-fails : (d : Driving start main old now r pumped.Main) → IsWritten r → r.main ≡ OfHost → MainFault now new → LacksRoom now for_act → (o : Outcome) → FailsBy fault.Read r.input o → Halted start main old new r (halt.Failed o)
+  read-fails d written host failed short o told_by =
       let a = at-main start main old now r d in
       let given = length (main_in start d.talk) in
       let read : given ≡ main_read d.acts = read-count main old d.acts (main_in start d.talk) (main_ends start d.talk) (subst (λ m. HandsOn main m old d.acts (main_in start d.talk) (main_ends start d.talk)) host d.hands) in
@@ -371,19 +390,22 @@ module _ (start : Run) (main : Main) (old now new : Outside) (r : Running) where
       let between = between-nothing old now new d.acts d.out d.note d.between (between_read now new 0 Unread (record { main = λ is. failed; doc = λ above. absurd (omega (arith, above)) })) in
       let held : AreHeld old.open_ids new.open_ids r.others.items = subst (λ t. AreHeld old.open_ids t r.others.items) (sym (ap (λ o. o.open_ids) failed.alone)) d.held in
       let note_same : new.note_faults ≡ old.note_faults = ap (λ x. x.note_faults) failed.alone ∙ d.counts.note in
+      let short_so : LacksRoom old (needed d.acts (bytes_in d.talk) (notes_in d.talk)) =
+      lacked start main old now r pumped.Main d d.acts for_act (omega arith) (omega arith) (omega arith) (omega arith) (omega arith) short in
       fails-so (λ o. Halted start main old new r (halt.Failed o)) fault.Read r.input
-      (halts-quietly start main old now r pumped.Main d new r outcome.Memory d.acts written refl between d.reads d.hands (inl d.opened) held note_same tt not-memory)
+      (halts-quietly start main old now r pumped.Main d new r outcome.Memory d.acts written refl between d.reads d.hands (inl d.opened) held note_same (inr short_so) tt not-memory)
       (halts-quietly start main old now r pumped.Main d new r (outcome.Host (codes "-") fault.Read r.input) d.acts written refl between d.reads d.hands (inl d.opened) held (
         subst (λ n. Rose n new.main_faults) d.counts.main failed.count.rose,
         record { doc = ap (λ x. x.doc_faults) failed.alone ∙ d.counts.doc; main = refl; out = ap (λ x. x.out_faults) failed.alone ∙ d.counts.out; note = note_same },
       )
+      short_so
       (d.says, refl, place) (told-host (codes "-") fault.Read r.input))
       o told_by
 
   -- that of another document, which is told by its name
-  pub other-fails : (d : Driving start main old now r pumped.Document) → IsWritten r → (s : Running) → s ≡ record r { others = s.others } → ReadFault (at-other start main old now r d).last.id now new
+  pub other-fails : (d : Driving start main old now r pumped.Document) → IsWritten r → (s : Running) → s ≡ record r { others = s.others } → ReadFault (at-other start main old now r d).last.id now new → LacksRoom now for_act
       → AreHeld old.open_ids now.open_ids s.others.items → Halted start main old new s (halt.Failed (outcome.Host (at-other start main old now r d).last.name fault.Doc (at-other start main old now r d).last.read))
-  other-fails d written s same failed_at held =
+  other-fails d written s same failed_at short held =
       let a = at-other start main old now r d in
       let held_so : AreHeld old.open_ids now.open_ids (a.front ++ a.last ∷ []) = subst (AreHeld old.open_ids now.open_ids) a.others_is d.held in
       let failed : DocFault now new = failed_at.doc (last-open old.open_ids a.front a.last now.open_ids held_so).above_zero in
@@ -394,17 +416,19 @@ module _ (start : Run) (main : Main) (old now new : Outside) (r : Running) where
         subst (λ n. Rose n new.doc_faults) d.counts.doc failed.count.rose,
         record { doc = refl; main = ap (λ x. x.main_faults) failed.alone ∙ d.counts.main; out = ap (λ x. x.out_faults) failed.alone ∙ d.counts.out; note = ap (λ x. x.note_faults) failed.alone ∙ d.counts.note },
       )
+      (lacked start main old now r pumped.Document d d.acts for_act (omega arith) (omega arith) (omega arith) (omega arith) (omega arith) short)
       (inr (d.says, newest)) (told-host a.last.name fault.Doc a.last.read)
 
   -- one that was asked for can't be opened
-  pub open-fails : (name : List ℕ) (d : Driving start main old now r (pumped.Open name)) → IsWritten r → DocFault now new → Halted start main old new r (halt.Failed (outcome.Host name fault.Doc 0))
-  open-fails name d written failed =
+  pub open-fails : (name : List ℕ) (d : Driving start main old now r (pumped.Open name)) → IsWritten r → MayOpen now name Unopened → DocFault now new → Halted start main old new r (halt.Failed (outcome.Host name fault.Doc 0))
+  open-fails name d written short failed =
       halts-quietly start main old now r (pumped.Open name) d new r (outcome.Host name fault.Doc 0) d.acts written refl
-      (between-nothing old now new d.acts d.out d.note d.between (between_open now new name Unopened tt failed)) d.reads d.hands (inl d.opened)
+      (between-nothing old now new d.acts d.out d.note d.between (between_open now new name Unopened short failed)) d.reads d.hands (inl d.opened)
       (subst (λ t. AreHeld old.open_ids t r.others.items) (sym (ap (λ o. o.open_ids) failed.alone)) d.held) (
         subst (λ n. Rose n new.doc_faults) d.counts.doc failed.count.rose,
         record { doc = refl; main = ap (λ x. x.main_faults) failed.alone ∙ d.counts.main; out = ap (λ x. x.out_faults) failed.alone ∙ d.counts.out; note = ap (λ x. x.note_faults) failed.alone ∙ d.counts.note },
       )
+      (lacked start main old now r (pumped.Open name) d d.acts for_id (omega arith) (omega arith) (omega arith) (omega arith) (omega arith) short)
       (inl (d.says, refl)) (told-host name fault.Doc 0)
 
   -- memory was wanting for it
@@ -425,7 +449,7 @@ module _ (start : Run) (main : Main) (old now new : Outside) (r : Running) where
       let then = quiet-close start main r.main old given over d.out d.note mid new acts (opened ++ place_in now name ∷ []) first id may.above_zero closes in
       halts-quietly start main old now r (pumped.Open name) d new s outcome.Memory then.0 written same then.1.between then.1.reads then.1.hands
       (inr (name, d.says, then.1.opened_is ∙ ap (λ at. opened ++ at ∷ []) (ap (λ t. option_and_then (λ docs. place docs name) t) d.between.documents) ∙ sym (map-append (place_in old) (names_in start d.talk) (name ∷ []))))
-      (subst (AreHeld old.open_ids new.open_ids) (sym none) (last-closed old.open_ids r.others.items last mid new held closes)) then.1.counts.note tt not-memory
+      (subst (AreHeld old.open_ids new.open_ids) (sym none) (last-closed old.open_ids r.others.items last mid new held closes)) then.1.counts.note (inl then.1.counts) tt not-memory
 
 -- A document is given back
 
@@ -445,6 +469,21 @@ counts-at (Told (outcome.Run file code offset)) old now new same c = counts-then
 counts-at (Told (outcome.Sheet why)) old now new same c = counts-then old now new c same
 counts-at (Told (outcome.Xml file why)) old now new same c = counts-then old now new c same
 counts-at (Told (outcome.Fuel file offset)) old now new same c = counts-then old now new c same
+
+-- what follows from it, where no count changed since
+pub room-at : (end : End) (old now new : Outside) (P Q : Type 0) → SameCounts now new → (P → Q) → IfFailed end old now P → IfFailed end old new Q
+room-at Unnoted old now new P Q same f p = f p
+room-at (Told (outcome.Host file f offset)) old now new P Q same g p = g p
+room-at (Told outcome.Memory) old now new P Q same f p = elim p [
+  | inl counts ↦ inl (counts-then old now new counts same)
+  | inr p ↦ inr (f p)
+]
+room-at (Told outcome.Done) old now new P Q same f p = tt
+room-at (Told outcome.Usage) old now new P Q same f p = tt
+room-at (Told (outcome.Run file code offset)) old now new P Q same f p = tt
+room-at (Told (outcome.Sheet why)) old now new P Q same f p = tt
+room-at (Told (outcome.Xml file why)) old now new P Q same f p = tt
+room-at (Told (outcome.Fuel file offset)) old now new P Q same f p = tt
 
 -- it reads nothing
 ends-at : (run : Run) (acts more : List Act) (out : List ℕ) (end : End) → main_read more ≡ 0 → EndsBy run acts out end → EndsBy run (acts ++ more) out end
@@ -485,8 +524,8 @@ module _ (start : Run) (main : Main) (old now new : Outside) (r s : Running) (wh
   engine-at = ap (λ (x : Running). x.engine) same
 
   closes-by : (acts : List Act) → Between old new acts h.out h.note → AtMainReads acts h.out h.note (IsAsked (old.to_come 0) start) → HandsMain main old acts (main_in start h.talk) (main_ends start h.talk)
-      → OpensNames (place_in old) r.engine (names_in start h.talk) acts → EndsBy r.engine acts h.out h.end → Halted start main old new s why
-  closes-by acts between reads hands opened ends = record {
+      → OpensNames (place_in old) r.engine (names_in start h.talk) acts → IfFailed h.end old new (LacksRoom old (needed acts (bytes_in h.talk) (notes_in h.talk))) → EndsBy r.engine acts h.out h.end → Halted start main old new s why
+  closes-by acts between reads hands opened room ends = record {
     end = h.end;
     halts = subst (λ (e : Run). HaltsAs e why h.end) (sym engine-at) h.halts;
     acts = acts;
@@ -503,6 +542,7 @@ module _ (start : Run) (main : Main) (old now new : Outside) (r s : Running) (wh
     opened = subst (λ (e : Run). OpensNames (place_in old) e (names_in start h.talk) acts) (sym engine-at) opened;
     held = subst (AreHeld old.open_ids new.open_ids) (sym fewer) (last-closed old.open_ids front o now new held-at closes);
     counts = counts-at h.end old now new (closed-counts now new o.id closes) h.counts;
+    room = room;
     ends = subst (λ (e : Run). EndsBy e acts h.out h.end) (sym engine-at) ends;
     input = ap (λ (x : Running). x.input) same ∙ h.input;
     output = ap (λ (x : Running). x.output) same ∙ h.output;
@@ -514,8 +554,10 @@ module _ (start : Run) (main : Main) (old now new : Outside) (r s : Running) (wh
         (main_reads_one h.acts (Close o.id) h.out h.note (IsAsked (old.to_come 0) start) h.between.out_written h.between.note_written h.reads (λ is_read. absurd (false≢true is_read)))
         (hands-at main old h.acts o.id (main_in start h.talk) (main_ends start h.talk) h.hands)
         (opens-at (place_in old) r.engine (names_in start h.talk) h.acts o.id h.opened)
+        (room-at h.end old now new (LacksRoom old (needed h.acts (bytes_in h.talk) (notes_in h.talk))) _ (closed-counts now new o.id closes) (needs_for old h.acts (Close o.id ∷ []) (bytes_in h.talk) (notes_in h.talk)) h.room)
         (ends-at r.engine h.acts (Close o.id ∷ []) h.out h.end refl h.ends)
-    | inr between ↦ closes-by h.acts (between-nothing old now new h.acts h.out h.note h.between between) h.reads h.hands h.opened h.ends
+    | inr between ↦ closes-by h.acts (between-nothing old now new h.acts h.out h.note h.between between) h.reads h.hands h.opened
+        (room-at h.end old now new (LacksRoom old (needed h.acts (bytes_in h.talk) (notes_in h.talk))) _ (closed-counts now new o.id closes) (λ lacks. lacks) h.room) h.ends
   ]
 
 -- What came of it
@@ -540,6 +582,7 @@ ran-so start main old new r why ran h none halts input output =
       opened = h.opened;
       ids = h.held.ids ∙ ap (λ os. and_more old.open_ids (ids_of os)) none ∙ none-more old.open_ids;
       counts = subst (λ e. CountsAt e old new) end h.counts;
+      room = subst (λ e. IfFailed e old new (LacksRoom old (needed h.acts (bytes_in h.talk) (notes_in h.talk)))) end h.room;
       ends = subst (EndsBy r.engine h.acts h.out) end h.ends;
       input = input ∙ h.input;
       output = output ∙ h.output;

@@ -1,6 +1,5 @@
 -- Which ids are open.
-use Rattle.std.proofs.Common.{◌≡◌, ℕ, ◌<◌, ◌==◌, ◌||◌, Bool, true, false, List, [], ◌∷◌, ◌++◌, map, Option, Some, None, IsTrue, IfSome, IsSome, refl, sym, ap, subst, ◌∙◌, append_assoc}
-use Rattle.std.specs.Option.{option_map}
+use Rattle.std.proofs.Common.{◌≡◌, ℕ, ◌<◌, ◌==◌, ◌||◌, Bool, true, false, List, [], ◌∷◌, ◌++◌, Option, Some, None, IsTrue, IfSome, refl, sym, ap, subst, ◌∙◌, append_assoc}
 use Rattle.std.proofs.lemmas.Bool.{false≢true}
 use Rattle.std.proofs.lemmas.List.{append-nil, map-append}
 use Rattle.std.proofs.lemmas.List.Folds.{list_any-append}
@@ -9,7 +8,7 @@ use Rattle.stx_host.proofs.ToCome.{eq_self}
 use Rattle.stx_host.specs.Outside.{Closes, IsOpen, MayOpen, Opens, Outside, and_more, is_among}
 use Rattle.stx_host.specs.declared.act.Opened.TheVariants.{Id}
 use Rattle.sheet_runs.specs.declared.other.Other.{Other}
-use Rattle.sheet_runs.specs.inside.Running.{AreHeld, AreNew, AreOpen, ids_of}
+use Rattle.sheet_runs.specs.inside.Running.{AreHeld, AreNew, ids_of}
 
 -- an id that isn't open
 abbrev IsFree : Option (List ℕ) → (id : ℕ) → Type 0

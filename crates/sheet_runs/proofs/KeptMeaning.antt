@@ -1,13 +1,14 @@
 -- What a whole run over a host writes of what its sheet means.
-use Rattle.std.proofs.Common.{◌≡◌, ◌⊎◌, inl, inr, ℕ, Bool, true, false, List, [], ◌∷◌, ◌++◌, length, map, take, Some, Option, refl, sym, ap, subst, ◌∙◌, append_assoc, append-nil}
+use Rattle.std.proofs.Common.{◌≡◌, inl, inr, ℕ, Bool, true, false, List, [], ◌∷◌, ◌++◌, map, take, Some, Option, refl, sym, ap, subst, ◌∙◌, append_assoc, append-nil}
 use Rattle.std.specs.Prelude.{encode_utf8_all}
 use Rattle.std.specs.List.{concat}
 use Rattle.std.specs.Option.{option_and_then}
 use Rattle.std.proofs.Math.Seq.{take-append_seam}
 use Rattle.stx_base.specs.Course.{Begins, Ends}
-use Rattle.result_writer.specs.Target.{Left, Target, fresh, nothing}
-use Rattle.stx_host.specs.Before.{Taken, main_read}
-use Rattle.stx_host.specs.Outside.{Outside, place}
+use Rattle.result_writer.specs.Target.{fresh, nothing}
+use Rattle.stx_host.specs.Before.{Taken}
+use Rattle.stx_host.specs.Outside.{LacksRoom, Outside, place}
+use Rattle.stx_host.specs.Rooms.{needed}
 use Rattle.stx_host.specs.declared.act.Act.{Act}
 use Rattle.fault_report.specs.declared.outcome.HostFault.TheVariants as fault
 use Rattle.fault_report.specs.declared.outcome.Outcome.{Outcome}
@@ -23,7 +24,8 @@ use Rattle.run_engine.specs.Does.{InOrder, InOrderAt, IsRunOf, told_as}
 use Rattle.run_engine.specs.More.{Coming, nothing_yet}
 use Rattle.run_engine.specs.Run.{Document, Main, New, Over, Run, Stage, Wants, at_start, head}
 use Rattle.sheet_files.specs.Acts.{opens}
-use Rattle.sheet_runs.specs.Meant.{EndedAs, EndsAsMeant, EndsMeaning, HasEnded, IsDocument, IsOnOther, IsSettledOn, KeepsMeaning, Means, RunsKeepMeaning, RunsMean, WasSettled, WritesMeaning, came, came_by, head_in, tree_of}
+use Rattle.sheet_runs.specs.Counts.{IfFailed}
+use Rattle.sheet_runs.specs.Meant.{EndedAs, EndsAsMeant, EndsMeaning, HasEnded, IsDocument, IsOnOther, IsSettledOn, KeepsMeaning, Means, RunsKeepMeaning, RunsMean, WasSettled, came, came_by, head_in, tree_of}
 use Rattle.sheet_runs.specs.Runs.{EndsBy, FailsOn, HandsMain, IsAsked, OpensNames, RunsSheet, Writes}
 use Rattle.sheet_runs.specs.Talk.{Exchange, Leads, bytes_in, main_ends, main_in, names_in, notes_in}
 use Rattle.sheet_runs.specs.declared.main_document.Main as main_document
@@ -31,6 +33,9 @@ use Rattle.sheet_runs.specs.declared.main_document.Main.TheVariants.{Host as OfH
 use Rattle.sheet_runs.specs.declared.run.End.{End}
 use Rattle.sheet_runs.specs.declared.run.End.TheVariants.{Told, Unnoted}
 use Rattle.sheet_runs.specs.declared.run.Ran.{Ran}
+use Rattle.sheet_runs.proofs.Halting.{room-at}
+use Rattle.sheet_runs.proofs.Lacking.{needs_all}
+use Rattle.sheet_runs.proofs.Stepping.{same-counts}
 
 -- Beginnings
 
@@ -145,17 +150,24 @@ module _ (means : RunsMean) (given : Given) (start : Run) (docs : AreNew given) 
     m : Means given start r.run r.talk
     m = means given start r.run r.talk docs is-start runs order r.leads
 
-    -- what was written begins what the sheet means
+    -- what was settled begins what the sheet means
+    settled : (document : List ℕ) → IsDocument main old document → (said : List Said) (e : Ending) → Ends (code given) (meaning given (tree_of given (record { bytes = document; ended = true }))) said e
+        → Begins (bytes_in r.talk) (head ++ settled_by nothing said) × Begins (notes_in r.talk) (lines_of said)
+    settled document is said e ends =
+        let x = whole-comes main old r.acts start r.talk document r.hands is in
+        let first : Begins m.said said = m.begins x.0 said e (subst (λ z. Ends (code given) (meaning given (tree_of given z)) said e) (sym x.1) ends) in (
+          out-begins r.talk (bytes_in r.talk) (settled_by nothing m.said) (settled_by nothing said) refl (was-begins r.run.stage (bytes_in r.talk) (head_in r.talk ++ settled_by nothing m.said) m.bytes) (settled-begins m.said said first),
+          begins-more (notes_in r.talk) (lines_of m.said) (lines_of said) (was-begins r.run.stage (notes_in r.talk) (lines_of m.said) m.notes) (lines-begin m.said said first),
+        )
+
+    -- and so does what was written
     written : (document : List ℕ) → IsDocument main old document → (said : List Said) (e : Ending) → Ends (code given) (meaning given (tree_of given (record { bytes = document; ended = true }))) said e
         → Begins r.out (head ++ settled_by nothing said) × Begins r.note (lines_of said)
     written document is said e ends =
-        let x = whole-comes main old r.acts start r.talk document r.hands is in
-        let first : Begins m.said said = m.begins x.0 said e (subst (λ z. Ends (code given) (meaning given (tree_of given z)) said e) (sym x.1) ends) in
+        let all = settled document is said e ends in
         let w = front-of ran.end r.talk r.out r.note r.writes in (
-          begins-more r.out (bytes_in r.talk) (head ++ settled_by nothing said) w.0
-              (out-begins r.talk (bytes_in r.talk) (settled_by nothing m.said) (settled_by nothing said) refl (was-begins r.run.stage (bytes_in r.talk) (head_in r.talk ++ settled_by nothing m.said) m.bytes) (settled-begins m.said said first)),
-          begins-more r.note (notes_in r.talk) (lines_of said) w.1
-              (begins-more (notes_in r.talk) (lines_of m.said) (lines_of said) (was-begins r.run.stage (notes_in r.talk) (lines_of m.said) m.notes) (lines-begin m.said said first)),
+          begins-more r.out (bytes_in r.talk) (head ++ settled_by nothing said) w.0 all.0,
+          begins-more r.note (notes_in r.talk) (lines_of said) w.1 all.1,
         )
 
     -- and where the run ended by itself that is all
@@ -213,12 +225,21 @@ module _ (means : RunsMean) (given : Given) (start : Run) (docs : AreNew given) 
     never-on-other (Told (outcome.Xml file why)) h on = on
     never-on-other (Told (outcome.Fuel file offset)) h on = on
 
-    kept : KeepsMeaning given main old r.acts r.out r.note ran.end
+    -- who lacks room for what was settled lacks it for all of that
+    lacks-all : (document : List ℕ) → IsDocument main old document → (said : List Said) (e : Ending) → Ends (code given) (meaning given (tree_of given (record { bytes = document; ended = true }))) said e
+        → IfFailed ran.end old new (LacksRoom old (needed r.acts (head ++ settled_by nothing said) (lines_of said)))
+    lacks-all document is said e ends =
+        let all = settled document is said e ends in
+        room-at ran.end old new new (LacksRoom old (needed r.acts (bytes_in r.talk) (notes_in r.talk))) (LacksRoom old (needed r.acts (head ++ settled_by nothing said) (lines_of said))) (same-counts new)
+        (needs_all old r.acts (bytes_in r.talk) (head ++ settled_by nothing said) (notes_in r.talk) (lines_of said) all.0 all.1) r.room
+
+    kept : KeepsMeaning given main old new r.acts r.out r.note ran.end
     kept = record {
       reads = λ document is k is_read. asked (old.to_come 0) document _ is (r.reads k is_read);
       writes = λ document is. record { begins = written document is; ends = ends-as document is ran.end r.ends r.writes };
       opened = none-opened;
       alone = never-on-other ran.end r.ends;
+      room = lacks-all;
     }
 
 pub keeps : RunsMean → RunsKeepMeaning

@@ -3,7 +3,7 @@ use Rattle.std.proofs.Common.{◌≡◌, ℕ, ◌+◌, ◌*◌, ◌<◌, ◌≤�
 use Rattle.stx_base.specs.declared.limits.Limits.{Limits}
 use Rattle.xml_tokens.specs.Reader.{fed}
 use Rattle.run_engine.specs.Asks.{AsksFewer, asks_left, main_events}
-use Rattle.run_engine.specs.Run.{Document, Main as AsksMain, Open, Stage, StandsAt, Wants}
+use Rattle.run_engine.specs.Run.{Document, StandsAt, Wants}
 use Rattle.run_engine.specs.Taking.{ended_first, fed_first, handed, opened_first}
 use Rattle.run_engine.specs.declared.piece.Piece.{Piece}
 use Rattle.run_engine.specs.declared.piece.Piece.TheVariants as piece
@@ -11,14 +11,14 @@ use Rattle.run_engine.specs.declared.piece.Pumped.TheVariants as asks
 use Rattle.stx_host.specs.Outside.{Outside}
 use Rattle.sheet_runs.specs.Reading.{TakesPieces}
 use Rattle.sheet_runs.specs.declared.main_document.Main.{Main}
-use Rattle.sheet_runs.specs.declared.main_document.Main.TheVariants.{Host as OfHost, Sample}
+use Rattle.sheet_runs.specs.declared.main_document.Main.TheVariants.{Sample}
 use Rattle.sheet_runs.specs.declared.other.Other.{Other}
 use Rattle.sheet_runs.specs.declared.running.Running.{Running}
 use Rattle.sheet_runs.specs.inside.Left.{LeavesLess, Pumps, WantsMain, beside_left, main_left, main_to_read, others_to_read, pieces_left, unless_over, wanted, while_beside}
 use Rattle.sheet_runs.specs.inside.Running.{Driving, IsBytes, going_in}
 use Rattle.sheet_runs.proofs.Documents.{AsksForOther, going-fed, going-first}
 use Rattle.sheet_runs.proofs.Falling.{ended-less, ended-main, fed-less, fed-main, fed-more, main-beside, main-took, main-took-less, main-without, open-left, opened-main, others-fewer, others-more, others-opened, pieces-fewer, read-left}
-use Rattle.sheet_runs.proofs.Feeding.{at-main, limited-main}
+use Rattle.sheet_runs.proofs.Feeding.{limited-main}
 
 -- What is written changes nothing of it
 

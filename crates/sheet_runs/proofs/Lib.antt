@@ -3,6 +3,7 @@ pub mod Besides
 pub mod Documents
 pub mod Halting
 pub mod Ids
+pub mod Lacking
 pub mod Lasts
 pub mod Others
 pub mod Falling

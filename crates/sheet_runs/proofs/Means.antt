@@ -10,13 +10,12 @@ use Rattle.template_machine.specs.Ending.{Ending, Needs, Said}
 use Rattle.template_machine.specs.Job.{Given}
 use Rattle.template_machine.specs.Meaning.{code, meaning}
 use Rattle.template_machine.specs.Outcome.{AreNew}
-use Rattle.template_machine.specs.Sinks.{behind_all}
 use Rattle.template_machine.specs.Stepwise.{Flat_does, flat_code}
 use Rattle.template_machine.specs.Written.{lines_of, settled_by}
 use Rattle.template_machine.specs.WrittenOn.{lines_on, settled_on}
-use Rattle.run_engine.specs.Does.{Appends, Does, EndsAs, InOrder, InOrderAt, IsMainAlone, IsRunOf, told_as}
+use Rattle.run_engine.specs.Does.{Appends, Does, EndsAs, InOrder, InOrderAt, IsMainAlone, IsRunOf}
 use Rattle.run_engine.specs.More.{BeginsWithMeaning, Coming, more, nothing_yet, with_piece}
-use Rattle.run_engine.specs.Run.{Document, Main, MainIsHungry, MayCome, New, Open, Over, Run, Stage, Stands, StandsAt, Wants, at_start, begun_with, head}
+use Rattle.run_engine.specs.Run.{Document, Main, MainIsHungry, MayCome, New, Open, Over, Run, Stage, StandsAt, Wants, at_start, begun_with, head}
 use Rattle.run_engine.specs.Taking.{AreEnded, AreReadOn, Took, ended_first, handed}
 use Rattle.run_engine.specs.Taking as taking
 use Rattle.run_engine.specs.declared.piece.Piece.{Piece}

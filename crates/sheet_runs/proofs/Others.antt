@@ -1,13 +1,11 @@
 -- Other documents are opened and read.
-use Rattle.std.proofs.Common.{◌≡◌, ℕ, ◌+◌, ◌<◌, ◌≤◌, ◌^◌, ◌==◌, ◌||◌, Bool, true, false, List, [], ◌∷◌, ◌++◌, length, length-take, map, take, Option, Some, None, IfSome, inl, inr, refl, sym, ap, subst, ◌∙◌, arith, append_assoc, add-zero}
-use Rattle.std.specs.Prelude.{◌⊎◌, if◌then◌else◌}
-use Rattle.std.specs.List.{list_any}
+use Rattle.std.proofs.Common.{◌≡◌, ℕ, ◌+◌, ◌<◌, ◌≤◌, ◌^◌, ◌==◌, ◌||◌, Bool, false, List, [], ◌∷◌, ◌++◌, length, length-append, length-take, map, take, Option, Some, None, IfSome, inl, inr, refl, sym, ap, subst, ◌∙◌, arith}
+use Rattle.std.specs.Prelude.{if◌then◌else◌}
 use Rattle.std.specs.Option.{option_and_then}
 use Rattle.std.proofs.lemmas.Bool.{false≢true}
 use Rattle.std.proofs.lemmas.Bool.Decides.{nat_tests}
 use Rattle.std.proofs.lemmas.List.{append-nil, map-append}
-use Rattle.stx_base.specs.declared.limits.Limits.{Limits}
-use Rattle.stx_host.specs.Before.{AtMainReads, Between, Taken, is_main_read, main_read}
+use Rattle.stx_host.specs.Before.{AtMainReads, Between, is_main_read, main_read}
 use Rattle.stx_host.specs.Outside.{Closes, GivesBytes, MayOpen, Opens, Outside, Reads, place}
 use Rattle.stx_host.specs.declared.act.Act.{Act}
 use Rattle.stx_host.specs.declared.act.Act.TheVariants.{Close, Open as OpenAct, Read}
@@ -26,12 +24,12 @@ use Rattle.sheet_files.specs.Acts.{opens}
 use Rattle.sheet_runs.specs.Counts.{SameCounts}
 use Rattle.sheet_runs.specs.Reading.{main_gots}
 use Rattle.sheet_runs.specs.Runs.{IsAsked}
-use Rattle.sheet_runs.specs.Talk.{Besides, Leads, beside_in, beside_with, bytes_in, is_main_end, main_bytes, main_ends, main_in, more_in_first, name_asked, names_in, none_beside, notes_in}
+use Rattle.sheet_runs.specs.Talk.{Besides, Leads, beside_in, beside_with, is_main_end, main_bytes, main_ends, main_in, more_in_first, name_asked, names_in, none_beside}
 use Rattle.sheet_runs.specs.declared.main_document.Main.{Main}
 use Rattle.sheet_runs.specs.declared.other.Other.{Other}
 use Rattle.sheet_runs.specs.declared.running.Running.{Running}
-use Rattle.sheet_runs.specs.inside.Running.{AreHeld, AreLimited, Driving, Going, Handing, HandsOn, HandsOthersOn, IsBytes, IsTied, IsWritten, UnlessLacking, all_going, going_in, place_in}
-use Rattle.sheet_runs.proofs.Acting.{between-acts, between-nothing, opens-nothing, opens-then}
+use Rattle.sheet_runs.specs.inside.Running.{AreHeld, AreLimited, Driving, Handing, HandsOn, HandsOthersOn, IsBytes, IsTied, IsWritten, UnlessLacking, all_going, going_in, place_in}
+use Rattle.sheet_runs.proofs.Acting.{between-acts, between-nothing, opens-then}
 use Rattle.sheet_runs.proofs.Besides.{beside-absent, beside-opened, newest-beside-ended, newest-beside-fed}
 use Rattle.sheet_runs.proofs.Documents.{AsksForOther, all-more, going-fed, limited-ended, limited-fed}
 use Rattle.sheet_runs.proofs.Ids.{ids-same, last-closed, last-open, more-held, same-held}
@@ -118,10 +116,11 @@ module _ (start : Run) (main : Main) (old now : Outside) (r : Running) (asked : 
       → main_bytes r.engine.stage p ≡ [] → is_main_end r.engine.stage p ≡ false
       → Quiet start main r.main old (main_in start d.talk) (main_ends start d.talk) d.out d.note new acts (map (place_in old) (names_in start d.talk ++ name_asked r.engine.stage))
       → AreHeld old.open_ids new.open_ids s.others.items
+      → length s.others.items ≤ length (opens acts)
       → HandsOthersOn old new.to_come (beside_with r.engine.stage p (beside_in none_beside start d.talk)) s.others.items
       → IsTied r.engine (handed r.engine p) s.others.items (main_ends start d.talk) (length (main_in start d.talk))
       → Handing start main old new s p
-  hands-other new s acts p written same may no_bytes no_end q held beside tied =
+  hands-other new s acts p written same may no_bytes no_end q held few beside tied =
       let given = main_in start d.talk in
       let over = main_ends start d.talk in
       let engine : s.engine ≡ r.engine = ap (λ (x : Running). x.engine) same in
@@ -146,6 +145,7 @@ module _ (start : Run) (main : Main) (old now : Outside) (r : Running) (asked : 
         beside = subst (λ (e : Run). HandsOthersOn old new.to_come (beside_with e.stage p (beside_in none_beside start d.talk)) s.others.items) (sym engine) beside;
         opened = q.opened_is ∙ ap (λ (e : Run). map (place_in old) (names_in start d.talk ++ name_asked e.stage)) (sym engine);
         held = held;
+        few = few;
         counts = q.counts;
         tied = subst (λ (e : Run). IsTied e (handed e p) s.others.items over (length given)) (sym engine) tied;
         most = subst (λ (e : Run). e.limits.input ≤ 2 ^ 50) (sym engine) d.most;
@@ -194,6 +194,7 @@ module _ (start : Run) (main : Main) (old now new : Outside) (r s : Running) (d 
       (subst (Quiet start main r.main old given over d.out d.note new (d.acts ++ Read asks.last.id n ∷ [])) (sym (no-name old (names_in start d.talk) r.engine.stage d.says)) quiet)
       (subst (λ t. AreHeld old.open_ids t s.others.items) (sym (ap (λ o. o.open_ids) change))
       (subst (AreHeld old.open_ids now.open_ids) (sym more) (same-held old.open_ids now.open_ids (asks.front ++ asks.last ∷ []) (asks.front ++ last ∷ []) (ids-same asks.front asks.last (asks.last.read + n)) held-so)))
+      (omega (arith, ap length more, length-append asks.front (last ∷ []), ap length asks.others_is, length-append asks.front (asks.last ∷ []), d.few, ap length d.opened, ap length quiet.opened_is))
       (subst (HandsOthersOn old new.to_come (beside_with r.engine.stage (piece.Bytes b) so_far)) (sym more)
       (subst (λ x. HandsOthersOn old new.to_come (beside_with x (piece.Bytes b) so_far) (asks.front ++ last ∷ [])) (sym d.says)
       (subst (λ l. HandsOthersOn old new.to_come (record so_far { going = more_in_first l so_far.going }) (asks.front ++ last ∷ [])) (sym is)
@@ -223,6 +224,7 @@ module _ (start : Run) (main : Main) (old now new : Outside) (r s : Running) (d 
       (subst (Quiet start main r.main old given over d.out d.note new closed.0) (sym (no-name old (names_in start d.talk) r.engine.stage d.says)) closed.1)
       (subst (AreHeld old.open_ids new.open_ids) (sym fewer)
       (last-closed old.open_ids asks.front asks.last mid new (subst (λ t. AreHeld old.open_ids t (asks.front ++ asks.last ∷ [])) (sym (ap (λ o. o.open_ids) change)) held-so) closes))
+      (omega (arith, ap length fewer, ap length asks.others_is, length-append asks.front (asks.last ∷ []), d.few, ap length d.opened, ap length closed.1.opened_is))
       (subst (HandsOthersOn old new.to_come (beside_with r.engine.stage piece.End so_far)) (sym fewer)
       (subst (λ x. HandsOthersOn old new.to_come (beside_with x piece.End so_far) asks.front) (sym d.says)
       (newest-beside-ended old now so_far mid new asks.front asks.last held-so none change closes beside-so)))
@@ -262,6 +264,7 @@ module _ (start : Run) (main : Main) (old now new : Outside) (r s : Running) (na
       (ap (λ s. is_main_end s piece.Opened) d.says)
       (subst (Quiet start main r.main old given over d.out d.note new acts) (ap (λ at. opened ++ at ∷ []) same-place ∙ named old (names_in start d.talk)) quiet)
       (subst (AreHeld old.open_ids new.open_ids) (sym more) (more-held old.open_ids r.others.items last now new d.held may change))
+      (omega (arith, ap length more, length-append r.others.items (last ∷ []), d.few, ap length d.opened, ap length quiet.opened_is, length-append opened (place_in now name ∷ [])))
       (subst (HandsOthersOn old new.to_come (beside_with r.engine.stage piece.Opened said)) (sym more)
       (subst (λ x. HandsOthersOn old new.to_come (beside_with x piece.Opened said) (r.others.items ++ last ∷ [])) (sym d.says)
       (beside-opened old now said new r.others.items id name d.between.documents d.held may change d.beside)))
@@ -290,6 +293,7 @@ module _ (start : Run) (main : Main) (old now new : Outside) (r s : Running) (na
       (ap (λ s. is_main_end s piece.Absent) d.says)
       (subst (Quiet start main r.main old given over d.out d.note new acts) (ap (λ at. opened ++ at ∷ []) (sym (absent-place may) ∙ same-place) ∙ named old (names_in start d.talk)) quiet)
       (subst (λ t. AreHeld old.open_ids t r.others.items) (sym (ap (λ o. o.open_ids) change)) d.held)
+      (omega (arith, d.few, ap length d.opened, ap length quiet.opened_is, length-append opened (None ∷ [])))
       (subst (λ x. HandsOthersOn old new.to_come (beside_with x piece.Absent said) r.others.items) (sym d.says)
       (beside-absent old now said new r.others.items name d.between.documents may change d.beside))
       tied-so

@@ -1,43 +1,32 @@
 -- How a run goes on: pieces are handed in, and what is settled is written.
-use Rattle.std.proofs.Common.{◌≡◌, ℕ, ◌+◌, ◌<◌, ◌≤◌, ◌^◌, ◌||◌, Bool, true, false, List, [], ◌∷◌, ◌++◌, length, map, reverse, take, drop, sum, Option, Some, None, IfSome, inl, inr, refl, sym, ap, subst, ◌∙◌, arith, append_assoc, length-append, add-zero}
-use Rattle.std.specs.List.{concat, list_any}
+use Rattle.std.proofs.Common.{◌≡◌, ℕ, ◌+◌, ◌≤◌, ◌^◌, Bool, false, List, [], ◌∷◌, ◌++◌, length, map, sum, Option, Some, None, refl, sym, ap, subst, ◌∙◌, arith, length-append}
+use Rattle.std.specs.List.{list_any}
 use Rattle.std.specs.Option.{option_map}
 use Rattle.std.proofs.lemmas.Bool.{false≢true}
-use Rattle.std.proofs.lemmas.List.{append-nil, reverse-append}
-use Rattle.std.proofs.lemmas.List.Folds.{concat-append}
-use Rattle.stx_base.specs.Course.{Begins}
+use Rattle.std.proofs.lemmas.List.{append-nil}
 use Rattle.stx_base.specs.declared.limits.Limits.{Limits}
-use Rattle.stx_host.specs.Before.{AtMainReads, Between, Taken, is_main_read, main_read}
-use Rattle.stx_host.specs.Outside.{GivesBytes, MayOpen, Opens, Outside, Reads, wrote, writes}
+use Rattle.stx_host.specs.Before.{AtMainReads, Between, is_main_read, main_read}
+use Rattle.stx_host.specs.Outside.{Outside, wrote, writes}
 use Rattle.stx_host.specs.declared.act.Act.{Act}
-use Rattle.stx_host.specs.declared.act.Act.TheVariants.{Open as OpenAct, Read}
-use Rattle.stx_host.specs.declared.act.Got.TheVariants.{Bytes as Got', End as GotEnd}
 use Rattle.stx_host.specs.declared.act.Lane.TheVariants.{Note, Out}
-use Rattle.stx_host.specs.declared.act.Opened.TheVariants.{Absent, Id}
-use Rattle.stx_host.proofs.Stretches.{between_joins, between_open, between_read, between_writes, main_read-append, main_read-writes, main_reads_one, main_reads_writes, nothing_between}
-use Rattle.xml_tokens.specs.Reader.{fed}
-use Rattle.run_engine.specs.Run as spec
-use Rattle.run_engine.specs.Run.{HasHead, MayCome, Run, Says, Stage, Stands, at_start}
-use Rattle.run_engine.specs.Taking.{Took, ended_first, fed_first, handed, opened_first}
+use Rattle.stx_host.proofs.Stretches.{between_joins, between_writes, main_read-append, main_read-writes, main_reads_writes, nothing_between}
+use Rattle.run_engine.specs.Run.{MayCome, Run, Says, Stands, at_start}
+use Rattle.run_engine.specs.Taking.{handed}
 use Rattle.run_engine.specs.declared.piece.Piece.{Piece}
 use Rattle.run_engine.specs.declared.piece.Piece.TheVariants as piece
 use Rattle.run_engine.specs.declared.piece.Pumped.{Pumped}
-use Rattle.run_engine.specs.declared.piece.Pumped.TheVariants as pumped
-use Rattle.sheet_files.specs.Acts.{opens}
 use Rattle.sheet_runs.specs.Counts.{SameCounts}
-use Rattle.sheet_runs.specs.Reading.{EndOnce, TakesPieces, main_gots}
+use Rattle.sheet_runs.specs.Reading.{main_gots}
 use Rattle.sheet_runs.specs.Runs.{HandsMain, IsAsked, IsBegun}
-use Rattle.sheet_runs.specs.Talk.{Exchange, Gives, Leads, beside_in, beside_with, bytes_in, is_main_end, main_bytes, main_ends, main_in, name_asked, names_in, none_beside, notes_in}
+use Rattle.sheet_runs.specs.Talk.{Exchange, Gives, Leads, beside_in, beside_with, is_main_end, main_bytes, main_ends, main_in, name_asked, none_beside}
 use Rattle.sheet_runs.specs.Writing.{counted}
 use Rattle.sheet_runs.specs.declared.main_document.Main.{Main}
 use Rattle.sheet_runs.specs.declared.main_document.Main.TheVariants.{Host as OfHost, Sample}
-use Rattle.sheet_runs.specs.declared.other.Other.{Other}
 use Rattle.sheet_runs.specs.declared.running.Running.{Running}
-use Rattle.sheet_runs.specs.inside.Running.{AreHeld, AreLimited, Driving, Going, Handing, HandingBytes, HandsOn, HandsOthersOn, IsBytes, IsFresh, IsTied, UnlessLacking, all_going, going_in, ids_of, main_going, place_in}
-use Rattle.sheet_runs.proofs.Acting.{between-acts, gots-writes, none-then, none-writes, once-bytes, once-end, once-same, opens-nothing, opens-then, opens-writes}
+use Rattle.sheet_runs.specs.inside.Running.{AreHeld, AreLimited, Driving, Handing, HandsOn, HandsOthersOn, IsFresh, IsTied, UnlessLacking, all_going, going_in, main_going, place_in}
+use Rattle.sheet_runs.proofs.Acting.{gots-writes, none-then, none-writes, once-same, opens-nothing, opens-writes}
 use Rattle.sheet_runs.proofs.Besides.{handed-still, none-handed}
-use Rattle.sheet_runs.proofs.Documents.{AsksForMain, AsksForOther, asks-main, asks-other, going-ended, going-fed, going-took, limited-ended, limited-fed, limited-took, unless-took, all-more}
-use Rattle.sheet_runs.proofs.Ids.{last-closed, more-held, same-held, ids-same}
+use Rattle.sheet_runs.proofs.Documents.{going-took, limited-took, unless-took}
 use Rattle.sheet_runs.proofs.Talking.{beside-then, bytes-then, ends-then, leads-then, main-then, names-then, notes-then}
 
 -- Counts
@@ -101,6 +90,7 @@ module _ (engine : Run) (main : Main) (r : Running) (fresh : IsFresh engine main
         (by-start (λ e. HandsOthersOn o o.to_come (beside_with e.stage piece.Start none_beside) []) (none-handed o o.to_come));
     opened = by-start (λ e. [] ≡ map (place_in o) (name_asked e.stage)) refl;
     held = subst (λ os. AreHeld o.open_ids o.open_ids os) (sym fresh.others) (record { new = tt; ids = held-none o.open_ids });
+    few = omega (arith, ap length fresh.others);
     counts = same-counts o;
     tied = record {
       going = subst (λ os. going_in r.engine.documents ≡ all_going os false 0) (sym fresh.others) (by-start (λ e. going_in e.documents ≡ main_going false 0) refl);
@@ -143,6 +133,7 @@ module _ (start : Run) (main : Main) (old now : Outside) (r new : Running) (p : 
             (subst (λ b. HandsOthersOn old now.to_come b r.others.items) (sym (beside-then none_beside start r.engine h.talk x h.leads)) h.beside);
         opened = h.opened ∙ ap (map (place_in old)) (sym (names-then start r.engine h.talk x h.leads));
         held = subst (AreHeld old.open_ids now.open_ids) (sym others) h.held;
+        few = omega (arith, ap length others, h.few);
         counts = h.counts;
         tied = unless-took new.engine.stage (handed r.engine p) new.engine.documents
             (IsTied new.engine new.engine.documents new.others.items (main_ends start talk) (length (main_in start talk)))
@@ -189,6 +180,7 @@ module _ (start : Run) (main : Main) (old now new : Outside) (r s : Running) (as
             (handed-still old now.to_come new.to_come (beside_in none_beside start d.talk) r.others.items (ap (λ o. o.to_come) wrote_all) d.beside);
         opened = opens-nothing d.acts (writes Out lens) (opens-writes Out lens) ∙ d.opened;
         held = subst (λ ids. AreHeld old.open_ids ids s.others.items) (sym (ap (λ o. o.open_ids) wrote_all)) (subst (AreHeld old.open_ids now.open_ids) (sym others) d.held);
+        few = omega (arith, ap length others, d.few, ap length (opens-nothing d.acts (writes Out lens) (opens-writes Out lens)));
         counts = counts-then old now new d.counts
             (record { doc = ap (λ o. o.doc_faults) wrote_all; main = ap (λ o. o.main_faults) wrote_all; out = ap (λ o. o.out_faults) wrote_all; note = ap (λ o. o.note_faults) wrote_all });
         tied = subst (λ os. UnlessLacking s.engine.stage (IsTied s.engine s.engine.documents os (main_ends start d.talk) (length (main_in start d.talk)))) (sym others)
@@ -225,6 +217,7 @@ module _ (start : Run) (main : Main) (old now new : Outside) (r s : Running) (as
             (handed-still old now.to_come new.to_come (beside_in none_beside start d.talk) r.others.items (ap (λ o. o.to_come) wrote_all) d.beside);
         opened = opens-nothing d.acts (writes Note lens) (opens-writes Note lens) ∙ d.opened;
         held = subst (λ ids. AreHeld old.open_ids ids s.others.items) (sym (ap (λ o. o.open_ids) wrote_all)) (subst (AreHeld old.open_ids now.open_ids) (sym others) d.held);
+        few = omega (arith, ap length others, d.few, ap length (opens-nothing d.acts (writes Note lens) (opens-writes Note lens)));
         counts = counts-then old now new d.counts
             (record { doc = ap (λ o. o.doc_faults) wrote_all; main = ap (λ o. o.main_faults) wrote_all; out = ap (λ o. o.out_faults) wrote_all; note = ap (λ o. o.note_faults) wrote_all });
         tied = subst (λ os. UnlessLacking s.engine.stage (IsTied s.engine s.engine.documents os (main_ends start d.talk) (length (main_in start d.talk)))) (sym others)

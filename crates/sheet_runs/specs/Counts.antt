@@ -1,5 +1,5 @@
 -- What becomes of the counts of faults.
-use Rattle.std.specs.Prelude.{◌≡◌, ℕ, codes}
+use Rattle.std.specs.Prelude.{◌≡◌, ◌⊎◌, ℕ, codes}
 use Rattle.stx_host.specs.Outside.{Outside, Rose}
 use Rattle.fault_report.specs.declared.outcome.HostFault.{HostFault}
 use Rattle.fault_report.specs.declared.outcome.HostFault.TheVariants as fault
@@ -32,6 +32,13 @@ CountsBy outcome old new = SameCounts old new
 abbrev pub CountsAt : End → (old new : Outside) → Type 0
 CountsAt (Told outcome) old new = CountsBy outcome old new
 CountsAt Unnoted old new = Rose old.note_faults new.note_faults × SameCounts (record old { note_faults = new.note_faults }) new
+
+-- This holds where a run ended as the host failed. Where memory was wanting that may have come behind a failure: this holds, or no count changed.
+abbrev pub IfFailed : End → (old new : Outside) → Type 0 → Type 0
+IfFailed (Told (Host file fault offset)) old new P = P
+IfFailed (Told Memory) old new P = SameCounts old new ⊎ P
+IfFailed (Told outcome) old new P = Unit {0}
+IfFailed Unnoted old new P = P
 
 -- a failure is told with its place, if memory suffices
 abbrev pub FailsBy : HostFault → (offset : ℕ) → Outcome → Type 0

@@ -4,7 +4,8 @@ use Rattle.std.specs.List.{concat}
 use Rattle.stx_base.specs.Course.{Begins, Ends}
 use Rattle.result_writer.specs.Target.{nothing}
 use Rattle.stx_host.specs.Before.{AtMainReads, Taken}
-use Rattle.stx_host.specs.Outside.{Outside}
+use Rattle.stx_host.specs.Outside.{LacksRoom, Outside}
+use Rattle.stx_host.specs.Rooms.{needed}
 use Rattle.stx_host.specs.declared.act.Act.{Act}
 use Rattle.xml_events.specs.Document.{doc_for}
 use Rattle.xml_events.specs.Tree.{Forest}
@@ -13,14 +14,14 @@ use Rattle.template_machine.specs.Job.{Given}
 use Rattle.template_machine.specs.Meaning.{code, meaning}
 use Rattle.template_machine.specs.Outcome.{AreNew}
 use Rattle.template_machine.specs.Written.{lines_of, settled_by}
-use Rattle.template_machine.specs.declared.turn.Param.{Param}
 use Rattle.fault_report.specs.declared.outcome.HostFault.TheVariants as fault
 use Rattle.fault_report.specs.declared.outcome.Outcome.{Outcome}
 use Rattle.fault_report.specs.declared.outcome.Outcome.TheVariants as outcome
 use Rattle.run_engine.specs.Does.{InOrder, IsRunOf, told_as}
 use Rattle.run_engine.specs.More.{Coming, nothing_yet}
-use Rattle.run_engine.specs.Run.{Main, New, Over, Run, Stage, at_start, head}
+use Rattle.run_engine.specs.Run.{Main, Over, Run, Stage, at_start, head}
 use Rattle.sheet_files.specs.Acts.{opens}
+use Rattle.sheet_runs.specs.Counts.{IfFailed}
 use Rattle.sheet_runs.specs.Runs.{RunsSheet}
 use Rattle.sheet_runs.specs.Talk.{Exchange, Leads, bytes_in, main_ends, main_in, names_in, notes_in}
 use Rattle.sheet_runs.specs.declared.main_document.Main as main_document
@@ -123,15 +124,19 @@ abbrev pub IsOnOther : End → Type 0
 IsOnOther (Told (outcome.Host file fault.Doc offset)) = Unit {0}
 IsOnOther end = ⊥
 
--- What a whole run over a host writes, before each read of the main document and in the end, and that it opens no other document.
-pub record KeepsMeaning (given : Given) (main : main_document.Main) (old : Outside) (acts : List Act) (out note : List ℕ) (end : End) : Type 0 where
+-- What a whole run over a host writes, before each read of the main document and in the end; that it opens no other document; and where the host
+-- failed, that it lacked room, where that is told, for an act more or for all that the sheet means.
+pub record KeepsMeaning (given : Given) (main : main_document.Main) (old new : Outside) (acts : List Act) (out note : List ℕ) (end : End) : Type 0 where
   pub reads : (document : List ℕ) → old.to_come 0 ≡ Some document → AtMainReads acts out note (λ taken. IsSettledOn given (take taken.main_read document) taken)
   pub writes : (document : List ℕ) → IsDocument main old document → WritesMeaning given document out note end
   pub opened : opens acts ≡ []
   pub alone : IsOnOther end → ⊥
+  pub room : (document : List ℕ) → IsDocument main old document → (said : List Said) (e : Ending)
+      → Ends (code given) (meaning given (tree_of given (record { bytes = document; ended = true }))) said e
+      → IfFailed end old new (LacksRoom old (needed acts (head ++ settled_by nothing said) (lines_of said)))
 
 -- So it is with all whole runs of such sheets.
 abbrev pub RunsKeepMeaning : Type 0
 RunsKeepMeaning =
     (given : Given) (start : Run) (main : main_document.Main) (old new : Outside) (ran : Ran) → AreNew given → start ≡ at_start given.sheet given.limits start.machine → IsRunOf given start → InOrder start
-    → (r : RunsSheet start main old new ran) → KeepsMeaning given main old r.acts r.out r.note ran.end
+    → (r : RunsSheet start main old new ran) → KeepsMeaning given main old new r.acts r.out r.note ran.end

@@ -5,16 +5,16 @@ use Rattle.std.specs.Option.{option_and_then}
 use Rattle.stx_base.specs.Course.{Begins}
 use Rattle.sheet_model.specs.declared.sheet.Sheet as model
 use Rattle.stx_host.specs.Before.{AtMainReads, Between, Taken, is_main_read, main_read}
-use Rattle.stx_host.specs.Outside.{Outside, document, place}
+use Rattle.stx_host.specs.Outside.{LacksRoom, Outside, document, place}
+use Rattle.stx_host.specs.Rooms.{needed}
 use Rattle.stx_host.specs.declared.act.Act.{Act}
 use Rattle.stx_host.specs.declared.act.Doc.{Doc}
 use Rattle.xml_tokens.specs.Reader.{fed}
 use Rattle.fault_report.specs.declared.outcome.HostFault.TheVariants as fault
-use Rattle.fault_report.specs.declared.outcome.Outcome.{Outcome}
 use Rattle.fault_report.specs.declared.outcome.Outcome.TheVariants.{Done, Usage, Sheet, Host, Memory}
 use Rattle.run_engine.specs.Run.{Document, Main as AsksMain, Open, Over, Run, Wants, at_start}
 use Rattle.sheet_files.specs.Acts.{opens}
-use Rattle.sheet_runs.specs.Counts.{CountsAt}
+use Rattle.sheet_runs.specs.Counts.{CountsAt, IfFailed}
 use Rattle.sheet_runs.specs.Reading.{EndOnce, main_gots}
 use Rattle.sheet_runs.specs.Talk.{Besides, Exchange, Leads, Part, beside_in, bytes_in, main_ends, main_in, names_in, none_beside, notes_in}
 use Rattle.sheet_runs.specs.Writing.{counted}
@@ -134,6 +134,8 @@ pub record RunsSheet (start : Run) (main : Main) (old new : Outside) (ran : Ran)
   pub opened : OpensNames (λ name. option_and_then (λ docs. place docs name) old.documents) run (names_in start talk) acts
   pub ids : new.open_ids ≡ old.open_ids
   pub counts : CountsAt ran.end old new
+  -- where the host failed it was for want of room, where that is told: for an act more, or for all bytes that were settled
+  pub room : IfFailed ran.end old new (LacksRoom old (needed acts (bytes_in talk) (notes_in talk)))
   pub ends : EndsBy run acts out ran.end
   pub input : ran.input ≡ counted (length (main_in start talk))
   pub output : ran.output ≡ counted (length out)

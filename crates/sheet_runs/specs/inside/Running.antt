@@ -5,21 +5,22 @@ use Rattle.std.specs.Option.{option_and_then}
 use Rattle.std.specs.declared.result.Result.{Result}
 use Rattle.stx_base.specs.declared.limits.Limits.{Limits}
 use Rattle.stx_host.specs.Before.{AtMainReads, Between, is_main_read}
-use Rattle.stx_host.specs.Outside.{MayOpen, Opens, Outside, and_more, document, is_among, place}
+use Rattle.stx_host.specs.Outside.{LacksRoom, MayOpen, Opens, Outside, and_more, document, is_among, place}
+use Rattle.stx_host.specs.Rooms.{needed}
 use Rattle.stx_host.specs.declared.act.Opened.TheVariants.{Id}
 use Rattle.stx_host.specs.declared.act.Act.{Act}
 use Rattle.stx_host.specs.declared.act.Doc.{Doc}
 use Rattle.xml_tokens.specs.Reader.{fed}
 use Rattle.fault_report.specs.declared.outcome.Outcome.{Outcome}
 use Rattle.fault_report.specs.declared.outcome.Outcome.TheVariants as ended
-use Rattle.run_engine.specs.Run.{MayCome, New, Open, Over, Run, Says, Stage, Stands}
+use Rattle.run_engine.specs.Run.{MayCome, Open, Over, Run, Says, Stage, Stands}
 use Rattle.run_engine.specs.Taking.{handed}
 use Rattle.run_engine.specs.declared.piece.Piece.{Piece}
 use Rattle.run_engine.specs.declared.piece.Piece.TheVariants as piece
 use Rattle.run_engine.specs.declared.piece.Pumped.{Pumped}
 use Rattle.run_engine.specs.declared.piece.Pumped.TheVariants as pumped
 use Rattle.sheet_files.specs.Acts.{opens}
-use Rattle.sheet_runs.specs.Counts.{CountsAt, SameCounts}
+use Rattle.sheet_runs.specs.Counts.{CountsAt, IfFailed, SameCounts}
 use Rattle.sheet_runs.specs.Runs.{AreAbsent, AreWhole, EndsBy, HandsMain, HandsOthers, IsAsked, OpensNames, Writes}
 use Rattle.sheet_runs.specs.Talk.{Besides, Exchange, Leads, Part, beside_in, beside_with, bytes_in, is_main_end, main_bytes, main_ends, main_in, name_asked, names_in, none_beside, notes_in}
 use Rattle.sheet_runs.specs.Writing.{counted}
@@ -28,7 +29,6 @@ use Rattle.sheet_runs.specs.declared.main_document.Main.TheVariants.{Host as OfH
 use Rattle.sheet_runs.specs.declared.other.Other.{Other}
 use Rattle.sheet_runs.specs.declared.run.End.{End}
 use Rattle.sheet_runs.specs.declared.run.End.TheVariants.{Told, Unnoted}
-use Rattle.sheet_runs.specs.declared.run.Ran.{Ran}
 use Rattle.sheet_runs.specs.declared.running.Halt.{Halt}
 use Rattle.sheet_runs.specs.declared.running.Halt.TheVariants as halt
 use Rattle.sheet_runs.specs.declared.running.Running.{Running}
@@ -143,6 +143,7 @@ pub record Driving (start : Run) (main : Main) (old now : Outside) (r : Running)
   pub beside : HandsOthersOn old now.to_come (beside_in none_beside start talk) r.others.items
   pub opened : opens acts ≡ map (place_in old) (names_in start talk)
   pub held : AreHeld old.open_ids now.open_ids r.others.items
+  pub few : length r.others.items ≤ length (opens acts)
   pub counts : SameCounts old now
   pub tied : UnlessLacking r.engine.stage (IsTied r.engine r.engine.documents r.others.items (main_ends start talk) (length (main_in start talk)))
   pub most : r.engine.limits.input ≤ 2 ^ 50
@@ -176,6 +177,7 @@ pub record Handing (start : Run) (main : Main) (old now : Outside) (r : Running)
   pub beside : HandsOthersOn old now.to_come (beside_with r.engine.stage p (beside_in none_beside start talk)) r.others.items
   pub opened : opens acts ≡ map (place_in old) (names_in start talk ++ name_asked r.engine.stage)
   pub held : AreHeld old.open_ids now.open_ids r.others.items
+  pub few : length r.others.items ≤ length (opens acts)
   pub counts : SameCounts old now
   pub tied : IsTied r.engine (handed r.engine p) r.others.items ended (length handed_in)
   pub most : r.engine.limits.input ≤ 2 ^ 50
@@ -230,6 +232,7 @@ pub record Halted (start : Run) (main : Main) (old now : Outside) (r : Running) 
   pub opened : OpensNames (place_in old) r.engine (names_in start talk) acts
   pub held : AreHeld old.open_ids now.open_ids r.others.items
   pub counts : CountsAt end old now
+  pub room : IfFailed end old now (LacksRoom old (needed acts (bytes_in talk) (notes_in talk)))
   pub ends : EndsBy r.engine acts out end
   pub input : r.input ≡ counted (length (main_in start talk))
   pub output : r.output ≡ counted (length out)

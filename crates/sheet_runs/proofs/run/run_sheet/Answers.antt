@@ -1,7 +1,5 @@
-use Rattle.std.proofs.Common.{◌≡◌, ◌∙◌, refl, subst, sym, ap}
-use Rattle.run_engine.specs.Run.{Run, outcome_in}
-use Rattle.sheet_runs.specs.Runs.{IsBegun}
-use Rattle.sheet_runs.specs.inside.Running.{Halted, HaltsAs}
+use Rattle.std.proofs.Common.{subst}
+use Rattle.sheet_runs.specs.inside.Running.{Halted}
 use Rattle.sheet_runs.proofs.Halting.{over-some, ran-so}
 use Rattle.sheet_runs.proofs.run.run_sheet.Goals as goal
 

@@ -1,4 +1,3 @@
-use Rattle.std.proofs.Common.{◌+◌, ◌<◌, ◌≤◌, arith}
 use Rattle.sheet_runs.proofs.running.Running.advance.Goals as goal
 
 pub read_main-requires-clause-driven : goal.read_main-requires-clause-driven

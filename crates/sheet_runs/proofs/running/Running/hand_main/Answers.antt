@@ -1,5 +1,4 @@
 use Rattle.std.proofs.Common.{refl}
-use Rattle.sheet_runs.specs.declared.running.Running.{Running}
 use Rattle.sheet_runs.proofs.Leaving.{main-fed-less, main-fed-more}
 use Rattle.sheet_runs.proofs.running.Running.hand_main.Goals as goal
 

@@ -21,7 +21,7 @@ pub returns-in-Failed-clause-driven : goal.returns-in-Failed-clause-driven
 returns-in-Failed-clause-driven g c = λ start main old d.
     let now = g.H.Host.outside c.args.host.now in
     let new = g.H.Host.outside c.open.new.self in
-    open-fails start main old now new c.args.self.now c.args.name d c.requires.written c.in-Failed.ensures.change
+    open-fails start main old now new c.args.self.now c.args.name d c.requires.written c.in-Failed.ensures.answer c.in-Failed.ensures.change
 
 pub returns-in-Memory-clause-driven : goal.returns-in-Memory-clause-driven
 returns-in-Memory-clause-driven g c = λ start main old d.

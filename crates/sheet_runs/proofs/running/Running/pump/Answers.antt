@@ -1,4 +1,4 @@
-use Rattle.std.proofs.Common.{[], ap, refl, subst, sym}
+use Rattle.std.proofs.Common.{[], refl, subst}
 use Rattle.run_engine.specs.Does.{Does}
 use Rattle.run_engine.specs.Run.{HasHead}
 use Rattle.sheet_runs.specs.declared.running.Running.{Running}

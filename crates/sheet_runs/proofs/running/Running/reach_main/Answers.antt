@@ -1,4 +1,4 @@
-use Rattle.std.proofs.Common.{◌≡◌, ◌+◌, ◌<◌, ◌≤◌, arith}
+use Rattle.std.proofs.Common.{arith}
 use Rattle.sheet_runs.specs.inside.Running.{IsWritten}
 use Rattle.sheet_runs.proofs.Halting.{ends-over, wrote-not}
 use Rattle.sheet_runs.proofs.Leaving.{beside-kept, main-kept}

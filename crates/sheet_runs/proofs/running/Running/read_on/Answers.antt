@@ -1,4 +1,4 @@
-use Rattle.std.proofs.Common.{◌+◌, arith, length-take, refl}
+use Rattle.std.proofs.Common.{arith, length-take, refl}
 use Rattle.sheet_runs.proofs.Feeding.{reads-bytes, reads-end}
 use Rattle.sheet_runs.proofs.Halting.{read-fails}
 use Rattle.sheet_runs.proofs.Leaving.{main-ended-less, wants-main}
@@ -21,7 +21,7 @@ pub returns-in-Failed-clause-driven : goal.returns-in-Failed-clause-driven
 returns-in-Failed-clause-driven g c = λ start main old d.
     let now = g.H.Host.outside c.args.host.now in
     let new = g.H.Host.outside c.read.new.self in
-    read-fails start main old now new c.args.self.now d c.requires.written c.requires.host (c.in-Failed.ensures.change.main refl) c.failure.result c.failure.ensures
+    read-fails start main old now new c.args.self.now d c.requires.written c.requires.host (c.in-Failed.ensures.change.main refl) c.in-Failed.ensures.answer c.failure.result c.failure.ensures
 
 pub hand_main-requires : goal.hand_main-requires
 hand_main-requires g c =

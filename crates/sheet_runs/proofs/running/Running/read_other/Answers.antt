@@ -1,10 +1,7 @@
-use Rattle.std.proofs.Common.{◌≡◌, ◌+◌, ◌∷◌, [], ◌++◌, IfSome, inr, refl, sym, ap, subst, ◌∙◌}
-use Rattle.fault_report.specs.declared.outcome.HostFault.TheVariants as fault
-use Rattle.fault_report.specs.declared.outcome.Outcome.TheVariants as outcome
-use Rattle.stx_host.specs.Outside.{Closes, GivesBytes, IsOpen, IsReadable, ReadFault, Reads}
+use Rattle.std.proofs.Common.{◌≡◌, [], IfSome, inr, refl, sym, subst}
+use Rattle.stx_host.specs.Outside.{GivesBytes, IsOpen, ReadFault, Reads}
 use Rattle.stx_host.specs.declared.act.Got.TheVariants.{Bytes as Got', End as GotEnd}
 use Rattle.sheet_runs.specs.declared.running.Halt.TheVariants as halt
-use Rattle.sheet_runs.specs.declared.running.Running.{Running}
 use Rattle.sheet_runs.specs.inside.Running.{AreHeld, Halted}
 use Rattle.sheet_runs.proofs.Feeding.{at-other}
 use Rattle.sheet_runs.proofs.Halting.{other-fails}
@@ -53,7 +50,7 @@ returns-in-Failed-clause-driven g c = λ start main old d.
     let a = at-other start main old now r d in
     let id = c.newest_id.ensures a.front a.last a.others_is in
     subst (λ o. Halted start main old new c.unread.new.self (halt.Failed o)) (sym (c.unread.ensures.outcome a.front a.last a.others_is))
-    (other-fails start main old now new r d c.requires.written c.unread.new.self c.unread.ensures.others (subst (λ i. ReadFault i now new) id c.in-Failed.ensures.change)
+    (other-fails start main old now new r d c.requires.written c.unread.new.self c.unread.ensures.others (subst (λ i. ReadFault i now new) id c.in-Failed.ensures.change) c.in-Failed.ensures.answer
     (same-held old.open_ids now.open_ids r.others.items c.unread.new.self.others.items c.unread.ensures.ids d.held))
 
 pub returns-in-Bytes-clause-less : goal.returns-in-Bytes-clause-less

@@ -21,4 +21,4 @@ returns-in-Err-clause-driven g c = λ start main old asked d.
     let now = g.H.Host.outside c.args.host.now in
     let new = g.H.Host.outside c.write.new.host in
     let wrote = c.in-Err.ensures in
-    notes-fail start main old now r asked d new c.as_slice.result.now wrote.0 c.in-Err.field-0.taken c.requires c.as_slice.ensures.value wrote.1 wrote.2 wrote.3
+    notes-fail start main old now r asked d new c.as_slice.result.now wrote.0 c.in-Err.field-0.taken c.requires c.as_slice.ensures.value wrote.1 wrote.2 wrote.3 wrote.4

@@ -27,5 +27,5 @@ returns-in-Err-clause-driven g c = λ start main old asked d.
     let wrote = c.in-Err.ensures in
     let offset = c.saturating_add-self-in-Err.result in
     let s : Running = record r { output = offset } in
-    write-fails start main old now r asked d new c.failure.result c.as_slice.result.now wrote.0 c.in-Err.refused.taken offset c.as_slice.ensures.value wrote.1 wrote.2 wrote.3
+    write-fails start main old now r asked d new c.failure.result c.as_slice.result.now wrote.0 c.in-Err.refused.taken offset c.as_slice.ensures.value wrote.1 wrote.2 wrote.3 wrote.4
     c.saturating_add-self-in-Err.ensures c.failure.ensures s refl refl
