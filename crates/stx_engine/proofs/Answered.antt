@@ -1,5 +1,5 @@
 -- What was done where the answer is said.
-use Rattle.std.proofs.Common.{◌≡◌, inl, inr, ℕ, ◌||◌, Bool, true, false, if◌then◌else◌, List, [], ◌++◌, length, map, take, Some, None, Ok, Err, refl, sym, ap, subst, ◌∙◌, append-nil}
+use Rattle.std.proofs.Common.{◌≡◌, ◌⊎◌, inl, inr, ℕ, ◌||◌, Bool, true, false, if◌then◌else◌, List, [], ◌++◌, length, map, take, Some, None, Ok, Err, refl, sym, ap, subst, ◌∙◌, append-nil}
 use Rattle.std.specs.Prelude.{encode_utf8_all, is_some}
 use Rattle.std.specs.List.{concat}
 use Rattle.std.proofs.lemmas.Bool.{false≢true}
@@ -8,11 +8,15 @@ use Rattle.stx_base.specs.Course.{Begins, Ends, Over}
 use Rattle.xml_events.specs.Tree.{Forest}
 use Rattle.stx_host.specs.declared.act.Act.{Act}
 use Rattle.stx_host.specs.Before.{AtMainReads, Taken}
-use Rattle.stx_host.specs.Outside.{Outside}
+use Rattle.stx_host.specs.Outside.{LacksRoom, Outside}
+use Rattle.stx_host.specs.Rooms.{needed}
 use Rattle.stx_host.specs.declared.act.Doc.{Doc}
+use Rattle.stx_host.proofs.Lacking.{needs_after}
 use Rattle.stx_host.proofs.Stretches.{nothing_between}
 use Rattle.instr_code.specs.Code.{code_of}
+use Rattle.result_writer.specs.Target.{nothing}
 use Rattle.sheet_files.specs.Acts.{opens}
+use Rattle.sheet_files.specs.Loading as loading
 use Rattle.sheet_files.specs.Opened.{documents_told}
 use Rattle.sheet_files.specs.declared.load.Loaded.{Loaded}
 use Rattle.sheet_loader.specs.Values.{Reads}
@@ -20,6 +24,7 @@ use Rattle.sheet_model.specs.declared.sheet.Sheet as model
 use Rattle.template_machine.specs.Ending.{Ending, Said}
 use Rattle.template_machine.specs.Meaning.{code, meaning}
 use Rattle.template_machine.specs.Ordinary.{IsOrdinary}
+use Rattle.template_machine.specs.Written.{lines_of, settled_by}
 use Rattle.fault_report.specs.declared.outcome.HostFault.TheVariants as fault
 use Rattle.fault_report.specs.declared.outcome.Outcome.{Outcome}
 use Rattle.fault_report.specs.declared.outcome.Outcome.TheVariants as outcome
@@ -28,8 +33,10 @@ use Rattle.command_words.specs.declared.command.Command.{Command}
 use Rattle.command_words.specs.declared.command.Mode.{Mode}
 use Rattle.command_words.specs.declared.command.Mode.TheVariants.{Run as AsksRun, Check, Sample}
 use Rattle.run_engine.specs.Does.{InOrder, InOrderAt, IsRunOf}
-use Rattle.run_engine.specs.Run.{IsAtStart, Run}
+use Rattle.run_engine.specs.Run.{IsAtStart, Run, head}
 use Rattle.sample_maker.specs.Document as sample
+use Rattle.sheet_runs.specs.Counts.{SameCounts}
+use Rattle.sheet_runs.specs.Counts as run_counts
 use Rattle.sheet_runs.specs.Meant.{EndsAsMeant, EndsMeaning, IsDocument, IsOnOther, IsSettledOn, KeepsMeaning, RunsKeepMeaning, WritesMeaning, tree_of}
 use Rattle.sheet_runs.specs.Runs.{RunsSheet}
 use Rattle.sheet_runs.specs.Talk.{main_ends, main_in}
@@ -43,12 +50,13 @@ use Rattle.stx_engine.specs.Answer.{Answer, Asked_for, answer, answered, asked, 
 use Rattle.stx_engine.specs.Doing.{Checks, Does, DoesCommand, DoesWords, GoesOn, Lacks, Loads, Obeys, Passes, PassesOn, Refuses, RunsIt, RunsOnSample, Stops}
 use Rattle.stx_engine.specs.Plain.{is_ordinary, pass_of, takes_in_order}
 use Rattle.stx_engine.specs.RunEnd.{end_of_run, end_of_sample, on_sample, outcome_in, sample_of, summary_of}
-use Rattle.stx_engine.specs.Running.{Asks, FailedOnSheet, IfDocFailed, IsAnswered, OpensNames, RunsAnswered, UnlessFailed}
+use Rattle.stx_engine.specs.Running.{Asks, CountsIn, FailedOnSheet, IfDocFailed, IfFailed, IsAnswered, OpensNames, RunsAnswered, UnlessFailed}
 use Rattle.stx_engine.specs.declared.run_end.RunEnd.{RunEnd}
-use Rattle.stx_engine.specs.declared.run_end.RunEnd.TheVariants.{Told}
-use Rattle.stx_engine.proofs.Driven.{opens-append}
+use Rattle.stx_engine.specs.declared.run_end.RunEnd.TheVariants.{Told, Sampled, Unnoted}
+use Rattle.sheet_runs.proofs.Lacking.{needs_all}
+use Rattle.stx_engine.proofs.Driven.{counts-then, opens-append}
 use Rattle.stx_engine.proofs.Idle.{no_main_reads}
-use Rattle.stx_engine.proofs.Prefixes.{begins_nothing}
+use Rattle.stx_engine.proofs.Prefixes.{begins_all, begins_nothing}
 use Rattle.stx_engine.proofs.Meant.{HaveMeaning, MeaningIsOutcome, none-new}
 use Rattle.stx_engine.proofs.Ordered.{ordinary-so}
 use Rattle.stx_engine.proofs.Ran.{accepted-is, answer-is, answer-opened, answered-by, answered-stopped, asked-so, between_after, failed-on-sheet, main_after, never-on-doc, opens-all, opens-stopped, ran-opens, reads_after}
@@ -87,12 +95,28 @@ module _ (k : Asked_for) (start : Run) (b : IsAtStart k.sheet (map param_of k.co
   begun-order ordinary =
       subst (λ s. InOrderAt s start.machine start.documents) (sym (ap (λ (r : Run). r.stage) b.is)) (subst IsOrdinary (sym b.of.code_is) ordinary)
 
+-- what follows from a failure, where no count changed before
+failed-before : (end : RunEnd) (old mid new : Outside) (P Q : Type 0) → SameCounts old mid → (P → Q) → IfFailed end mid new P → IfFailed end old new Q
+failed-before (Told (outcome.Host file f offset)) old mid new P Q same g p = g p
+failed-before (Told outcome.Memory) old mid new P Q same g p = elim p [
+  | inl counts ↦ inl (counts-then old mid new same counts)
+  | inr p ↦ inr (g p)
+]
+failed-before (Told outcome.Done) old mid new P Q same g p = tt
+failed-before (Told outcome.Usage) old mid new P Q same g p = tt
+failed-before (Told (outcome.Sheet why)) old mid new P Q same g p = tt
+failed-before (Told (outcome.Run file code offset)) old mid new P Q same g p = tt
+failed-before (Told (outcome.Xml file why)) old mid new P Q same g p = tt
+failed-before (Told (outcome.Fuel file offset)) old mid new P Q same g p = tt
+failed-before (Sampled s) old mid new P Q same g p = tt
+failed-before Unnoted old mid new P Q same g p = g p
+
 -- where nothing was written
 
 module _ (reads : Reads) (words : List (List ℕ)) (docs : List Doc) (main : List ℕ) (a : Answer) where
   nothing-done : (o : Outside) (end : RunEnd) → UnlessFailed (outcome_in end) (IsAnswered [] [] end a) → UnlessFailed (outcome_in end) ([] ≡ a.opened) → IfDocFailed (outcome_in end) (FailedOnSheet reads words docs [])
-      → RunsAnswered reads words docs main o o end a
-  nothing-done o end ends opened failed = record {
+      → IfFailed end o o (LacksRoom o (needed [] a.out a.messages)) → RunsAnswered reads words docs main o o end a
+  nothing-done o end ends opened failed room = record {
     acts = [];
     out = [];
     note = [];
@@ -102,6 +126,7 @@ module _ (reads : Reads) (words : List (List ℕ)) (docs : List Doc) (main : Lis
     ends = ends;
     opened = ([], begins_nothing a.opened, refl, opened);
     failed = failed;
+    room = room;
   }
 
 -- What a command did
@@ -137,6 +162,17 @@ module _ (law : RunsKeepMeaning) (have : HaveMeaning) (is-outcome : MeaningIsOut
       let t = opens-all words c asked_for old mid docs documents reads x l o in
       subst (λ n. OpensNames docs n o (l.acts ++ acts)) (sym opens-names) (t.0, t.1, opens-append l.acts acts ∙ ap (λ n. opens l.acts ++ n) none ∙ append-nil (opens l.acts) ∙ t.2, t.3)
 
+  -- nothing failed so far
+  loaded-counts : SameCounts old mid
+  loaded-counts = record { doc = l.counts.doc; main = l.counts.main; out = l.counts.out; note = l.counts.note }
+
+  -- who lacked room behind loading lacked it for that too
+  lacks-behind : (end : RunEnd) (new : Outside) (acts : List Act) (out note : List ℕ) → Begins out a.out → Begins note a.messages → IfFailed end mid new (LacksRoom mid (needed acts out note))
+      → IfFailed end old new (LacksRoom old (needed (l.acts ++ acts) a.out a.messages))
+  lacks-behind end new acts out note of_out of_note =
+      failed-before end old mid new (LacksRoom mid (needed acts out note)) (LacksRoom old (needed (l.acts ++ acts) a.out a.messages)) loaded-counts
+      (λ lacks. needs_all old (l.acts ++ acts) out a.out note a.messages of_out of_note (needs_after old mid l.acts acts [] out [] note l.did.between l.ids lacks))
+
   -- there was no memory to begin it
   lacking : new ≡ mid → Answers new (Told outcome.Memory)
   lacking is = subst (λ o. Answers o (Told outcome.Memory)) (sym is) (record {
@@ -149,6 +185,7 @@ module _ (law : RunsKeepMeaning) (have : HaveMeaning) (is-outcome : MeaningIsOut
     ends = tt;
     opened = subst (λ n. OpensNames docs n outcome.Memory l.acts) (sym opens-names) (opens-all words c asked_for old mid docs documents reads x l outcome.Memory);
     failed = tt;
+    room = inl loaded-counts;
   })
 
   -- the document was passed through
@@ -165,6 +202,7 @@ module _ (law : RunsKeepMeaning) (have : HaveMeaning) (is-outcome : MeaningIsOut
         ends = w.1;
         opened = opened-so d.acts (outcome_in end) d.opened;
         failed = never-on-doc (outcome_in end) d.acts d.out d.failed (FailedOnSheet reads words docs (l.acts ++ d.acts));
+        room = lacks-behind end new d.acts d.due [] (d.settles main (λ plain. main_after words c asked_for old mid new x l main told) names) (begins_nothing a.messages) d.room;
       } where
         by_mode : (plain : Bool) → is_run c.mode ≡ plain → AtMainReads d.acts d.out [] (Asks reads words docs main)
         by_mode true is = λ n is_read. asks-so is _ (d.reads main (main_after words c asked_for old mid new x l main told) n is_read)
@@ -172,8 +210,9 @@ module _ (law : RunsKeepMeaning) (have : HaveMeaning) (is-outcome : MeaningIsOut
 
   -- it was run by the sheet
   module _ (ordinary : IsOrdinary (code_of x.sheet)) (source : Main) (ran : Ran) (start : Run) (b : IsAtStart x.sheet (map param_of c.params) c.limits start) (r : RunsSheet start source mid new ran) (end : RunEnd)
-      (is-document : IsDocument source mid (document_of c.mode main)) (same-outcome : outcome_in end ≡ outcome_in (end_of_run ran.end)) where
-    h : KeepsMeaning (given_of k) source mid r.acts r.out r.note ran.end
+      (is-document : IsDocument source mid (document_of c.mode main)) (same-outcome : outcome_in end ≡ outcome_in (end_of_run ran.end))
+      (fails-as : (P : Type 0) → run_counts.IfFailed ran.end mid new P → IfFailed end mid new P) where
+    h : KeepsMeaning (given_of k) source mid new r.acts r.out r.note ran.end
     h = law (given_of k) start source mid new ran (none-new k) b.is (begun-runs k start b) (begun-order k start b ordinary) r
 
     abbrev tree : Forest
@@ -191,6 +230,15 @@ module _ (law : RunsKeepMeaning) (have : HaveMeaning) (is-outcome : MeaningIsOut
         let w = writes.begins m.0 m.1 m.2 in
         let is = meant-is m.0 m.1 m.2 in
         (subst (λ (w : Answer). Begins r.out w.out) (sym is) w.0, subst (λ (w : Answer). Begins r.note w.messages) (sym is) w.1)
+
+    -- what it lacked room for
+    room-so : IfFailed end old new (LacksRoom old (needed (l.acts ++ r.acts) a.out a.messages))
+    room-so =
+        let m = have (given_of k) (none-new k) tree in
+        let is = meant-is m.0 m.1 m.2 in
+        let bytes = head ++ settled_by nothing m.0 in
+        lacks-behind end new r.acts bytes (lines_of m.0) (subst (λ (w : Answer). Begins bytes w.out) (sym is) (begins_all bytes)) (subst (λ (w : Answer). Begins (lines_of m.0) w.messages) (sym is) (begins_all (lines_of m.0)))
+        (fails-as (LacksRoom mid (needed r.acts bytes (lines_of m.0))) (h.room (document_of c.mode main) is-document m.0 m.1 m.2))
 
     ends-so : (o : Outcome) → EndsMeaning (given_of k) (document_of c.mode main) r.out r.note o → end ≡ end_in c.mode r.out o → IsAnswered r.out r.note end a
     ends-so o m is =
@@ -238,13 +286,25 @@ module _ (law : RunsKeepMeaning) (have : HaveMeaning) (is-outcome : MeaningIsOut
       ends = subst (λ o. UnlessFailed o (IsAnswered r.out r.note end a)) (sym same-outcome) (ends-by ran.end writes.ends is);
       opened = opened-so r.acts (outcome_in end) h.opened;
       failed = subst (λ o. IfDocFailed o (FailedOnSheet reads words docs (l.acts ++ r.acts))) (sym same-outcome) (failed-by ran.end h.alone);
+      room = room-so;
     }
 
   -- the main document was read
+  main-fails : (e : End) (P : Type 0) → run_counts.IfFailed e mid new P → IfFailed (end_of_run e) mid new P
+  main-fails ends.Unnoted P p = p
+  main-fails (ends.Told outcome.Done) P p = p
+  main-fails (ends.Told outcome.Memory) P p = p
+  main-fails (ends.Told (outcome.Host file f offset)) P p = p
+  main-fails (ends.Told outcome.Usage) P p = p
+  main-fails (ends.Told (outcome.Sheet why)) P p = p
+  main-fails (ends.Told (outcome.Run file code offset)) P p = p
+  main-fails (ends.Told (outcome.Xml file why)) P p = p
+  main-fails (ends.Told (outcome.Fuel file offset)) P p = p
+
   run-main : IsOrdinary (code_of x.sheet) → (ran : Ran) (start : Run) (b : IsAtStart x.sheet (map param_of c.params) c.limits start) → c.mode ≡ AsksRun → RunsSheet start main_of.Host mid new ran → Answers new (end_of_run ran.end)
   run-main ordinary ran start b plain r =
       let there = main_after words c asked_for old mid new x l main told in
-      run-so ordinary main_of.Host ran start b r (end_of_run ran.end) (there ∙ ap Some (ap (λ m. document_of m main) (sym plain))) refl
+      run-so ordinary main_of.Host ran start b r (end_of_run ran.end) (there ∙ ap Some (ap (λ m. document_of m main) (sym plain))) refl (main-fails ran.end)
       (λ n is_read. asks-so (ap is_run plain) _ ((law (given_of k) start main_of.Host mid new ran (none-new k) b.is (begun-runs k start b) (begun-order k start b ordinary) r).reads main there n is_read))
       (λ o is. ap end_of_run is ∙ sym (ap (λ m. end_in m r.out o) plain))
 
@@ -271,12 +331,23 @@ module _ (law : RunsKeepMeaning) (have : HaveMeaning) (is-outcome : MeaningIsOut
   sample-end records ran out (outcome.Xml file why) output input = refl
   sample-end records ran out (outcome.Fuel file offset) output input = refl
 
+  sample-fails : (records : ℕ) (ran : Ran) (e : End) (P : Type 0) → run_counts.IfFailed e mid new P → IfFailed (end_of_sample records ran e) mid new P
+  sample-fails records ran ends.Unnoted P p = p
+  sample-fails records ran (ends.Told outcome.Done) P p = tt
+  sample-fails records ran (ends.Told outcome.Memory) P p = p
+  sample-fails records ran (ends.Told (outcome.Host file f offset)) P p = p
+  sample-fails records ran (ends.Told outcome.Usage) P p = p
+  sample-fails records ran (ends.Told (outcome.Sheet why)) P p = p
+  sample-fails records ran (ends.Told (outcome.Run file code offset)) P p = p
+  sample-fails records ran (ends.Told (outcome.Xml file why)) P p = p
+  sample-fails records ran (ends.Told (outcome.Fuel file offset)) P p = p
+
   run-sample : IsOrdinary (code_of x.sheet) → (records : ℕ) (ran : Ran) (start : Run) (b : IsAtStart x.sheet (map param_of c.params) c.limits start) → c.mode ≡ Sample records → RunsSheet start (main_of.Sample (sample.pieces records)) mid new ran
       → Answers new (end_of_sample records ran ran.end)
   run-sample ordinary records ran start b plain r =
       let pieces : List (List ℕ) = sample.pieces records in
       let bytes : sample_of records ≡ encode_utf8_all (concat (sample.pieces records)) = ap encode_utf8_all (sym (joins records)) in
-      run-so ordinary (main_of.Sample (sample.pieces records)) ran start b r (end_of_sample records ran ran.end) (ap (λ m. document_of m main) plain ∙ bytes) (sample-outcome records ran ran.end)
+      run-so ordinary (main_of.Sample (sample.pieces records)) ran start b r (end_of_sample records ran ran.end) (ap (λ m. document_of m main) plain ∙ bytes) (sample-outcome records ran ran.end) (sample-fails records ran ran.end)
       (no_main_reads r.acts r.out r.note (Asks reads words docs main) r.hands.0)
       (λ o is.
       ap (end_of_sample records ran) is
@@ -298,7 +369,7 @@ module _ (law : RunsKeepMeaning) (have : HaveMeaning) (is-outcome : MeaningIsOut
   refused : command_of words ≡ None → Ends_as_said old (Told outcome.Usage)
   refused none =
       let is : answered outcome.Usage [] ≡ a = same_Some (answered outcome.Usage []) a (sym (ap (λ c. words_answer reads c docs main) none) ∙ said) in
-      nothing-done reads words docs main a old (Told outcome.Usage) (answered-by outcome.Usage [] a is) (ap (λ x. x.opened) is) tt
+      nothing-done reads words docs main a old (Told outcome.Usage) (answered-by outcome.Usage [] a is) (ap (λ x. x.opened) is) tt tt
 
   module _ (c : Command) (asked_for : command_of words ≡ Some c) where
     abbrev files : List (List ℕ)
@@ -322,7 +393,18 @@ module _ (law : RunsKeepMeaning) (have : HaveMeaning) (is-outcome : MeaningIsOut
       ends = answered-stopped words c asked_for old new o l docs documents reads main a said;
       opened = by-files o l.acts (opens-stopped words c asked_for old new o l docs documents reads);
       failed = failed-on-sheet words c asked_for old new o l docs documents reads;
-    }
+      room = lacks-loading o l.counts.doc l.did.room;
+    } where
+      -- where a file couldn't be read
+      lacks-loading : (o : Outcome) → loading.DocCount (Err o) old.doc_faults new.doc_faults → loading.IfFailed (Err o) (LacksRoom old (needed l.acts [] [])) → IfFailed (Told o) old new (LacksRoom old (needed l.acts a.out a.messages))
+      lacks-loading (outcome.Host file f offset) h lacks = needs_all old l.acts [] a.out [] a.messages (begins_nothing a.out) (begins_nothing a.messages) lacks
+      lacks-loading outcome.Memory h lacks = inl (record { doc = h; main = l.counts.main; out = l.counts.out; note = l.counts.note })
+      lacks-loading outcome.Done h lacks = tt
+      lacks-loading outcome.Usage h lacks = tt
+      lacks-loading (outcome.Sheet why) h lacks = tt
+      lacks-loading (outcome.Run file code offset) h lacks = tt
+      lacks-loading (outcome.Xml file why) h lacks = tt
+      lacks-loading (outcome.Fuel file offset) h lacks = tt
 
     module _ (mid new : Outside) (x : Loaded) (l : Loads c old mid (Ok x)) where
       abbrev task : Asked_for
@@ -346,6 +428,7 @@ module _ (law : RunsKeepMeaning) (have : HaveMeaning) (is-outcome : MeaningIsOut
             ends = answered-by outcome.Done files a is;
             opened = by-files outcome.Done l.acts (opens-all words c asked_for old mid docs documents reads x l outcome.Done);
             failed = tt;
+            room = tt;
           }
 
       -- a run was
@@ -385,13 +468,26 @@ module _ (law : RunsKeepMeaning) (have : HaveMeaning) (is-outcome : MeaningIsOut
 
   pub answered-words : (new : Outside) (end : RunEnd) → DoesWords words old new end → Ends_as_said new end
   answered-words new end (Refuses none same is) = subst (λ o. Ends_as_said o end) (sym same) (subst (Ends_as_said old) (sym is) (refused none))
-  answered-words new end (Lacks same is) = subst (λ o. Ends_as_said o end) (sym same) (subst (Ends_as_said old) (sym is) (nothing-done reads words docs main a old (Told outcome.Memory) tt tt tt))
+  answered-words new end (Lacks same is) = subst (λ o. Ends_as_said o end) (sym same) (subst (Ends_as_said old) (sym is) (nothing-done reads words docs main a old (Told outcome.Memory) tt tt tt (inl (record { doc = refl; main = refl; out = refl; note = refl }))))
   answered-words new end (Obeys c is does) = commanded c is new end does
 
--- want of memory may come at its end
-pub answered-lacking : (reads : Reads) (words : List (List ℕ)) (docs : List Doc) (main : List ℕ) (a : Answer) (old new : Outside) (end : RunEnd) → RunsAnswered reads words docs main old new end a
+-- Want of memory may come at its end
+
+wants-too : (end : RunEnd) (old new : Outside) (P : Type 0) → CountsIn end old new → IfFailed end old new P → SameCounts old new ⊎ P
+wants-too (Told (outcome.Host file f offset)) old new P counts lacks = inr lacks
+wants-too (Told outcome.Memory) old new P counts lacks = lacks
+wants-too (Told outcome.Done) old new P counts lacks = inl counts
+wants-too (Told outcome.Usage) old new P counts lacks = inl counts
+wants-too (Told (outcome.Sheet why)) old new P counts lacks = inl counts
+wants-too (Told (outcome.Run file code offset)) old new P counts lacks = inl counts
+wants-too (Told (outcome.Xml file why)) old new P counts lacks = inl counts
+wants-too (Told (outcome.Fuel file offset)) old new P counts lacks = inl counts
+wants-too (Sampled s) old new P counts lacks = inl counts
+wants-too Unnoted old new P counts lacks = inr lacks
+
+pub answered-lacking : (reads : Reads) (words : List (List ℕ)) (docs : List Doc) (main : List ℕ) (a : Answer) (old new : Outside) (end : RunEnd) → CountsIn end old new → RunsAnswered reads words docs main old new end a
     → RunsAnswered reads words docs main old new (Told outcome.Memory) a
-answered-lacking reads words docs main a old new end r = record {
+answered-lacking reads words docs main a old new end counts r = record {
   acts = r.acts;
   out = r.out;
   note = r.note;
@@ -401,4 +497,5 @@ answered-lacking reads words docs main a old new end r = record {
   ends = tt;
   opened = (r.opened.0, r.opened.1, r.opened.2, tt);
   failed = tt;
+  room = wants-too end old new (LacksRoom old (needed r.acts a.out a.messages)) counts r.room;
 }

@@ -1,8 +1,8 @@
 -- How a main document is read through an engine.
-use Rattle.std.proofs.Common.{◌≡◌, ℕ, ◌+◌, ◌<◌, ◌≤◌, ◌==◌, ◌||◌, Bool, true, false, List, [], ◌∷◌, ◌++◌, length, take, drop, sum, Option, Some, None, IfSome, arith, refl, sym, ap, ◌∙◌, subst, append_assoc, length-append, length-drop, length-take, add-zero}
+use Rattle.std.proofs.Common.{◌≡◌, ℕ, ◌+◌, ◌<◌, ◌≤◌, ◌==◌, ◌||◌, Bool, true, false, List, [], ◌∷◌, ◌++◌, length, take, drop, sum, inl, inr, Option, Some, None, IfSome, arith, refl, sym, ap, ◌∙◌, subst, append_assoc, length-append, length-drop, length-take, add-zero}
 use Rattle.std.specs.List.{list_any}
 use Rattle.std.specs.Prelude.{codes, if◌then◌else◌, unwrap_or}
-use Rattle.std.proofs.lemmas.List.{append-nil, take-append-drop, take-append-le, take_all}
+use Rattle.std.proofs.lemmas.List.{append-nil, length-map, take-append-drop, take-append-le, take_all}
 use Rattle.std.proofs.lemmas.Bool.{false≢true}
 use Rattle.std.proofs.lemmas.Bool.Decides.{nat_tests}
 use Rattle.std.proofs.lemmas.List.Folds.{list_any-append}
@@ -10,14 +10,16 @@ use Rattle.std.proofs.Math.Seq.{take-add}
 use Rattle.stx_base.specs.Course.{Begins}
 use Rattle.stx_base.specs.declared.limits.Limits.{Limits}
 use Rattle.stx_host.specs.Before.{AtMainReads, Between, main_read}
-use Rattle.stx_host.specs.Outside.{Outside, GivesBytes, Reads, OutFault, MainFault, Rose, wrote, writes}
+use Rattle.stx_host.specs.Outside.{GivesBytes, LacksRoom, MainFault, OutFault, Outside, Reads, Rose, for_act, for_writes, wrote, writes}
+use Rattle.stx_host.specs.Rooms.{needed}
 use Rattle.stx_host.specs.declared.act.Act.{Act}
 use Rattle.stx_host.specs.declared.act.Act.TheVariants.{Open, Read, Close, Write}
 use Rattle.stx_host.specs.declared.act.Got.TheVariants.{Bytes as Got', End as GotEnd, Failed as Unread}
 use Rattle.stx_host.specs.declared.act.Lane.{Lane}
 use Rattle.stx_host.specs.declared.act.Lane.TheVariants.{Out}
 use Rattle.stx_host.proofs.CopiedSoFar.{and_nothing_more, fits_of, given_of, main_left, nothing_left, one_act}
-use Rattle.stx_host.proofs.Stretches.{between_joins, between_read, between_writes, between_fault, nothing_between, main_read-append, main_read-writes, main_reads_one, main_reads_writes}
+use Rattle.stx_host.proofs.Lacking.{lacks_more, lacks_since, needs_now}
+use Rattle.stx_host.proofs.Stretches.{and_nothing, between_joins, between_read, between_writes, between_fault, nothing_between, main_read-append, main_read-writes, main_reads_one, main_reads_writes}
 use Rattle.result_writer.specs.declared.fault.ResultFault.{ResultFault}
 use Rattle.run_engine.specs.Run.{head}
 use Rattle.template_machine.specs.Ending.{result_code}
@@ -26,7 +28,8 @@ use Rattle.sheet_runs.specs.Counts.{CountsBy, FailsBy, SameCounts}
 use Rattle.sheet_runs.specs.Reading.{EndOnce, main_gots}
 use Rattle.sheet_runs.specs.Writing.{counted}
 use Rattle.stx_engine.specs.inside.Driving.{Drives, EndsAs, IsSettledAt, RefusesSome}
-use Rattle.stx_engine.specs.Running.{FailedAt, is_doc_read}
+use Rattle.stx_engine.specs.Running.{FailedAt, IfFailed, is_doc_read}
+use Rattle.stx_engine.specs.declared.run_end.RunEnd.TheVariants.{Told}
 use Rattle.stx_engine.specs.inside.Engine.{Appends, IsWaiting, Means, Pumps, StoppedBy, more, more_of}
 use Rattle.sheet_files.specs.Acts.{opens}
 use Rattle.stx_engine.specs.inside.More.{Given, ahead}
@@ -426,14 +429,25 @@ module _ (limits : Limits) (pass : Kinds) (start : Engine) where
     fails-by f offset old new acts out note facts (Fuel file at) e = subst (Fails old new acts out) (sym e) facts
     fails-by f offset old new acts out note facts (Host file g at) e = subst (Fails old new acts out) (sym e) facts
 
+    -- where memory was wanting to tell a failure it was for want of room too
+    pub room-by : (f : HostFault) (offset : ℕ) (old new : Outside) (P : Type 0) → P → (o : Outcome) → FailsBy f offset o → IfFailed (Told o) old new P
+    room-by f offset old new P p Memory told = inr p
+    room-by f offset old new P p Done e = subst (λ o. IfFailed (Told o) old new P) (sym e) p
+    room-by f offset old new P p Usage e = subst (λ o. IfFailed (Told o) old new P) (sym e) p
+    room-by f offset old new P p (Sheet fault) e = subst (λ o. IfFailed (Told o) old new P) (sym e) p
+    room-by f offset old new P p (Run file code at) e = subst (λ o. IfFailed (Told o) old new P) (sym e) p
+    room-by f offset old new P p (Xml file fault) e = subst (λ o. IfFailed (Told o) old new P) (sym e) p
+    room-by f offset old new P p (Fuel file at) e = subst (λ o. IfFailed (Told o) old new P) (sym e) p
+    room-by f offset old new P p (Host file g at) e = subst (λ o. IfFailed (Told o) old new P) (sym e) p
+
     -- what is written of the result is a beginning of it
     pub begins-result : (main : List ℕ) (n : ℕ) (appended : List ℕ) (e : Engine) (p : Pumped) → Goes start main e n appended p → Begins appended (result_of (run_on limits pass main true))
     begins-result main n appended e p goes = subst (Begins appended) (sym (result_is main true)) (goes-begins start main e n appended p goes)
 
     -- a write failed
     pub write-fails : (old now new : Outside) (e : Engine) (next all lens : List ℕ) (read written offset taken : ℕ) (p : Pumped) (o : Outcome) → Driving old now e next read written p
-        → all ≡ next → sum lens ≡ taken → taken < length all → OutFault (wrote now Out lens (take taken all)) new → offset ≡ counted (written + taken) → FailsBy fault.Write offset o → Drives limits pass start.sheet old new o
-    write-fails old now new e next all lens read written offset taken p o d same total some_all failed_all at told_by =
+        → all ≡ next → sum lens ≡ taken → taken < length all → OutFault (wrote now Out lens (take taken all)) new → LacksRoom now (for_writes Out lens (length all)) → offset ≡ counted (written + taken) → FailsBy fault.Write offset o → Drives limits pass start.sheet old new o
+    write-fails old now new e next all lens read written offset taken p o d same total some_all failed_all short at told_by =
         let some : taken < length next = omega (arith, some_all, ap length same) in
         let failed : OutFault (wrote now Out lens (take taken next)) new = subst (λ l. OutFault (wrote now Out lens (take taken l)) new) same failed_all in
         let bytes = take taken next in
@@ -466,6 +480,12 @@ module _ (limits : Limits) (pass : Kinds) (start : Engine) where
           once = once-writes d.ended d.acts Out lens d.once;
           ids = ap (λ o. o.open_ids) failed.alone ∙ d.ids;
           counts = fails.counts;
+          due = d.out ++ next;
+          due_told = λ main told. begins-result main (main_read d.acts) (d.out ++ next) e p (d.told main told).goes;
+          room = room-by fault.Write offset old new (LacksRoom old (needed acts (d.out ++ next) []))
+              (lacks_more old (record { acts = length d.acts + (length lens + 1); ids = 0; out = length d.out + length all; note = 0 }) (needed acts (d.out ++ next) [])
+              (omega (arith, length-append d.acts (writes Out lens), length-map lens (λ len. Write Out len))) (omega arith) (omega (arith, length-append d.out next, ap length same)) (omega arith)
+              (lacks_since old now d.acts d.out [] [] (for_writes Out lens (length all)) d.between (d.ids ∙ and_nothing old.open_ids) short)) o told_by;
           failed = fails.failed;
           refused = fails.refused;
           told = λ main told.
@@ -482,8 +502,8 @@ module _ (limits : Limits) (pass : Kinds) (start : Engine) where
 
     -- a read failed
     pub read-fails : (old now new : Outside) (e : Engine) (read written : ℕ) (p : Pumped) (o : Outcome) → Driving old now e [] read written p
-        → MainFault now new → FailsBy fault.Read read o → Drives limits pass start.sheet old new o
-    read-fails old now new e read written p o d failed told_by =
+        → MainFault now new → LacksRoom now for_act → FailsBy fault.Read read o → Drives limits pass start.sheet old new o
+    read-fails old now new e read written p o d failed short told_by =
         let note = ap (λ x. x.note_faults) failed.alone ∙ d.counts.note in
         let fails = fails-by fault.Read read old new d.acts d.out note
         (record {
@@ -506,6 +526,10 @@ module _ (limits : Limits) (pass : Kinds) (start : Engine) where
           once = d.once;
           ids = ap (λ o. o.open_ids) failed.alone ∙ d.ids;
           counts = fails.counts;
+          due = d.out;
+          due_told = λ main told. begins-result main (main_read d.acts) d.out e p (subst (λ l. Goes start main e (main_read d.acts) l p) (append-nil d.out) (d.told main told).goes);
+          room = room-by fault.Read read old new (LacksRoom old (needed d.acts d.out []))
+              (needs_now old now d.acts d.out [] [] for_act (omega arith) (omega arith) refl refl d.between (d.ids ∙ and_nothing old.open_ids) (omega arith) short) o told_by;
           failed = fails.failed;
           refused = fails.refused;
           told = λ main told.
@@ -559,6 +583,25 @@ module _ (limits : Limits) (pass : Kinds) (start : Engine) where
         by_stop pumped.Done s other = subst (λ x. Known old now acts out (unwrap_or x Memory)) (sym s) (counts, tt, tt)
         by_stop pumped.Stopped s other = by_outcome e.outcome s
 
+      -- it is no failure of the host
+      pub unfailed : (old now : Outside) (P : Type 0) → SameCounts old now → (p : Pumped) → StopsBy p e → (p ≡ pumped.Main → ⊥) → IfFailed (Told (unwrap_or e.outcome Memory)) old now P
+      unfailed old now P counts p stop last = by_stop p stop last where
+        by_outcome : (o : Option Outcome) → IsStop o → IfFailed (Told (unwrap_or o Memory)) old now P
+        by_outcome (Some (Xml file fault)) s = tt
+        by_outcome (Some (Fuel file offset)) s = tt
+        by_outcome (Some (Run file code offset)) s = tt
+        by_outcome (Some Memory) s = inl counts
+        by_outcome (Some Done) s = tt
+        by_outcome (Some Usage) s = tt
+        by_outcome (Some (Sheet fault)) s = tt
+        by_outcome (Some (Host file fault offset)) s = absurd s
+        by_outcome None s = absurd s
+
+        by_stop : (p : Pumped) → StopsBy p e → (p ≡ pumped.Main → ⊥) → IfFailed (Told (unwrap_or e.outcome Memory)) old now P
+        by_stop pumped.Main s other = absurd (other refl)
+        by_stop pumped.Done s other = subst (λ x. IfFailed (Told (unwrap_or x Memory)) old now P) (sym s) tt
+        by_stop pumped.Stopped s other = by_outcome e.outcome s
+
       -- all of the result was written
       pub ends-so : (main : List ℕ) (n : ℕ) (out : List ℕ) (p : Pumped) → Goes start main e n out p → (p ≡ pumped.Main → ⊥) → EndsAs limits pass start.sheet main out (unwrap_or e.outcome Memory)
       ends-so main n out p goes last = by_end p goes last where
@@ -601,6 +644,9 @@ module _ (limits : Limits) (pass : Kinds) (start : Engine) where
           once = d.once;
           ids = d.ids;
           counts = subst (λ x. CountsBy x old now) (sym is) at_end.0;
+          due = d.out;
+          due_told = λ main told. begins-result main (main_read d.acts) d.out e p (subst (λ l. Goes start main e (main_read d.acts) l p) (append-nil d.out) (d.told main told).goes);
+          room = subst (λ x. IfFailed (Told x) old now (LacksRoom old (needed d.acts d.out []))) (sym is) (unfailed e old now (LacksRoom old (needed d.acts d.out [])) d.counts p d.stop last);
           failed = subst (λ x. FailedAt x d.acts d.out) (sym is) at_end.1;
           refused = subst (RefusesSome limits pass) (sym is) at_end.2;
           told = λ main told.

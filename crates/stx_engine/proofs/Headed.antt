@@ -51,7 +51,7 @@ IsOwn (Host file fault offset) = ⊥
 IsOwn Memory = ⊥
 IsOwn o = Unit {0}
 
-abbrev EndsItself : RunEnd → Type 0
+abbrev pub EndsItself : RunEnd → Type 0
 EndsItself (Told o) = IsOwn o
 EndsItself (Sampled s) = Unit {0}
 EndsItself Unnoted = ⊥
@@ -66,7 +66,7 @@ answered_by (Run file code offset) own P p = p
 answered_by (Xml file fault) own P p = p
 answered_by (Fuel file offset) own P p = p
 
-answered : (e : RunEnd) → EndsItself e → (P : Type 0) → UnlessFailed (outcome_in e) P → P
+pub answered : (e : RunEnd) → EndsItself e → (P : Type 0) → UnlessFailed (outcome_in e) P → P
 answered (Told o) own P p = answered_by o own P p
 answered (Sampled s) own P p = p
 answered Unnoted own P p = absurd own
@@ -82,7 +82,7 @@ own_outcome (Run file code offset) own is = elim is [ inl e ↦ omega (arith, e)
 own_outcome (Xml file fault) own is = elim is [ inl e ↦ omega (arith, e) | inr e ↦ omega (arith, e) ]
 own_outcome (Fuel file offset) own is = elim is [ inl e ↦ omega (arith, e) | inr e ↦ omega (arith, e) ]
 
-own_status : (e : RunEnd) → EndsItself e → (status_in e ≡ 5) ⊎ (status_in e ≡ 7) → ⊥
+pub own_status : (e : RunEnd) → EndsItself e → (status_in e ≡ 5) ⊎ (status_in e ≡ 7) → ⊥
 own_status (Told o) own is = own_outcome o own is
 own_status (Sampled s) own is = elim is [ inl e ↦ omega (arith, e) | inr e ↦ omega (arith, e) ]
 own_status Unnoted own is = own
@@ -94,7 +94,7 @@ unwritten_five n other = by_test (n == 7) refl where
   by_test true e = absurd (other (eqb-true n 7 e))
   by_test false e = refl
 
-own_unwritten : (e : RunEnd) → EndsItself e → unwritten_status (status_in e) ≡ 5
+pub own_unwritten : (e : RunEnd) → EndsItself e → unwritten_status (status_in e) ≡ 5
 own_unwritten e own = unwritten_five (status_in e) (λ is. own_status e own (inr is))
 
 -- nothing begins nothing
@@ -202,6 +202,22 @@ none_two : (words : List (List ℕ)) (e : RunEnd) → RefusesWords words e → s
 none_two words (Told o) refuses memory none = none_outcome words o refuses memory none
 none_two words (Sampled s) refuses memory none = absurd (not_none (sheet_named words) refuses none)
 none_two words Unnoted refuses memory none = absurd (not_none (sheet_named words) refuses none)
+
+-- and no count changed
+own_counts : (old mid : Outside) (o : Outcome) → IsOwn o → CountsBy o old mid → SameCounts old mid
+own_counts old mid (Host file f offset) own by = absurd own
+own_counts old mid Memory own by = absurd own
+own_counts old mid Done own by = by
+own_counts old mid Usage own by = by
+own_counts old mid (Sheet reason) own by = by
+own_counts old mid (Run file code offset) own by = by
+own_counts old mid (Xml file fault) own by = by
+own_counts old mid (Fuel file offset) own by = by
+
+pub own_same : (old mid : Outside) (e : RunEnd) → EndsItself e → CountsIn e old mid → SameCounts old mid
+own_same old mid (Told o) own by = own_counts old mid o own by
+own_same old mid (Sampled s) own by = by
+own_same old mid Unnoted own by = absurd own
 
 module _ (words : List (List ℕ)) (old mid new : Outside) (end : RunEnd) (r : Runs words old mid end) (result : ℕ) (reports : Reports mid (line_in end) (status_in end) new result) where
   abbrev line : Reported mid new (line_in end) (status_in end) result
@@ -360,27 +376,12 @@ module _ (words : List (List ℕ)) (old mid new : Outside) (end : RunEnd) (r : R
   none_greater same note (inr (inr (inl h))) = omega (arith, h, line.out, same.out)
   none_greater same note (inr (inr (inr h))) = omega (arith, h, note, same.note)
 
-  own_counts : (o : Outcome) → IsOwn o → CountsBy o old mid → SameCounts old mid
-  own_counts (Host file f offset) own by = absurd own
-  own_counts Memory own by = absurd own
-  own_counts Done own by = by
-  own_counts Usage own by = by
-  own_counts (Sheet reason) own by = by
-  own_counts (Run file code offset) own by = by
-  own_counts (Xml file fault) own by = by
-  own_counts (Fuel file offset) own by = by
-
-  own_same : (e : RunEnd) → EndsItself e → CountsIn e old mid → SameCounts old mid
-  own_same (Told o) own by = own_counts o own by
-  own_same (Sampled s) own by = by
-  own_same Unnoted own by = absurd own
-
   greater_five : SomeGreater old new → (result ≡ 5) ⊎ (result ≡ 7)
   greater_five greater = elim is_ended [
     | inl f ↦ let is = failure_status f.0 f.1.0 f.1.1 in elim (failure_either f.0 f.1.1) [ inl e ↦ inl (is ∙ e) | inr e ↦ inr (is ∙ e) ]
     | inr other ↦ elim other [
       | inl own ↦ elim line.end [
-        | inl whole ↦ absurd (none_greater (own_same end own r.counts) whole.2 greater)
+        | inl whole ↦ absurd (none_greater (own_same old mid end own r.counts) whole.2 greater)
         | inr cut ↦ inl (cut.1 ∙ own_unwritten end own)
       ]
       | inr u ↦ inl (unnoted_status u.0)

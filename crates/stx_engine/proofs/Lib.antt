@@ -18,6 +18,7 @@ pub mod RanAny
 pub mod Answered
 pub mod LastLine
 pub mod Headed
+pub mod Completing
 pub mod Markup
 pub mod Matching
 pub mod Dressing

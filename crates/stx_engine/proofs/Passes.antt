@@ -1,5 +1,5 @@
 -- What passing documents through did is what the sheet means.
-use Rattle.std.proofs.Common.{◌≡◌, ◌≢◌, ℕ, ◌≤◌, ◌==◌, true, false, List, [], map, take, Some, IsSome, refl, sym, ap, subst, ◌∙◌}
+use Rattle.std.proofs.Common.{◌≡◌, ℕ, ◌≤◌, ◌==◌, true, false, List, [], map, take, Some, IsSome, refl, sym, ap, subst, ◌∙◌}
 use Rattle.std.specs.List.{list_any}
 use Rattle.std.proofs.lemmas.Bool.{false≢true, true≢false}
 use Rattle.stx_base.specs.Course.{Begins, Ends}
@@ -105,6 +105,10 @@ module _ (as_meant : PassesAsMeant) (is_outcome : MeaningIsOutcome) (taken : Doc
               (ap Told (both.1 ∙ ap (λ bytes. outcome_of name (run_of bytes).ending) (sym same)) ∙ sym (ap (λ m. end_in m d.out (outcome_of name run.ending)) plain))) w.ends,
         );
     all = λ plain main told. (d.told main told).all;
+    due = d.due;
+    settles = λ main told opened.
+        begins-so opened main d.due (subst (λ bytes. Begins d.due (result_of (run_of bytes))) (sym (ap (λ m. document_of m main) plain)) (d.due_told main (told (ap is_run plain))));
+    room = d.room;
   }
 
   -- The sample was
@@ -141,6 +145,9 @@ module _ (as_meant : PassesAsMeant) (is_outcome : MeaningIsOutcome) (taken : Doc
               (both.1 ∙ ap (λ bytes. on_sample (summary_of records d.out) (outcome_of name (run_of bytes).ending)) (sym same) ∙ sym (ap (λ m. end_in m d.out (outcome_of name run.ending)) sample))) d.ends,
         );
     all = λ plain. absurd (false≢true (sym (ap is_run sample) ∙ plain));
+    due = d.due;
+    settles = λ main told opened. begins-so opened main d.due (subst (λ bytes. Begins d.due (result_of (run_of bytes))) (sym (ap (λ m. document_of m main) sample)) d.due_of);
+    room = d.room;
   }
 
 -- a sheet that passes something through is such a one

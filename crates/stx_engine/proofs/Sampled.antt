@@ -1,8 +1,8 @@
 -- How the sample is run through an engine.
-use Rattle.std.proofs.Common.{◌≡◌, ℕ, ◌+◌, ◌<◌, ◌≤◌, true, false, List, [], ◌∷◌, ◌++◌, length, take, drop, sum, Bool, arith, refl, sym, ap, ◌∙◌, subst, append_assoc, length-append, length-drop, length-take}
+use Rattle.std.proofs.Common.{◌≡◌, ℕ, ◌+◌, ◌<◌, ◌≤◌, true, false, List, [], ◌∷◌, ◌++◌, length, take, drop, sum, inl, Bool, arith, refl, sym, ap, ◌∙◌, subst, append_assoc, length-append, length-drop, length-take}
 use Rattle.std.specs.List.{concat, list_any}
 use Rattle.std.specs.Prelude.{encode_utf8_all, unwrap_or}
-use Rattle.std.proofs.lemmas.List.{append-nil, drop-drop, drop_at, take-append-drop, take_at}
+use Rattle.std.proofs.lemmas.List.{append-nil, drop-drop, drop_at, length-map, take-append-drop, take_at}
 use Rattle.std.proofs.lemmas.List.Folds.{concat-append}
 use Rattle.std.proofs.lemmas.List.Sums.{sum_by-append}
 use Rattle.std.proofs.lemmas.Str.{encodes-append}
@@ -12,11 +12,14 @@ use Rattle.stx_base.specs.Course.{Begins}
 use Rattle.sample_maker.specs.Document.{pieces}
 use Rattle.sample_maker.specs.Laws.{JoinsToDocument}
 use Rattle.stx_host.specs.Before.{is_main_read}
-use Rattle.stx_host.specs.Outside.{Outside, OutFault, wrote, writes}
+use Rattle.stx_host.specs.Outside.{LacksRoom, OutFault, Outside, for_writes, wrote, writes}
+use Rattle.stx_host.specs.Rooms.{needed}
 use Rattle.stx_host.specs.declared.act.Act.{Act}
+use Rattle.stx_host.specs.declared.act.Act.TheVariants.{Write}
 use Rattle.stx_host.specs.declared.act.Lane.TheVariants.{Out}
 use Rattle.stx_host.proofs.CopiedSoFar.{and_nothing_more}
-use Rattle.stx_host.proofs.Stretches.{between_fault, between_writes, wrote_nothing, wrote_twice}
+use Rattle.stx_host.proofs.Lacking.{lacks_more, lacks_since}
+use Rattle.stx_host.proofs.Stretches.{and_nothing, between_fault, between_writes, wrote_nothing, wrote_twice}
 use Rattle.fault_report.specs.declared.outcome.HostFault.{HostFault}
 use Rattle.fault_report.specs.declared.outcome.HostFault.TheVariants as fault
 use Rattle.fault_report.specs.declared.outcome.Outcome.{Outcome}
@@ -25,7 +28,7 @@ use Rattle.stx_engine.specs.inside.Run.{outcome_of, result_of, run_on}
 use Rattle.sheet_runs.specs.Counts.{CountsBy, FailsBy}
 use Rattle.sheet_runs.specs.Writing.{counted}
 use Rattle.stx_engine.specs.inside.Driving.{DrivesSample, RefusesSome}
-use Rattle.stx_engine.specs.Running.{FailedAt, UnlessFailed}
+use Rattle.stx_engine.specs.Running.{FailedAt, IfFailed, UnlessFailed}
 use Rattle.stx_engine.specs.inside.Engine.{Means, Pumps, more, more_of}
 use Rattle.stx_engine.specs.inside.More.{Given}
 use Rattle.stx_engine.specs.RunEnd.{on_sample, outcome_in, sample_of, summary_of}
@@ -37,7 +40,7 @@ use Rattle.sheet_model.specs.declared.pass.Kinds.{Kinds}
 use Rattle.stx_engine.specs.declared.run_end.RunEnd.{RunEnd}
 use Rattle.stx_engine.specs.declared.run_end.RunEnd.TheVariants.{Told, Sampled, Unnoted}
 use Rattle.stx_engine.specs.declared.run_end.Summary.{Summary}
-use Rattle.stx_engine.proofs.Driven.{Goes, StopsBy, begins-result, counted_more, ends-so, fails-by, goes-piece, is_done, known, no_doc_read-writes, opens-writes, stops-by, wrote-counts}
+use Rattle.stx_engine.proofs.Driven.{Goes, StopsBy, begins-result, counted_more, ends-so, fails-by, goes-piece, is_done, known, no_doc_read-writes, opens-writes, room-by, stops-by, unfailed, wrote-counts}
 use Rattle.stx_engine.proofs.Prefixes.{begins_front}
 
 -- nothing is read by writes
@@ -55,6 +58,17 @@ outcome-on s (Xml file fault) = refl
 outcome-on s (Host file fault offset) = refl
 outcome-on s (Fuel file offset) = refl
 outcome-on s Memory = refl
+
+-- so is the room that was lacked
+room-on : (s : Summary) (o : Outcome) (old new : Outside) (P : Type 0) → IfFailed (Told o) old new P → IfFailed (on_sample s o) old new P
+room-on s Done old new P lacks = tt
+room-on s Usage old new P lacks = lacks
+room-on s (Sheet reason) old new P lacks = lacks
+room-on s (Run file code offset) old new P lacks = lacks
+room-on s (Xml file fault) old new P lacks = lacks
+room-on s (Host file f offset) old new P lacks = lacks
+room-on s (Fuel file offset) old new P lacks = lacks
+room-on s Memory old new P lacks = lacks
 
 -- no run that ends so has failed on `Note`
 never-unnoted : (s : Summary) (o : Outcome) → on_sample s o ≡ Unnoted → ⊥
@@ -216,9 +230,9 @@ module _ (limits : Limits) (pass : Kinds) (start : Engine) (records : ℕ) where
   module _ (means : Means limits pass start) where
     -- a write failed
     pub write-fails : (old now new : Outside) (e : Engine) (next all lens : List ℕ) (left : List (List ℕ)) (input written offset taken : ℕ) (p : Pumped) (o : Outcome) → Sampling old now e next left input written p
-        → all ≡ next → sum lens ≡ taken → taken < length all → OutFault (wrote now Out lens (take taken all)) new → offset ≡ counted (written + taken) → FailsBy fault.Write offset o
+        → all ≡ next → sum lens ≡ taken → taken < length all → OutFault (wrote now Out lens (take taken all)) new → LacksRoom now (for_writes Out lens (length all)) → offset ≡ counted (written + taken) → FailsBy fault.Write offset o
         → DrivesSample limits pass start.sheet records old new (Told o)
-    write-fails old now new e next all lens left input written offset taken p o d same total some_all failed_all count told_by =
+    write-fails old now new e next all lens left input written offset taken p o d same total some_all failed_all short count told_by =
         let bytes = take taken next in
         let fits : taken ≡ length bytes = omega (arith, length-take taken next, some_all, ap length same) in
         let all_lens = d.lens ++ lens in
@@ -250,6 +264,12 @@ module _ (limits : Limits) (pass : Kinds) (start : Engine) (records : ℕ) where
           no_main_read = no_main_read-writes all_lens;
           ids = ap (λ x. x.open_ids) failed.alone;
           counts = fails.counts;
+          due = d.out ++ next;
+          due_of = begins-result limits pass start means document d.handed (d.out ++ next) e p d.goes;
+          room = room-by limits pass start means fault.Write offset old new (LacksRoom old (needed acts (d.out ++ next) []))
+              (lacks_more old (record { acts = length (writes Out d.lens) + (length lens + 1); ids = 0; out = length d.out + length all; note = 0 }) (needed acts (d.out ++ next) [])
+              (omega (arith, length-map all_lens (λ len. Write Out len), length-map d.lens (λ len. Write Out len), length-append d.lens lens)) (omega arith) (omega (arith, length-append d.out next, ap length same)) (omega arith)
+              (lacks_since old now (writes Out d.lens) d.out [] [] (for_writes Out lens (length all)) (between_writes old now Out d.lens d.out d.total d.now_is) (ap (λ x. x.open_ids) d.now_is ∙ and_nothing old.open_ids) short)) o told_by;
           failed = fails.failed;
           refused = fails.refused;
           prefix = begins_front (d.out ++ bytes) (drop taken next) (result_of (run_on limits pass document true))
@@ -276,6 +296,9 @@ module _ (limits : Limits) (pass : Kinds) (start : Engine) (records : ℕ) where
       no_main_read = no_main_read-writes d.lens;
       ids = ap (λ x. x.open_ids) d.now_is;
       counts = (wrote-counts old now d.lens d.out d.now_is).note;
+      due = d.out;
+      due_of = begins-here old now e left input written p d;
+      room = inl (wrote-counts old now d.lens d.out d.now_is);
       failed = tt;
       refused = tt;
       prefix = begins-here old now e left input written p d;
@@ -310,6 +333,10 @@ module _ (limits : Limits) (pass : Kinds) (start : Engine) (records : ℕ) where
           no_main_read = no_main_read-writes d.lens;
           ids = ap (λ y. y.open_ids) d.now_is;
           counts = subst (λ y. CountsBy y old now) outcome_is at_end.0;
+          due = d.out;
+          due_of = begins-here old now e left input written p d;
+          room = subst (λ r. IfFailed r old now (LacksRoom old (needed acts d.out []))) (sym end_is) (room-on s o old now (LacksRoom old (needed acts d.out []))
+              (subst (λ y. IfFailed (Told y) old now (LacksRoom old (needed acts d.out []))) (sym is) (unfailed limits pass start means e old now (LacksRoom old (needed acts d.out [])) (wrote-counts old now d.lens d.out d.now_is) p d.stop last)));
           failed = subst (λ y. FailedAt y acts d.out) outcome_is at_end.1;
           refused = subst (RefusesSome limits pass) outcome_is at_end.2;
           prefix = begins-here old now e left input written p d;

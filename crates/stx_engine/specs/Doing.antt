@@ -5,7 +5,8 @@ use Rattle.stx_base.specs.Course.{Begins}
 use Rattle.std.specs.declared.result.Result.{Result}
 use Rattle.stx_base.specs.StandardLimits.{standard_limits}
 use Rattle.stx_host.specs.Before.{AtMainReads, Between, is_main_read}
-use Rattle.stx_host.specs.Outside.{Outside}
+use Rattle.stx_host.specs.Outside.{LacksRoom, Outside}
+use Rattle.stx_host.specs.Rooms.{needed}
 use Rattle.stx_host.specs.declared.act.Act.{Act}
 use Rattle.command_words.specs.Said.{Word}
 use Rattle.command_words.specs.Words.{command_of}
@@ -34,7 +35,7 @@ use Rattle.sheet_runs.specs.declared.run.Ran.{Ran}
 use Rattle.stx_engine.specs.Answer.{Asked_for, given_of, is_any_run, is_run, param_of, ran}
 use Rattle.stx_engine.specs.Plain.{pass_of}
 use Rattle.stx_engine.specs.RunEnd.{end_of_run, end_of_sample, outcome_in}
-use Rattle.stx_engine.specs.Running.{CountsIn, FailedAt, IsAnswered, ReadsAll, TakesParts, UnlessFailed, is_doc_read}
+use Rattle.stx_engine.specs.Running.{CountsIn, FailedAt, IfFailed, IsAnswered, ReadsAll, TakesParts, UnlessFailed, is_doc_read}
 use Rattle.stx_engine.specs.declared.run_end.RunEnd.{RunEnd}
 use Rattle.stx_engine.specs.declared.run_end.RunEnd.TheVariants.{Told, Unnoted}
 
@@ -82,6 +83,11 @@ pub record PassesOn (k : Asked_for) (old new : Outside) (end : RunEnd) : Type 0 
   pub writes : (main : List ℕ) → (is_run k.command.mode ≡ true → old.to_come 0 ≡ Some main) → (opened : List (List ℕ)) → let a = ran k opened main in
       Begins out a.out × UnlessFailed (outcome_in end) (IsAnswered out [] end a)
   pub all : is_run k.command.mode ≡ true → (main : List ℕ) → old.to_come 0 ≡ Some main → ReadsAll main acts ended (outcome_in end)
+  -- what was settled, of which `Out` took the first bytes; where the host failed it was for want of room, where that is told, for an act more or
+  -- for all of that
+  pub due : List ℕ
+  pub settles : (main : List ℕ) → (is_run k.command.mode ≡ true → old.to_come 0 ≡ Some main) → (opened : List (List ℕ)) → Begins due (ran k opened main).out
+  pub room : IfFailed end old new (LacksRoom old (needed acts due []))
 
 -- what was done with a sheet that was accepted
 pub data Does (c : Command) (sheet : Sheet) (old new : Outside) (end : RunEnd) : Type 0 where

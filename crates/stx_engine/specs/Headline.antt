@@ -1,15 +1,17 @@
 -- What the program promises of a whole call.
-use Rattle.std.specs.Prelude.{◌≡◌, ◌≢◌, ◌↔◌, ℕ, ◌<◌, ◌==◌, ◌⊎◌, Bool, true, false, IsTrue, List, [], ◌∷◌, ◌++◌, length, map, Some, None, IsSome, IfSome}
+use Rattle.std.specs.Prelude.{◌≡◌, ◌≢◌, ◌↔◌, ℕ, ◌<◌, ◌==◌, ◌⊎◌, if◌then◌else◌, Bool, true, false, IsTrue, List, [], ◌∷◌, ◌++◌, length, map, Some, None, IsSome, IfSome}
 use Rattle.std.specs.List.{list_any}
 use Rattle.stx_base.specs.Course.{Begins}
 use Rattle.stx_host.specs.Before.{AtMainReads, main_read, since}
-use Rattle.stx_host.specs.Outside.{Outside, Rose, place}
+use Rattle.stx_host.specs.Outside.{LacksRoom, Outside, Rose, place}
+use Rattle.stx_host.specs.Rooms.{needed}
 use Rattle.stx_host.specs.declared.act.Act.{Act}
 use Rattle.stx_host.specs.declared.act.Doc.{Doc}
 use Rattle.run_engine.specs.Run.{head}
 use Rattle.stx_engine.specs.Answer.{Answer, Asked_for, accepted, asks_any_run, asks_run, loaded, note_of, runs_none, sheet_named}
 use Rattle.stx_engine.specs.ReadBack.{IsRead}
 use Rattle.stx_engine.specs.Doing.{DoesWords}
+use Rattle.sheet_runs.specs.Counts.{SameCounts}
 use Rattle.sheet_runs.specs.Reading.{EndOnce, main_gots}
 use Rattle.fault_report.specs.Line.{line_of, status_of}
 use Rattle.command_words.specs.Words.{command_of}
@@ -64,6 +66,15 @@ SomeGreater old new =
 abbrev pub GivesAnswer : (old new : Outside) → (status : ℕ) → Answer → Type 0
 GivesAnswer old new status a =
     (SomeRose old new → ⊥) → status ≢ 7 → (since old.out new.out ≡ a.out) × (since old.note new.note ≡ note_of a) × (status ≡ status_in a.end)
+
+-- the line that a status comes with: that of want of memory, or the answer's
+abbrev pub last_line : (status : ℕ) → Answer → List ℕ
+last_line status a = if status == 7 then line_of Memory else line_in a.end
+
+-- No count of faults changed, and the status isn't that the host failed; or the host lacks room, where it tells it: for one act more than were
+-- done, for as many open ids as documents were opened and one more, or for the bytes of the answer.
+abbrev pub FailsForRoom : (old new : Outside) → (status : ℕ) → Answer → Type 0
+FailsForRoom old new status a = (SameCounts old new × (status ≢ 5)) ⊎ LacksRoom old (needed (since old.log new.log) a.out (a.messages ++ last_line status a))
 
 -- where no count of faults rose and the status is 0, what was written is what the sheet means on the document's tree, and is read back as that
 abbrev pub ReadsBack : (old new : Outside) → (main : List ℕ) → (status : ℕ) → Asked_for → Type 0

@@ -4,7 +4,8 @@ use Rattle.std.specs.List.{list_any}
 use Rattle.stx_base.specs.Course.{Begins}
 use Rattle.stx_base.specs.StandardLimits.{standard_limits}
 use Rattle.stx_host.specs.Before.{AtMainReads, Between, Taken, is_main_read, main_read}
-use Rattle.stx_host.specs.Outside.{Outside, NoteFault, Rose, document, place, wrote}
+use Rattle.stx_host.specs.Outside.{LacksRoom, NoteFault, Outside, Rose, document, for_writes, place, wrote}
+use Rattle.stx_host.specs.Rooms.{needed}
 use Rattle.stx_host.specs.declared.act.Act.{Act}
 use Rattle.stx_host.specs.declared.act.Act.TheVariants.{Read}
 use Rattle.stx_host.specs.declared.act.Doc.{Doc}
@@ -125,6 +126,14 @@ CountsIn (Told outcome) old new = CountsBy outcome old new
 CountsIn (Sampled s) old new = SameCounts old new
 CountsIn Unnoted old new = Rose old.note_faults new.note_faults × SameCounts (record old { note_faults = new.note_faults }) new
 
+-- This holds where a run ended as the host failed. Where memory was wanting that may have come behind a failure: this holds, or no count changed.
+abbrev pub IfFailed : RunEnd → (old new : Outside) → Type 0 → Type 0
+IfFailed (Told (Host file fault offset)) old new P = P
+IfFailed (Told Memory) old new P = SameCounts old new ⊎ P
+IfFailed (Told outcome) old new P = Unit {0}
+IfFailed (Sampled s) old new P = Unit {0}
+IfFailed Unnoted old new P = P
+
 -- a run was stopped at an instruction of the sheet: in one of its files
 abbrev pub StopsInside : (sheet : Option model.Sheet) → (file : List ℕ) → (offset : ℕ) → Type 0
 StopsInside None file offset = ⊥
@@ -171,6 +180,9 @@ pub record RunsAnswered (reads : Reads) (words : List (List ℕ)) (docs : List D
   pub ends : UnlessFailed (outcome_in end) (IsAnswered out note end a)
   pub opened : OpensNames docs a.opened (outcome_in end) acts
   pub failed : IfDocFailed (outcome_in end) (FailedOnSheet reads words docs acts)
+  -- where the host failed it was for want of room, where that is told, for an act more than were done, for a document more than were opened, or
+  -- for all that is answered
+  pub room : IfFailed end old new (LacksRoom old (needed acts a.out a.messages))
 
 -- what a run did where the host tells the main document
 pub record RunsMain (words : List (List ℕ)) (main : List ℕ) (acts : List Act) (ended : Bool) (out note : List ℕ) (end : RunEnd) : Type 0 where
@@ -207,8 +219,9 @@ pub record Runs (words : List (List ℕ)) (old new : Outside) (end : RunEnd) : T
 abbrev pub unwritten_status : ℕ → ℕ
 unwritten_status status = if status == 7 then 7 else 5
 
--- a line was written to `Note`; or its first bytes were, and then the host failed
+-- a line was written to `Note`; or its first bytes were, and then the host failed, for want of room where that is told
 abbrev pub Reports : (old : Outside) → (line : List ℕ) → (status : ℕ) → (new : Outside) → (result : ℕ) → Type 0
 Reports old line status new result =
     ((lens : List ℕ) × (sum lens ≡ length line) × (new ≡ wrote old Note lens line) × (result ≡ status))
-    ⊎ ((lens : List ℕ) × (n : ℕ) × (sum lens ≡ n) × (n < length line) × NoteFault (wrote old Note lens (take n line)) new × (result ≡ unwritten_status status))
+    ⊎ ((lens : List ℕ) × (n : ℕ) × (sum lens ≡ n) × (n < length line) × NoteFault (wrote old Note lens (take n line)) new × (result ≡ unwritten_status status)
+    × LacksRoom old (for_writes Note lens (length line)))

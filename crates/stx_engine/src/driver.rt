@@ -11,7 +11,7 @@ ghost use Rattle.stx_engine.specs.Answer.{Answer, Asked_for, answer, asked, para
 ghost use Rattle.stx_engine.specs.Doing.{AreUsual, Does, DoesCommand, DoesWords, RunsAny, asked_by};
 ghost use Rattle.stx_engine.specs.inside.Driving.{Drives, DrivesSample};
 ghost use Rattle.stx_engine.specs.inside.Engine.{GoesOn, IsWaiting, Means};
-ghost use Rattle.stx_engine.specs.Headline.{AsksSettled, BeginsWell, DoesAll, EndsInLine, GivesAnswer, IsPlainStatus, IsStatus, NotesAfterFailure, NotesItsFailure, OpensFirst, ReadsBack, ReadsSheetFirst, ReadsToEnd, RefusesUnnamed, Tells, TellsMain};
+ghost use Rattle.stx_engine.specs.Headline.{AsksSettled, BeginsWell, DoesAll, EndsInLine, FailsForRoom, GivesAnswer, IsPlainStatus, IsStatus, NotesAfterFailure, NotesItsFailure, OpensFirst, ReadsBack, ReadsSheetFirst, ReadsToEnd, RefusesUnnamed, Tells, TellsMain};
 ghost use Rattle.stx_engine.specs.Nesting.{EndsHaveStarts};
 ghost use Rattle.stx_engine.specs.Plain.{takes_in_order};
 ghost use Rattle.stx_engine.specs.Running.{Reports, Runs};
@@ -67,6 +67,8 @@ pub fn transform<H: Host>(alloc: Global, words: &[String], host: &mut H) -> u8
     ensures failure { (reads : Reads) (docs : List Doc) (main : List ℕ) (a : Answer) → Tells (H.outside host.old) docs main → answer reads (spelled words.now) docs main ≡ Some a → NotesAfterFailure (H.outside host.old) (H.outside host.new) reads (spelled words.now) docs result a }
     // Where no instruction is run, none has a fault, and no fuel is spent.
     ensures plain { (reads : Reads) (docs : List Doc) (main : List ℕ) → Tells (H.outside host.old) docs main → runs_none reads (spelled words.now) docs ≡ true → IsPlainStatus result }
+    // Where the host tells what it has room for, and that suffices for what is done and for the answer, no count of faults changes.
+    ensures room { (reads : Reads) (docs : List Doc) (main : List ℕ) (a : Answer) → Tells (H.outside host.old) docs main → answer reads (spelled words.now) docs main ≡ Some a → FailsForRoom (H.outside host.old) (H.outside host.new) result a }
     // Whatever the sheet does: its files are opened before all else, in their order, and read no further than it takes to decide it;
     ensures sheet { (reads : Reads) (docs : List Doc) (main : List ℕ) → Tells (H.outside host.old) docs main → ReadsSheetFirst (H.outside host.old) (H.outside host.new) reads (spelled words.now) docs result }
     // the output begins with its head, which is written before the main document is read;

@@ -4,7 +4,8 @@ use Rattle.std.specs.List.{list_any}
 use Rattle.stx_base.specs.Course.{Begins}
 use Rattle.stx_base.specs.declared.limits.Limits.{Limits}
 use Rattle.stx_host.specs.Before.{AtMainReads, Between, Taken, is_main_read}
-use Rattle.stx_host.specs.Outside.{Outside}
+use Rattle.stx_host.specs.Outside.{LacksRoom, Outside}
+use Rattle.stx_host.specs.Rooms.{needed}
 use Rattle.stx_host.specs.declared.act.Act.{Act}
 use Rattle.stx_engine.specs.inside.Run.{outcome_of, result_of, run_on, settled}
 use Rattle.sheet_files.specs.Acts.{opens}
@@ -17,9 +18,9 @@ use Rattle.fault_report.specs.declared.outcome.Outcome.{Outcome}
 use Rattle.fault_report.specs.declared.outcome.Outcome.TheVariants.{Run, Fuel}
 use Rattle.sheet_model.specs.declared.pass.Kinds.{Kinds}
 use Rattle.stx_engine.specs.RunEnd.{on_sample, outcome_in, sample_of, summary_of}
-use Rattle.stx_engine.specs.Running.{FailedAt, ReadsAll, UnlessFailed, is_doc_read}
+use Rattle.stx_engine.specs.Running.{FailedAt, IfFailed, ReadsAll, UnlessFailed, is_doc_read}
 use Rattle.stx_engine.specs.declared.run_end.RunEnd.{RunEnd}
-use Rattle.stx_engine.specs.declared.run_end.RunEnd.TheVariants.{Unnoted}
+use Rattle.stx_engine.specs.declared.run_end.RunEnd.TheVariants.{Told, Unnoted}
 
 -- Before a read of the main document: all that its first bytes settle was written to `Out`, and no more; and the run on them
 -- waits for more.
@@ -59,6 +60,11 @@ pub record Drives (limits : Limits) (pass : Kinds) (sheet : List ℕ) (old new :
   pub once : EndOnce ended (main_gots acts)
   pub ids : new.open_ids ≡ old.open_ids
   pub counts : CountsBy outcome old new
+  -- what was settled, of which `Out` took the first bytes; where the host failed it was for want of room, where that is told, for an act more or
+  -- for all of that
+  pub due : List ℕ
+  pub due_told : (main : List ℕ) → old.to_come 0 ≡ Some main → Begins due (result_of (run_on limits pass main true))
+  pub room : IfFailed (Told outcome) old new (LacksRoom old (needed acts due []))
   pub failed : FailedAt outcome acts out
   pub refused : RefusesSome limits pass outcome
   pub told : (main : List ℕ) → old.to_come 0 ≡ Some main → WritesResult limits pass sheet main acts ended out outcome
@@ -79,6 +85,10 @@ pub record DrivesSample (limits : Limits) (pass : Kinds) (sheet : List ℕ) (rec
   pub no_main_read : list_any is_main_read acts ≡ false
   pub ids : new.open_ids ≡ old.open_ids
   pub counts : CountsBy (outcome_in end) old new
+  -- the same of the room of a host that failed
+  pub due : List ℕ
+  pub due_of : Begins due (result_of (run_on limits pass (sample_of records) true))
+  pub room : IfFailed end old new (LacksRoom old (needed acts due []))
   pub failed : FailedAt (outcome_in end) acts out
   pub refused : RefusesSome limits pass (outcome_in end)
   pub prefix : Begins out (result_of (run_on limits pass (sample_of records) true))

@@ -31,7 +31,7 @@ returns-in-Err g c = λ limits pass means.
     let wrote = c.in-Err.ensures in
     write-fails limits pass c.args.engine means (g.H.Host.outside c.args.host.now) (g.H.Host.outside loop.host) (g.H.Host.outside c.write.new.host) loop.engine loop.settled.items c.as_slice.result.now wrote.0
     loop.read loop.written c.saturating_add.result c.in-Err.refused.taken loop.pumped c.failure.result (loop.invariant.1 limits pass means) c.as_slice.ensures.value
-    wrote.1 wrote.2 wrote.3 c.saturating_add.ensures c.failure.ensures
+    wrote.1 wrote.2 wrote.3 wrote.4 c.saturating_add.ensures c.failure.ensures
 
 pub returns-then-ne : goal.returns-then-ne
 returns-then-ne g c = λ limits pass means.
@@ -53,7 +53,7 @@ returns-in-Failed g c = λ limits pass means.
     read-fails limits pass c.args.engine means old new (g.H.Host.outside c.read.new.self) loop.engine loop.read c.saturating_add-written.result loop.pumped c.failure-in-Failed.result
     (writes-on limits pass c.args.engine means old (g.H.Host.outside loop.host) new loop.engine loop.settled.items c.as_slice.result.now wrote.0 loop.read loop.written c.saturating_add-written.result loop.pumped
     (loop.invariant.1 limits pass means) c.as_slice.ensures.value wrote.1 wrote.2 (c.saturating_add-written.ensures ∙ ap (λ n. counted (loop.written + n)) (c.len.ensures ∙ loop.settled.ok.0)))
-    (c.in-Failed.ensures.change.main refl) c.failure-in-Failed.ensures
+    (c.in-Failed.ensures.change.main refl) c.in-Failed.ensures.answer c.failure-in-Failed.ensures
 
 pub loop-refused-preserved-in-Bytes : goal.loop-refused-preserved-in-Bytes
 loop-refused-preserved-in-Bytes g c =

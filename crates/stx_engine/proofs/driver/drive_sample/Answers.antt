@@ -34,7 +34,7 @@ returns-in-Err g c = λ limits pass means.
     let wrote = c.in-Err.ensures in
     write-fails limits pass c.args.engine c.args.records means (g.H.Host.outside c.args.host.now) (g.H.Host.outside loop.host) (g.H.Host.outside c.write.new.host) loop.engine loop.settled.items c.deref.result.now wrote.0
     loop.sample loop.input loop.written c.saturating_add-offset.result c.in-Err.refused.taken loop.pumped c.failure.result (loop.invariant.1 limits pass means) c.deref.ensures.value
-    wrote.1 wrote.2 wrote.3 c.saturating_add-offset.ensures c.failure.ensures
+    wrote.1 wrote.2 wrote.3 wrote.4 c.saturating_add-offset.ensures c.failure.ensures
 
 pub returns-then-ne : goal.returns-then-ne
 returns-then-ne g c = λ limits pass means.

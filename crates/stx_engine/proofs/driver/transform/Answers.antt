@@ -11,6 +11,7 @@ use Rattle.stx_engine.specs.Words.{spelled}
 use Rattle.stx_engine.specs.declared.run_end.RunEnd.{RunEnd}
 use Rattle.stx_engine.specs.declared.run_end.RunEnd.TheVariants.{Told, Unnoted}
 use Rattle.stx_engine.proofs.Back.{asked-answered, reads-back}
+use Rattle.stx_engine.proofs.Completing.{fails-for-room}
 use Rattle.stx_engine.proofs.Headed.{asks_settled, begins_output, begins_well, ends_in_line, gives_answer, gives_ids_back, is_plain, is_status, notes_failure, notes_its_failure, opens_first, reads_sheet_first, reads_to_end, refuses_unnamed, told_of}
 use Rattle.stx_engine.proofs.Answered.{answered-lacking, answered-words}
 use Rattle.stx_engine.proofs.LastLine.{ran-wanting-line}
@@ -43,6 +44,7 @@ returns-in-Ok g c =
       opened = λ reads docs main a tells is. opens_first words old mid new end r result reports docs main tells reads a (said reads docs main a tells is);
       failure = λ reads docs main a tells is. notes_failure words old mid new end r result reports docs main tells reads a (said reads docs main a tells is);
       plain = λ reads docs main tells none. is_plain words old mid new end r result reports docs main tells reads none;
+      room = λ reads docs main a tells is. fails-for-room old mid new end r.ids r.counts result reports reads words docs main tells.log a (said reads docs main a tells is);
       sheet = λ reads docs main tells. reads_sheet_first words old mid new end r result reports docs main tells reads;
       begins = λ main tells. begins_well words old mid new end r result reports main tells;
       line = λ reads docs main tells. ends_in_line words old mid new end r result reports docs main tells reads;
@@ -66,7 +68,7 @@ returns g c =
     let result = c.report-in-Err.result in
     let reports : Reports mid (line_in end) (status_in end) new result = c.report-in-Err.ensures in
     let said = λ (reads : Reads) (docs : List Doc) (main : List ℕ) (a : Answer) (tells : Tells old docs main) (is : answer reads words docs main ≡ Some a).
-    answered-lacking reads words docs main a old mid c.run-end.result
+    answered-lacking reads words docs main a old mid c.run-end.result c.run-end.ensures.runs.counts
     (answered-words c.meant.ensures.keeps c.one_meaning.ensures.some c.one_meaning.ensures.function c.pieces.ensures.joined reads words docs main a is old (told_of old.open_ids old.documents docs tells.open_ids tells.documents) tells.main_document mid c.run-end.result c.run-end.ensures.does) in
     record {
       answer = λ reads docs main a tells is. gives_answer words old mid new end r result reports docs main tells reads a (said reads docs main a tells is);
@@ -81,6 +83,7 @@ returns g c =
       opened = λ reads docs main a tells is. opens_first words old mid new end r result reports docs main tells reads a (said reads docs main a tells is);
       failure = λ reads docs main a tells is. notes_failure words old mid new end r result reports docs main tells reads a (said reads docs main a tells is);
       plain = λ reads docs main tells none. is_plain words old mid new end r result reports docs main tells reads none;
+      room = λ reads docs main a tells is. fails-for-room old mid new end r.ids r.counts result reports reads words docs main tells.log a (said reads docs main a tells is);
       sheet = λ reads docs main tells. reads_sheet_first words old mid new end r result reports docs main tells reads;
       begins = λ main tells. begins_well words old mid new end r result reports main tells;
       line = λ reads docs main tells. ends_in_line words old mid new end r result reports docs main tells reads;
