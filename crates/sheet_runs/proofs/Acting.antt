@@ -12,7 +12,7 @@ use Rattle.stx_host.specs.declared.act.Act.{Act}
 use Rattle.stx_host.specs.declared.act.Act.TheVariants.{Open, Read, Close, Write}
 use Rattle.stx_host.specs.declared.act.Lane.{Lane}
 use Rattle.sheet_files.specs.Acts.{opens}
-use Rattle.sheet_runs.specs.Reading.{EndOnce, main_gots}
+use Rattle.sheet_runs.specs.Reading.{EndOnce, ReadsOpened, is_doc_read, main_gots}
 
 -- Stretches of time in which the lanes take nothing
 
@@ -80,3 +80,12 @@ none-then xs ys e f = list_any-append is_main_read xs ys ∙ ap (λ b. b || list
 pub none-writes : (lane : Lane) (lens : List ℕ) → list_any is_main_read (writes lane lens) ≡ false
 none-writes lane [] = refl
 none-writes lane (n ∷ lens) = none-writes lane lens
+
+-- no read of another document, where none is opened
+pub none-read : (lane : Lane) (lens : List ℕ) → list_any is_doc_read (writes lane lens) ≡ false
+none-read lane [] = refl
+none-read lane (n ∷ lens) = none-read lane lens
+
+pub alone-then : (acts more : List Act) → opens more ≡ [] → list_any is_doc_read more ≡ false → ReadsOpened acts → ReadsOpened (acts ++ more)
+alone-then acts more opens_none reads_none alone none =
+    list_any-append is_doc_read acts more ∙ ap (λ b. b || list_any is_doc_read more) (alone (sym (opens-nothing acts more opens_none) ∙ none)) ∙ reads_none

@@ -22,7 +22,7 @@ use Rattle.run_engine.specs.declared.piece.Piece.TheVariants as piece
 use Rattle.run_engine.specs.declared.piece.Pumped.TheVariants as pumped
 use Rattle.sheet_files.specs.Acts.{opens}
 use Rattle.sheet_runs.specs.Counts.{SameCounts}
-use Rattle.sheet_runs.specs.Reading.{EndOnce, TakesPieces, main_gots}
+use Rattle.sheet_runs.specs.Reading.{EndOnce, ReadsOpened, TakesPieces, main_gots}
 use Rattle.sheet_runs.specs.Runs.{IsAsked}
 use Rattle.sheet_runs.specs.Talk.{Besides, Leads, beside_in, beside_with, bytes_in, is_main_end, main_bytes, main_ends, main_in, name_asked, names_in, none_beside, notes_in}
 use Rattle.sheet_runs.specs.Writing.{counted}
@@ -30,7 +30,7 @@ use Rattle.sheet_runs.specs.declared.main_document.Main.{Main}
 use Rattle.sheet_runs.specs.declared.main_document.Main.TheVariants.{Host as OfHost, Sample}
 use Rattle.sheet_runs.specs.declared.running.Running.{Running}
 use Rattle.sheet_runs.specs.inside.Running.{AreHeld, AreLimited, Driving, Handing, HandingBytes, HandingChunk, HandsOn, HandsOthersOn, IsTied, IsWritten, UnlessLacking, all_going, going_in, place_in}
-use Rattle.sheet_runs.proofs.Acting.{between-acts, once-bytes, once-end, opens-nothing}
+use Rattle.sheet_runs.proofs.Acting.{alone-then, between-acts, once-bytes, once-end, opens-nothing}
 use Rattle.sheet_runs.proofs.Besides.{handed-still, main-beside-read}
 use Rattle.sheet_runs.proofs.Documents.{AsksForMain, AsksForOther, asks-main, asks-other, going-fed, limited-ended, limited-fed}
 use Rattle.sheet_runs.proofs.Stepping.{counted-more, counts-then, same-counts}
@@ -123,7 +123,7 @@ read-front (Sample pieces) old acts given ended h main is = absurd h
 -- What is handed in of the main document, wherever it comes from
 
 module _ (start : Run) (main : Main) (old now new : Outside) (r s : Running) (d : Driving start main old now r pumped.Main) (written : IsWritten r) (same : s ≡ record r { main = s.main }) (acts : List Act)
-    (between : Between old new acts d.out d.note) (reads : AtMainReads acts d.out d.note (IsAsked (old.to_come 0) start)) (opened : opens acts ≡ opens d.acts) (ids : new.open_ids ≡ now.open_ids) (counts : SameCounts now new)
+    (between : Between old new acts d.out d.note) (reads : AtMainReads acts d.out d.note (IsAsked (old.to_come 0) start)) (opened : opens acts ≡ opens d.acts) (alone : ReadsOpened acts) (ids : new.open_ids ≡ now.open_ids) (counts : SameCounts now new)
     (beside : HandsOthersOn old new.to_come (beside_in none_beside start d.talk) r.others.items) where
   abbrev given : List ℕ
   given = main_in start d.talk
@@ -165,6 +165,7 @@ module _ (start : Run) (main : Main) (old now new : Outside) (r s : Running) (d 
     beside = subst (λ (x : Running). HandsOthersOn old new.to_come (beside_with x.engine.stage (piece.Bytes b) (beside_in none_beside start d.talk)) x.others.items) (sym same)
         (subst (λ s. HandsOthersOn old new.to_come (beside_with s (piece.Bytes b) (beside_in none_beside start d.talk)) r.others.items) (sym d.says) beside);
     opened = opened-is ∙ ap (λ (x : Running). map (place_in old) (names_in start d.talk ++ name_asked x.engine.stage)) (sym same);
+    alone = alone;
     held = subst (λ (x : Running). AreHeld old.open_ids new.open_ids x.others.items) (sym same) (subst (λ t. AreHeld old.open_ids t r.others.items) (sym ids) d.held);
     few = omega (arith, d.few, ap length opened, ap (λ (x : Running). length x.others.items) same);
     counts = counts-then old now new d.counts counts;
@@ -208,6 +209,7 @@ module _ (start : Run) (main : Main) (old now new : Outside) (r s : Running) (d 
     beside = subst (λ (x : Running). HandsOthersOn old new.to_come (beside_with x.engine.stage piece.End (beside_in none_beside start d.talk)) x.others.items) (sym same)
         (subst (λ s. HandsOthersOn old new.to_come (beside_with s piece.End (beside_in none_beside start d.talk)) r.others.items) (sym d.says) beside);
     opened = opened-is ∙ ap (λ (x : Running). map (place_in old) (names_in start d.talk ++ name_asked x.engine.stage)) (sym same);
+    alone = alone;
     held = subst (λ (x : Running). AreHeld old.open_ids new.open_ids x.others.items) (sym same) (subst (λ t. AreHeld old.open_ids t r.others.items) (sym ids) d.held);
     few = omega (arith, d.few, ap length opened, ap (λ (x : Running). length x.others.items) same);
     counts = counts-then old now new d.counts counts;
@@ -249,6 +251,7 @@ module _ (start : Run) (main : Main) (old now new : Outside) (r : Running) (d : 
       (between-acts old now new d.acts (Read 0 n ∷ []) d.out d.note d.between (between_read now new 0 (Got' n) change))
       (main_reads_one d.acts (Read 0 n) d.out d.note (IsAsked (old.to_come 0) start) d.between.out_written d.between.note_written d.reads (λ is_read. asked-now))
       (opens-nothing d.acts (Read 0 n ∷ []) refl)
+      (alone-then d.acts (Read 0 n ∷ []) refl refl d.alone)
       (ap (λ o. o.open_ids) change)
       (record { doc = ap (λ o. o.doc_faults) change; main = ap (λ o. o.main_faults) change; out = ap (λ o. o.out_faults) change; note = ap (λ o. o.note_faults) change })
       (handed-still old (with_bytes now.to_come 0 (option_map (λ bytes. drop n bytes) (now.to_come 0))) new.to_come so_far r.others.items (ap (λ o. o.to_come) change)
@@ -264,6 +267,7 @@ module _ (start : Run) (main : Main) (old now new : Outside) (r : Running) (d : 
       (between-acts old now new d.acts (Read 0 0 ∷ []) d.out d.note d.between (between_read now new 0 GotEnd change))
       (main_reads_one d.acts (Read 0 0) d.out d.note (IsAsked (old.to_come 0) start) d.between.out_written d.between.note_written d.reads (λ is_read. asked-now))
       (opens-nothing d.acts (Read 0 0 ∷ []) refl)
+      (alone-then d.acts (Read 0 0 ∷ []) refl refl d.alone)
       (ap (λ o. o.open_ids) change)
       (record { doc = ap (λ o. o.doc_faults) change; main = ap (λ o. o.main_faults) change; out = ap (λ o. o.out_faults) change; note = ap (λ o. o.note_faults) change })
       (handed-still old now.to_come new.to_come so_far r.others.items (ap (λ o. o.to_come) change) d.beside)
@@ -280,7 +284,7 @@ module _ (start : Run) (main : Main) (old now : Outside) (r s : Running) (d : Dr
   pub takes-chunk : (chunk : Option (List ℕ)) → TakesPieces left more chunk → HandingChunk start main old now s chunk
   takes-chunk (Some chunk) takes =
       let goes = (at-main start main old now r d).goes_on in
-      hands-in start main old now now r s d written same d.acts d.between d.reads refl refl (same-counts now) d.beside (encode_utf8_all chunk)
+      hands-in start main old now now r s d written same d.acts d.between d.reads refl d.alone refl (same-counts now) d.beside (encode_utf8_all chunk)
       (subst (λ m. HandsOn main m old d.acts (main_in start d.talk ++ encode_utf8_all chunk) (main_ends start d.talk)) (sym is) (by main given-of)) where
         by : (main : Main) → HandsOn main (Sample left) old d.acts (main_in start d.talk) (main_ends start d.talk) → HandsOn main (Sample more) old d.acts (main_in start d.talk ++ encode_utf8_all chunk) (main_ends start d.talk)
         by OfHost h = absurd h
@@ -291,7 +295,7 @@ module _ (start : Run) (main : Main) (old now : Outside) (r s : Running) (d : Dr
           λ e. absurd (false≢true (sym (at-main start main old now r d).goes_on ∙ e)),
         )
   takes-chunk None takes =
-      hands-its-end start main old now now r s d written same d.acts d.between d.reads refl refl (same-counts now) d.beside
+      hands-its-end start main old now now r s d written same d.acts d.between d.reads refl d.alone refl (same-counts now) d.beside
       (subst (λ m. HandsOn main m old d.acts (main_in start d.talk) true) (sym is) (by main given-of)) where
         by : (main : Main) → HandsOn main (Sample left) old d.acts (main_in start d.talk) (main_ends start d.talk) → HandsOn main (Sample more) old d.acts (main_in start d.talk) true
         by OfHost h = absurd h

@@ -25,6 +25,7 @@ use Rattle.run_engine.specs.Run.{CanStop, Open, Run, Says, Stage, StandsAt, outc
 use Rattle.run_engine.specs.declared.piece.Pumped.{Pumped}
 use Rattle.run_engine.specs.declared.piece.Pumped.TheVariants as pumped
 use Rattle.sheet_runs.specs.Counts.{CountsAt, CountsBy, FailsBy, IfFailed, SameCounts}
+use Rattle.sheet_runs.specs.Reading.{ReadsOpened}
 use Rattle.sheet_runs.specs.Runs.{EndsBy, HandsMain, HandsOthers, IsAsked, NewestIs, OpensNames, RunsSheet, Writes, WritesAll, WritesFront}
 use Rattle.sheet_runs.specs.Talk.{Exchange, Leads, beside_in, bytes_in, main_ends, main_in, names_in, none_beside, notes_in}
 use Rattle.sheet_runs.specs.Writing.{counted}
@@ -38,7 +39,7 @@ use Rattle.sheet_runs.specs.declared.running.Halt.{Halt}
 use Rattle.sheet_runs.specs.declared.running.Halt.TheVariants as halt
 use Rattle.sheet_runs.specs.declared.running.Running.{Running}
 use Rattle.sheet_runs.specs.inside.Running.{AreHeld, Driving, Halted, HaltsAs, HandsOn, IsTied, IsWritten, UnlessLacking, WroteTo, all_going, going_in, going_of, ids_of, place_in}
-use Rattle.sheet_runs.proofs.Acting.{between-acts, between-nothing, none-then, once-same, gots-writes, none-writes, opens-nothing, opens-writes}
+use Rattle.sheet_runs.proofs.Acting.{alone-then, between-acts, between-nothing, none-read, none-then, once-same, gots-writes, none-writes, opens-nothing, opens-writes}
 use Rattle.sheet_runs.proofs.Besides.{as-told}
 use Rattle.sheet_runs.proofs.Documents.{all-more, lasts, not-empty}
 use Rattle.sheet_runs.proofs.Ids.{last-closed, last-open, more-held}
@@ -92,6 +93,9 @@ unfailed (outcome.Fuel file offset) none old new P same = tt
 
 not-memory : Told outcome.Memory ≡ Told outcome.Done → ⊥
 not-memory e = cc
+
+not-unnoted : (o : Outcome) → Told o ≡ Unnoted → ⊥
+not-unnoted o e = cc
 
 told-host : (name : List ℕ) (f : HostFault) (offset : ℕ) → Told (outcome.Host name f offset) ≡ Told outcome.Done → ⊥
 told-host name f offset e = cc
@@ -151,11 +155,13 @@ module _ (start : Run) (main : Main) (old now : Outside) (r : Running) (asked : 
     talk = d.talk;
     leads = d.leads;
     writes = writes-all (Told o) d.talk d.out d.note (all-written written);
+    unnoted = λ e. absurd (not-unnoted o e);
     reads = d.reads;
     hands = hands-of main r.main old d.acts (main_in start d.talk) (main_ends start d.talk) d.hands;
     whole = whole-at o is;
     beside = beside-told;
     opened = inl d.opened;
+    alone = d.alone;
     held = d.held;
     counts = counts-same o (no-host o can) old now d.counts;
     room = unfailed o (no-host o can) old now (LacksRoom old (needed d.acts (bytes_in d.talk) (notes_in d.talk))) d.counts;
@@ -193,9 +199,9 @@ module _ (start : Run) (main : Main) (old now : Outside) (r : Running) (asked : 
   -- The host failed, or memory was wanting, where nothing is written
 
   pub halts-quietly : (new : Outside) (s : Running) (o : Outcome) (acts : List Act) → IsWritten r → s ≡ record r { others = s.others } → Between old new acts d.out d.note → AtMainReads acts d.out d.note (IsAsked (old.to_come 0) start)
-      → HandsOn main r.main old acts (main_in start d.talk) (main_ends start d.talk) → OpensNames (place_in old) r.engine (names_in start d.talk) acts → AreHeld old.open_ids new.open_ids s.others.items
+      → HandsOn main r.main old acts (main_in start d.talk) (main_ends start d.talk) → OpensNames (place_in old) r.engine (names_in start d.talk) acts → ReadsOpened acts → AreHeld old.open_ids new.open_ids s.others.items
       → CountsBy o old new → IfFailed (Told o) old new (LacksRoom old (needed acts (bytes_in d.talk) (notes_in d.talk))) → EndsBy r.engine acts d.out (Told o) → (Told o ≡ Told outcome.Done → ⊥) → Halted start main old new s (halt.Failed o)
-  halts-quietly new s o acts written same between reads hands opened held counts room ends undone =
+  halts-quietly new s o acts written same between reads hands opened alone held counts room ends undone =
       let engine : s.engine ≡ r.engine = ap (λ (x : Running). x.engine) same in
       record {
         end = Told o;
@@ -207,11 +213,13 @@ module _ (start : Run) (main : Main) (old now : Outside) (r : Running) (asked : 
         talk = d.talk;
         leads = subst (Leads start d.talk) (sym engine) d.leads;
         writes = writes-all (Told o) d.talk d.out d.note (all-written written);
+        unnoted = λ e. absurd (not-unnoted o e);
         reads = reads;
         hands = hands-of main r.main old acts (main_in start d.talk) (main_ends start d.talk) hands;
         whole = λ e. absurd (undone e);
         beside = beside-told;
         opened = subst (λ (e : Run). OpensNames (place_in old) e (names_in start d.talk) acts) (sym engine) opened;
+        alone = alone;
         held = held;
         counts = counts;
         room = room;
@@ -232,11 +240,13 @@ module _ (start : Run) (main : Main) (old now : Outside) (r : Running) (asked : 
     talk = d.talk;
     leads = d.leads;
     writes = ((r.out.items, d.written), (r.notes.items, d.noted));
+    unnoted = λ e. absurd (not-unnoted outcome.Memory e);
     reads = d.reads;
     hands = hands-of main r.main old d.acts (main_in start d.talk) (main_ends start d.talk) d.hands;
     whole = λ e. absurd (not-memory e);
     beside = beside-told;
     opened = inl d.opened;
+    alone = d.alone;
     held = d.held;
     counts = d.counts.note;
     room = inl d.counts;
@@ -273,6 +283,7 @@ module _ (start : Run) (main : Main) (old now : Outside) (r : Running) (asked : 
         talk = d.talk;
         leads = subst (Leads start d.talk) (sym engine) d.leads;
         writes = wrote_so;
+        unnoted = λ e. absurd (not-unnoted o e);
         reads = subst (λ n. AtMainReads acts out n (IsAsked (old.to_come 0) start)) (append-nil d.note)
             (main_reads_writes d.acts Out lens d.out front d.note [] (IsAsked (old.to_come 0) start) d.between.out_written d.between.note_written d.reads);
         hands = hands-of main r.main old acts (main_in start d.talk) (main_ends start d.talk)
@@ -280,6 +291,7 @@ module _ (start : Run) (main : Main) (old now : Outside) (r : Running) (asked : 
         whole = λ e. absurd (undone e);
         beside = beside-told;
         opened = inl (opens-nothing d.acts (writes Out lens) (opens-writes Out lens) ∙ d.opened);
+        alone = alone-then d.acts (writes Out lens) (opens-writes Out lens) (none-read Out lens) d.alone;
         held = subst (λ t. AreHeld old.open_ids t s.others.items) (sym (ap (λ o. o.open_ids) failed.alone)) (subst (λ (x : Running). AreHeld old.open_ids now.open_ids x.others.items) (sym same) d.held);
         counts = counts;
         room = room;
@@ -323,13 +335,15 @@ module _ (start : Run) (main : Main) (old now : Outside) (r : Running) (asked : 
           (r.out.items, d.written),
           (drop taken bytes, append_assoc d.note front (drop taken bytes) ∙ ap (λ l. d.note ++ l) (take-append-drop taken bytes ∙ is) ∙ d.noted),
         );
+        unnoted = λ e. omega (arith, some, fits, length-append d.note front, ap length is, length-append d.note r.notes.items, ap length d.noted);
         reads = subst (λ o. AtMainReads acts o note (IsAsked (old.to_come 0) start)) (append-nil d.out)
             (main_reads_writes d.acts Note lens d.out [] d.note front (IsAsked (old.to_come 0) start) d.between.out_written d.between.note_written d.reads);
         hands = hands-of main r.main old acts (main_in start d.talk) (main_ends start d.talk)
             (hands-still main r.main old d.acts (writes Note lens) (main_in start d.talk) (main_ends start d.talk) (gots-writes Note lens) (sym (main_read-writes Note lens)) (none-writes Note lens) d.hands);
-        whole = λ e. absurd (not-unnoted e);
+        whole = λ e. absurd (not-unnoted outcome.Done (sym e));
         beside = beside-told;
         opened = inl (opens-nothing d.acts (writes Note lens) (opens-writes Note lens) ∙ d.opened);
+        alone = alone-then d.acts (writes Note lens) (opens-writes Note lens) (none-read Note lens) d.alone;
         held = subst (λ t. AreHeld old.open_ids t r.others.items) (sym (ap (λ o. o.open_ids) failed.alone)) d.held;
         counts = (
           subst (λ n. Rose n new.note_faults) d.counts.note failed.count.rose,
@@ -339,9 +353,7 @@ module _ (start : Run) (main : Main) (old now : Outside) (r : Running) (asked : 
         ends = tt;
         input = d.input;
         output = d.output;
-      } where
-        not-unnoted : Unnoted ≡ Told outcome.Done → ⊥
-        not-unnoted e = cc
+      }
 
 -- whatever is left of the sample then
 pub halts-with : (start : Run) (whole : Main) (old now : Outside) (r : Running) (main : Main) (why : Halt) → Halted start whole old now r why → Halted start whole old now (record r { main = main }) why
@@ -355,11 +367,13 @@ halts-with start whole old now r main why h = record {
   talk = h.talk;
   leads = h.leads;
   writes = h.writes;
+  unnoted = h.unnoted;
   reads = h.reads;
   hands = h.hands;
   whole = h.whole;
   beside = h.beside;
   opened = h.opened;
+  alone = h.alone;
   held = h.held;
   counts = h.counts;
   room = h.room;
@@ -393,8 +407,8 @@ module _ (start : Run) (main : Main) (old now new : Outside) (r : Running) where
       let short_so : LacksRoom old (needed d.acts (bytes_in d.talk) (notes_in d.talk)) =
       lacked start main old now r pumped.Main d d.acts for_act (omega arith) (omega arith) (omega arith) (omega arith) (omega arith) short in
       fails-so (λ o. Halted start main old new r (halt.Failed o)) fault.Read r.input
-      (halts-quietly start main old now r pumped.Main d new r outcome.Memory d.acts written refl between d.reads d.hands (inl d.opened) held note_same (inr short_so) tt not-memory)
-      (halts-quietly start main old now r pumped.Main d new r (outcome.Host (codes "-") fault.Read r.input) d.acts written refl between d.reads d.hands (inl d.opened) held (
+      (halts-quietly start main old now r pumped.Main d new r outcome.Memory d.acts written refl between d.reads d.hands (inl d.opened) d.alone held note_same (inr short_so) tt not-memory)
+      (halts-quietly start main old now r pumped.Main d new r (outcome.Host (codes "-") fault.Read r.input) d.acts written refl between d.reads d.hands (inl d.opened) d.alone held (
         subst (λ n. Rose n new.main_faults) d.counts.main failed.count.rose,
         record { doc = ap (λ x. x.doc_faults) failed.alone ∙ d.counts.doc; main = refl; out = ap (λ x. x.out_faults) failed.alone ∙ d.counts.out; note = note_same },
       )
@@ -411,7 +425,7 @@ module _ (start : Run) (main : Main) (old now new : Outside) (r : Running) where
       let failed : DocFault now new = failed_at.doc (last-open old.open_ids a.front a.last now.open_ids held_so).above_zero in
       let newest : NewestIs r.engine.documents a.last.name a.last.read = subst (λ ds. NewestIs ds a.last.name a.last.read) (sym a.documents_is) (a.name_is, a.read_is) in
       halts-quietly start main old now r pumped.Document d new s (outcome.Host a.last.name fault.Doc a.last.read) d.acts written same
-      (between-nothing old now new d.acts d.out d.note d.between (between_read now new a.last.id Unread failed_at)) d.reads d.hands (inl d.opened)
+      (between-nothing old now new d.acts d.out d.note d.between (between_read now new a.last.id Unread failed_at)) d.reads d.hands (inl d.opened) d.alone
       (subst (λ t. AreHeld old.open_ids t s.others.items) (sym (ap (λ o. o.open_ids) failed.alone)) held) (
         subst (λ n. Rose n new.doc_faults) d.counts.doc failed.count.rose,
         record { doc = refl; main = ap (λ x. x.main_faults) failed.alone ∙ d.counts.main; out = ap (λ x. x.out_faults) failed.alone ∙ d.counts.out; note = ap (λ x. x.note_faults) failed.alone ∙ d.counts.note },
@@ -423,7 +437,7 @@ module _ (start : Run) (main : Main) (old now new : Outside) (r : Running) where
   pub open-fails : (name : List ℕ) (d : Driving start main old now r (pumped.Open name)) → IsWritten r → MayOpen now name Unopened → DocFault now new → Halted start main old new r (halt.Failed (outcome.Host name fault.Doc 0))
   open-fails name d written short failed =
       halts-quietly start main old now r (pumped.Open name) d new r (outcome.Host name fault.Doc 0) d.acts written refl
-      (between-nothing old now new d.acts d.out d.note d.between (between_open now new name Unopened short failed)) d.reads d.hands (inl d.opened)
+      (between-nothing old now new d.acts d.out d.note d.between (between_open now new name Unopened short failed)) d.reads d.hands (inl d.opened) d.alone
       (subst (λ t. AreHeld old.open_ids t r.others.items) (sym (ap (λ o. o.open_ids) failed.alone)) d.held) (
         subst (λ n. Rose n new.doc_faults) d.counts.doc failed.count.rose,
         record { doc = refl; main = ap (λ x. x.main_faults) failed.alone ∙ d.counts.main; out = ap (λ x. x.out_faults) failed.alone ∙ d.counts.out; note = ap (λ x. x.note_faults) failed.alone ∙ d.counts.note },
@@ -449,6 +463,7 @@ module _ (start : Run) (main : Main) (old now new : Outside) (r : Running) where
       let then = quiet-close start main r.main old given over d.out d.note mid new acts (opened ++ place_in now name ∷ []) first id may.above_zero closes in
       halts-quietly start main old now r (pumped.Open name) d new s outcome.Memory then.0 written same then.1.between then.1.reads then.1.hands
       (inr (name, d.says, then.1.opened_is ∙ ap (λ at. opened ++ at ∷ []) (ap (λ t. option_and_then (λ docs. place docs name) t) d.between.documents) ∙ sym (map-append (place_in old) (names_in start d.talk) (name ∷ []))))
+      (λ no. absurd (omega (arith, ap length no, ap length then.1.opened_is, length-append opened (place_in now name ∷ []))))
       (subst (AreHeld old.open_ids new.open_ids) (sym none) (last-closed old.open_ids r.others.items last mid new held closes)) then.1.counts.note (inl then.1.counts) tt not-memory
 
 -- A document is given back
@@ -524,8 +539,8 @@ module _ (start : Run) (main : Main) (old now new : Outside) (r s : Running) (wh
   engine-at = ap (λ (x : Running). x.engine) same
 
   closes-by : (acts : List Act) → Between old new acts h.out h.note → AtMainReads acts h.out h.note (IsAsked (old.to_come 0) start) → HandsMain main old acts (main_in start h.talk) (main_ends start h.talk)
-      → OpensNames (place_in old) r.engine (names_in start h.talk) acts → IfFailed h.end old new (LacksRoom old (needed acts (bytes_in h.talk) (notes_in h.talk))) → EndsBy r.engine acts h.out h.end → Halted start main old new s why
-  closes-by acts between reads hands opened room ends = record {
+      → OpensNames (place_in old) r.engine (names_in start h.talk) acts → ReadsOpened acts → IfFailed h.end old new (LacksRoom old (needed acts (bytes_in h.talk) (notes_in h.talk))) → EndsBy r.engine acts h.out h.end → Halted start main old new s why
+  closes-by acts between reads hands opened alone room ends = record {
     end = h.end;
     halts = subst (λ (e : Run). HaltsAs e why h.end) (sym engine-at) h.halts;
     acts = acts;
@@ -535,11 +550,13 @@ module _ (start : Run) (main : Main) (old now new : Outside) (r s : Running) (wh
     talk = h.talk;
     leads = subst (Leads start h.talk) (sym engine-at) h.leads;
     writes = h.writes;
+    unnoted = h.unnoted;
     reads = reads;
     hands = hands;
     whole = h.whole;
     beside = h.beside;
     opened = subst (λ (e : Run). OpensNames (place_in old) e (names_in start h.talk) acts) (sym engine-at) opened;
+    alone = alone;
     held = subst (AreHeld old.open_ids new.open_ids) (sym fewer) (last-closed old.open_ids front o now new held-at closes);
     counts = counts-at h.end old now new (closed-counts now new o.id closes) h.counts;
     room = room;
@@ -554,9 +571,10 @@ module _ (start : Run) (main : Main) (old now new : Outside) (r s : Running) (wh
         (main_reads_one h.acts (Close o.id) h.out h.note (IsAsked (old.to_come 0) start) h.between.out_written h.between.note_written h.reads (λ is_read. absurd (false≢true is_read)))
         (hands-at main old h.acts o.id (main_in start h.talk) (main_ends start h.talk) h.hands)
         (opens-at (place_in old) r.engine (names_in start h.talk) h.acts o.id h.opened)
+        (alone-then h.acts (Close o.id ∷ []) refl refl h.alone)
         (room-at h.end old now new (LacksRoom old (needed h.acts (bytes_in h.talk) (notes_in h.talk))) _ (closed-counts now new o.id closes) (needs_for old h.acts (Close o.id ∷ []) (bytes_in h.talk) (notes_in h.talk)) h.room)
         (ends-at r.engine h.acts (Close o.id ∷ []) h.out h.end refl h.ends)
-    | inr between ↦ closes-by h.acts (between-nothing old now new h.acts h.out h.note h.between between) h.reads h.hands h.opened
+    | inr between ↦ closes-by h.acts (between-nothing old now new h.acts h.out h.note h.between between) h.reads h.hands h.opened h.alone
         (room-at h.end old now new (LacksRoom old (needed h.acts (bytes_in h.talk) (notes_in h.talk))) _ (closed-counts now new o.id closes) (λ lacks. lacks) h.room) h.ends
   ]
 
@@ -575,11 +593,13 @@ ran-so start main old new r why ran h none halts input output =
       run = r.engine;
       leads = h.leads;
       writes = subst (λ e. Writes e h.talk h.out h.note) end h.writes;
+      unnoted = λ e. h.unnoted (end ∙ e);
       reads = h.reads;
       hands = h.hands;
       whole = λ e. h.whole (end ∙ e);
       beside = h.beside;
       opened = h.opened;
+      alone = h.alone;
       ids = h.held.ids ∙ ap (λ os. and_more old.open_ids (ids_of os)) none ∙ none-more old.open_ids;
       counts = subst (λ e. CountsAt e old new) end h.counts;
       room = subst (λ e. IfFailed e old new (LacksRoom old (needed h.acts (bytes_in h.talk) (notes_in h.talk)))) end h.room;

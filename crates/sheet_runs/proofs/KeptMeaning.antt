@@ -52,10 +52,10 @@ settled-begins : (said os : List Said) → Begins said os → Begins (settled_by
 settled-begins said os h =
     (settled_by (behind_all (fresh 0) said).left h.0, sym (settled_on (fresh 0) said h.0) ∙ ap (settled_by nothing) h.1)
 
-lines-begin : (said os : List Said) → Begins said os → Begins (lines_of said) (lines_of os)
+pub lines-begin : (said os : List Said) → Begins said os → Begins (lines_of said) (lines_of os)
 lines-begin said os h = (lines_of h.0, sym (lines_on said h.0) ∙ ap lines_of h.1)
 
-was-begins : (s : Stage) (xs ys : List ℕ) → WasSettled s xs ys → Begins xs ys
+pub was-begins : (s : Stage) (xs ys : List ℕ) → WasSettled s xs ys → Begins xs ys
 was-begins New xs ys h = subst (Begins xs) h (begins-same xs)
 was-begins Main xs ys h = subst (Begins xs) h (begins-same xs)
 was-begins Document xs ys h = subst (Begins xs) h (begins-same xs)
@@ -80,7 +80,7 @@ head-is start run (x ∷ talk) new leads begun = refl
 
 -- Writes
 
-front-of : (e : End) (talk : List Exchange) (out note : List ℕ) → Writes e talk out note → Begins out (bytes_in talk) × Begins note (notes_in talk)
+pub front-of : (e : End) (talk : List Exchange) (out note : List ℕ) → Writes e talk out note → Begins out (bytes_in talk) × Begins note (notes_in talk)
 front-of Unnoted talk out note w = w
 front-of (Told (outcome.Host file fault.Write offset)) talk out note w = w
 front-of (Told outcome.Memory) talk out note w = w
@@ -151,7 +151,7 @@ module _ (means : RunsMean) (given : Given) (start : Run) (docs : AreNew given) 
     m = means given start r.run r.talk docs is-start runs order r.leads
 
     -- what was settled begins what the sheet means
-    settled : (document : List ℕ) → IsDocument main old document → (said : List Said) (e : Ending) → Ends (code given) (meaning given (tree_of given (record { bytes = document; ended = true }))) said e
+    pub settled : (document : List ℕ) → IsDocument main old document → (said : List Said) (e : Ending) → Ends (code given) (meaning given (tree_of given (record { bytes = document; ended = true }))) said e
         → Begins (bytes_in r.talk) (head ++ settled_by nothing said) × Begins (notes_in r.talk) (lines_of said)
     settled document is said e ends =
         let x = whole-comes main old r.acts start r.talk document r.hands is in

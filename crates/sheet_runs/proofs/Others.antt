@@ -117,10 +117,11 @@ module _ (start : Run) (main : Main) (old now : Outside) (r : Running) (asked : 
       → Quiet start main r.main old (main_in start d.talk) (main_ends start d.talk) d.out d.note new acts (map (place_in old) (names_in start d.talk ++ name_asked r.engine.stage))
       → AreHeld old.open_ids new.open_ids s.others.items
       → length s.others.items ≤ length (opens acts)
+      → 0 < length (opens acts)
       → HandsOthersOn old new.to_come (beside_with r.engine.stage p (beside_in none_beside start d.talk)) s.others.items
       → IsTied r.engine (handed r.engine p) s.others.items (main_ends start d.talk) (length (main_in start d.talk))
       → Handing start main old new s p
-  hands-other new s acts p written same may no_bytes no_end q held few beside tied =
+  hands-other new s acts p written same may no_bytes no_end q held few some beside tied =
       let given = main_in start d.talk in
       let over = main_ends start d.talk in
       let engine : s.engine ≡ r.engine = ap (λ (x : Running). x.engine) same in
@@ -144,6 +145,7 @@ module _ (start : Run) (main : Main) (old now : Outside) (r : Running) (asked : 
         hands = subst (λ m. HandsOn main m old acts given over) (sym (ap (λ (x : Running). x.main) same)) q.hands;
         beside = subst (λ (e : Run). HandsOthersOn old new.to_come (beside_with e.stage p (beside_in none_beside start d.talk)) s.others.items) (sym engine) beside;
         opened = q.opened_is ∙ ap (λ (e : Run). map (place_in old) (names_in start d.talk ++ name_asked e.stage)) (sym engine);
+        alone = λ none. absurd (omega (arith, some, ap length none));
         held = held;
         few = few;
         counts = q.counts;
@@ -195,6 +197,7 @@ module _ (start : Run) (main : Main) (old now new : Outside) (r s : Running) (d 
       (subst (λ t. AreHeld old.open_ids t s.others.items) (sym (ap (λ o. o.open_ids) change))
       (subst (AreHeld old.open_ids now.open_ids) (sym more) (same-held old.open_ids now.open_ids (asks.front ++ asks.last ∷ []) (asks.front ++ last ∷ []) (ids-same asks.front asks.last (asks.last.read + n)) held-so)))
       (omega (arith, ap length more, length-append asks.front (last ∷ []), ap length asks.others_is, length-append asks.front (asks.last ∷ []), d.few, ap length d.opened, ap length quiet.opened_is))
+      (omega (arith, ap length asks.others_is, length-append asks.front (asks.last ∷ []), d.few, ap length d.opened, ap length quiet.opened_is))
       (subst (HandsOthersOn old new.to_come (beside_with r.engine.stage (piece.Bytes b) so_far)) (sym more)
       (subst (λ x. HandsOthersOn old new.to_come (beside_with x (piece.Bytes b) so_far) (asks.front ++ last ∷ [])) (sym d.says)
       (subst (λ l. HandsOthersOn old new.to_come (record so_far { going = more_in_first l so_far.going }) (asks.front ++ last ∷ [])) (sym is)
@@ -225,6 +228,7 @@ module _ (start : Run) (main : Main) (old now new : Outside) (r s : Running) (d 
       (subst (AreHeld old.open_ids new.open_ids) (sym fewer)
       (last-closed old.open_ids asks.front asks.last mid new (subst (λ t. AreHeld old.open_ids t (asks.front ++ asks.last ∷ [])) (sym (ap (λ o. o.open_ids) change)) held-so) closes))
       (omega (arith, ap length fewer, ap length asks.others_is, length-append asks.front (asks.last ∷ []), d.few, ap length d.opened, ap length closed.1.opened_is))
+      (omega (arith, ap length asks.others_is, length-append asks.front (asks.last ∷ []), d.few, ap length d.opened, ap length closed.1.opened_is))
       (subst (HandsOthersOn old new.to_come (beside_with r.engine.stage piece.End so_far)) (sym fewer)
       (subst (λ x. HandsOthersOn old new.to_come (beside_with x piece.End so_far) asks.front) (sym d.says)
       (newest-beside-ended old now so_far mid new asks.front asks.last held-so none change closes beside-so)))
@@ -265,6 +269,7 @@ module _ (start : Run) (main : Main) (old now new : Outside) (r s : Running) (na
       (subst (Quiet start main r.main old given over d.out d.note new acts) (ap (λ at. opened ++ at ∷ []) same-place ∙ named old (names_in start d.talk)) quiet)
       (subst (AreHeld old.open_ids new.open_ids) (sym more) (more-held old.open_ids r.others.items last now new d.held may change))
       (omega (arith, ap length more, length-append r.others.items (last ∷ []), d.few, ap length d.opened, ap length quiet.opened_is, length-append opened (place_in now name ∷ [])))
+      (omega (arith, ap length quiet.opened_is, length-append opened (place_in now name ∷ [])))
       (subst (HandsOthersOn old new.to_come (beside_with r.engine.stage piece.Opened said)) (sym more)
       (subst (λ x. HandsOthersOn old new.to_come (beside_with x piece.Opened said) (r.others.items ++ last ∷ [])) (sym d.says)
       (beside-opened old now said new r.others.items id name d.between.documents d.held may change d.beside)))
@@ -294,6 +299,7 @@ module _ (start : Run) (main : Main) (old now new : Outside) (r s : Running) (na
       (subst (Quiet start main r.main old given over d.out d.note new acts) (ap (λ at. opened ++ at ∷ []) (sym (absent-place may) ∙ same-place) ∙ named old (names_in start d.talk)) quiet)
       (subst (λ t. AreHeld old.open_ids t r.others.items) (sym (ap (λ o. o.open_ids) change)) d.held)
       (omega (arith, d.few, ap length d.opened, ap length quiet.opened_is, length-append opened (None ∷ [])))
+      (omega (arith, ap length quiet.opened_is, length-append opened (None ∷ [])))
       (subst (λ x. HandsOthersOn old new.to_come (beside_with x piece.Absent said) r.others.items) (sym d.says)
       (beside-absent old now said new r.others.items name d.between.documents may change d.beside))
       tied-so

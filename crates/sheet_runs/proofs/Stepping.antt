@@ -24,7 +24,7 @@ use Rattle.sheet_runs.specs.declared.main_document.Main.{Main}
 use Rattle.sheet_runs.specs.declared.main_document.Main.TheVariants.{Host as OfHost, Sample}
 use Rattle.sheet_runs.specs.declared.running.Running.{Running}
 use Rattle.sheet_runs.specs.inside.Running.{AreHeld, AreLimited, Driving, Handing, HandsOn, HandsOthersOn, IsFresh, IsTied, UnlessLacking, all_going, going_in, main_going, place_in}
-use Rattle.sheet_runs.proofs.Acting.{gots-writes, none-then, none-writes, once-same, opens-nothing, opens-writes}
+use Rattle.sheet_runs.proofs.Acting.{alone-then, gots-writes, none-read, none-then, none-writes, once-same, opens-nothing, opens-writes}
 use Rattle.sheet_runs.proofs.Besides.{handed-still, none-handed}
 use Rattle.sheet_runs.proofs.Documents.{going-took, limited-took, unless-took}
 use Rattle.sheet_runs.proofs.Talking.{beside-then, bytes-then, ends-then, leads-then, main-then, names-then, notes-then}
@@ -89,6 +89,7 @@ module _ (engine : Run) (main : Main) (r : Running) (fresh : IsFresh engine main
     beside = subst (HandsOthersOn o o.to_come (beside_with r.engine.stage piece.Start none_beside)) (sym fresh.others)
         (by-start (λ e. HandsOthersOn o o.to_come (beside_with e.stage piece.Start none_beside) []) (none-handed o o.to_come));
     opened = by-start (λ e. [] ≡ map (place_in o) (name_asked e.stage)) refl;
+    alone = λ none. refl;
     held = subst (λ os. AreHeld o.open_ids o.open_ids os) (sym fresh.others) (record { new = tt; ids = held-none o.open_ids });
     few = omega (arith, ap length fresh.others);
     counts = same-counts o;
@@ -132,6 +133,7 @@ module _ (start : Run) (main : Main) (old now : Outside) (r new : Running) (p : 
         beside = subst (HandsOthersOn old now.to_come (beside_in none_beside start talk)) (sym others)
             (subst (λ b. HandsOthersOn old now.to_come b r.others.items) (sym (beside-then none_beside start r.engine h.talk x h.leads)) h.beside);
         opened = h.opened ∙ ap (map (place_in old)) (sym (names-then start r.engine h.talk x h.leads));
+        alone = h.alone;
         held = subst (AreHeld old.open_ids now.open_ids) (sym others) h.held;
         few = omega (arith, ap length others, h.few);
         counts = h.counts;
@@ -179,6 +181,7 @@ module _ (start : Run) (main : Main) (old now new : Outside) (r s : Running) (as
         beside = subst (HandsOthersOn old new.to_come (beside_in none_beside start d.talk)) (sym others)
             (handed-still old now.to_come new.to_come (beside_in none_beside start d.talk) r.others.items (ap (λ o. o.to_come) wrote_all) d.beside);
         opened = opens-nothing d.acts (writes Out lens) (opens-writes Out lens) ∙ d.opened;
+        alone = alone-then d.acts (writes Out lens) (opens-writes Out lens) (none-read Out lens) d.alone;
         held = subst (λ ids. AreHeld old.open_ids ids s.others.items) (sym (ap (λ o. o.open_ids) wrote_all)) (subst (AreHeld old.open_ids now.open_ids) (sym others) d.held);
         few = omega (arith, ap length others, d.few, ap length (opens-nothing d.acts (writes Out lens) (opens-writes Out lens)));
         counts = counts-then old now new d.counts
@@ -216,6 +219,7 @@ module _ (start : Run) (main : Main) (old now new : Outside) (r s : Running) (as
         beside = subst (HandsOthersOn old new.to_come (beside_in none_beside start d.talk)) (sym others)
             (handed-still old now.to_come new.to_come (beside_in none_beside start d.talk) r.others.items (ap (λ o. o.to_come) wrote_all) d.beside);
         opened = opens-nothing d.acts (writes Note lens) (opens-writes Note lens) ∙ d.opened;
+        alone = alone-then d.acts (writes Note lens) (opens-writes Note lens) (none-read Note lens) d.alone;
         held = subst (λ ids. AreHeld old.open_ids ids s.others.items) (sym (ap (λ o. o.open_ids) wrote_all)) (subst (AreHeld old.open_ids now.open_ids) (sym others) d.held);
         few = omega (arith, ap length others, d.few, ap length (opens-nothing d.acts (writes Note lens) (opens-writes Note lens)));
         counts = counts-then old now new d.counts

@@ -1,5 +1,5 @@
 -- What a run over a host does to the outside, and how it ends.
-use Rattle.std.specs.Prelude.{◌≡◌, ℕ, ◌⊎◌, Bool, true, false, List, [], ◌∷◌, ◌++◌, length, map, Option, Some, None, IfSome, codes, encode_utf8_all}
+use Rattle.std.specs.Prelude.{◌≡◌, ℕ, ◌<◌, ◌⊎◌, Bool, true, false, List, [], ◌∷◌, ◌++◌, length, map, Option, Some, None, IfSome, codes, encode_utf8_all}
 use Rattle.std.specs.List.{concat, list_any}
 use Rattle.std.specs.Option.{option_and_then}
 use Rattle.stx_base.specs.Course.{Begins}
@@ -15,7 +15,7 @@ use Rattle.fault_report.specs.declared.outcome.Outcome.TheVariants.{Done, Usage,
 use Rattle.run_engine.specs.Run.{Document, Main as AsksMain, Open, Over, Run, Wants, at_start}
 use Rattle.sheet_files.specs.Acts.{opens}
 use Rattle.sheet_runs.specs.Counts.{CountsAt, IfFailed}
-use Rattle.sheet_runs.specs.Reading.{EndOnce, main_gots}
+use Rattle.sheet_runs.specs.Reading.{EndOnce, ReadsOpened, main_gots}
 use Rattle.sheet_runs.specs.Talk.{Besides, Exchange, Leads, Part, beside_in, bytes_in, main_ends, main_in, names_in, none_beside, notes_in}
 use Rattle.sheet_runs.specs.Writing.{counted}
 use Rattle.sheet_runs.specs.declared.main_document.Main.{Main}
@@ -126,12 +126,15 @@ pub record RunsSheet (start : Run) (main : Main) (old new : Outside) (ran : Ran)
   pub run : Run
   pub leads : Leads start talk run
   pub writes : Writes ran.end talk out note
+  -- where `Note` failed it hasn't taken all that was to be written to it
+  pub unnoted : ran.end ≡ Unnoted → length note < length (notes_in talk)
   pub reads : AtMainReads acts out note (IsAsked (old.to_come 0) start)
   pub hands : HandsMain main old acts (main_in start talk) (main_ends start talk)
   -- where the run is done the main document was handed in to its end
   pub whole : ran.end ≡ Told Done → main_ends start talk ≡ true
   pub beside : HandsOthers old (beside_in none_beside start talk)
   pub opened : OpensNames (λ name. option_and_then (λ docs. place docs name) old.documents) run (names_in start talk) acts
+  pub alone : ReadsOpened acts
   pub ids : new.open_ids ≡ old.open_ids
   pub counts : CountsAt ran.end old new
   -- where the host failed it was for want of room, where that is told: for an act more, or for all bytes that were settled

@@ -21,6 +21,7 @@ use Rattle.run_engine.specs.declared.piece.Pumped.{Pumped}
 use Rattle.run_engine.specs.declared.piece.Pumped.TheVariants as pumped
 use Rattle.sheet_files.specs.Acts.{opens}
 use Rattle.sheet_runs.specs.Counts.{CountsAt, IfFailed, SameCounts}
+use Rattle.sheet_runs.specs.Reading.{ReadsOpened}
 use Rattle.sheet_runs.specs.Runs.{AreAbsent, AreWhole, EndsBy, HandsMain, HandsOthers, IsAsked, OpensNames, Writes}
 use Rattle.sheet_runs.specs.Talk.{Besides, Exchange, Leads, Part, beside_in, beside_with, bytes_in, is_main_end, main_bytes, main_ends, main_in, name_asked, names_in, none_beside, notes_in}
 use Rattle.sheet_runs.specs.Writing.{counted}
@@ -142,6 +143,7 @@ pub record Driving (start : Run) (main : Main) (old now : Outside) (r : Running)
   pub hands : HandsOn main r.main old acts (main_in start talk) (main_ends start talk)
   pub beside : HandsOthersOn old now.to_come (beside_in none_beside start talk) r.others.items
   pub opened : opens acts ≡ map (place_in old) (names_in start talk)
+  pub alone : ReadsOpened acts
   pub held : AreHeld old.open_ids now.open_ids r.others.items
   pub few : length r.others.items ≤ length (opens acts)
   pub counts : SameCounts old now
@@ -176,6 +178,7 @@ pub record Handing (start : Run) (main : Main) (old now : Outside) (r : Running)
   pub hands : HandsOn main r.main old acts handed_in ended
   pub beside : HandsOthersOn old now.to_come (beside_with r.engine.stage p (beside_in none_beside start talk)) r.others.items
   pub opened : opens acts ≡ map (place_in old) (names_in start talk ++ name_asked r.engine.stage)
+  pub alone : ReadsOpened acts
   pub held : AreHeld old.open_ids now.open_ids r.others.items
   pub few : length r.others.items ≤ length (opens acts)
   pub counts : SameCounts old now
@@ -225,11 +228,13 @@ pub record Halted (start : Run) (main : Main) (old now : Outside) (r : Running) 
   pub talk : List Exchange
   pub leads : Leads start talk r.engine
   pub writes : Writes end talk out note
+  pub unnoted : end ≡ Unnoted → length note < length (notes_in talk)
   pub reads : AtMainReads acts out note (IsAsked (old.to_come 0) start)
   pub hands : HandsMain main old acts (main_in start talk) (main_ends start talk)
   pub whole : end ≡ Told ended.Done → main_ends start talk ≡ true
   pub beside : HandsOthers old (beside_in none_beside start talk)
   pub opened : OpensNames (place_in old) r.engine (names_in start talk) acts
+  pub alone : ReadsOpened acts
   pub held : AreHeld old.open_ids now.open_ids r.others.items
   pub counts : CountsAt end old now
   pub room : IfFailed end old now (LacksRoom old (needed acts (bytes_in talk) (notes_in talk)))
