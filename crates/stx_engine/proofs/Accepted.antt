@@ -19,11 +19,14 @@ use Rattle.xml_events.specs.Tree.{Why, Leaf, Chars, CData, Comment, Pi, Element,
 use Rattle.stx_engine.specs.inside.Accepted.{TakesGood, is_good, is_good_attr, is_good_element, is_good_leaf}
 use Rattle.stx_engine.specs.inside.Passed.{Complete, Passed, Refused, attribute_part, copied_attrs, end_parts, leaf_parts, once_ready, parts_if, passed, put, run_from, start_parts, then_put, unless_refused, unless_stopped, with_first}
 use Rattle.stx_engine.specs.inside.Opens.{named, names_by, names_of}
-use Rattle.stx_engine.specs.inside.Scope.{scope_within}
+use Rattle.template_machine.specs.Trail.{scope_within}
 use Rattle.sheet_model.specs.declared.pass.Kinds.{Kinds}
-use Rattle.stx_engine.proofs.Copying.{settled-names}
 
 -- Open elements
+
+settled-names : (es : List target.Element) (h : Option HeldTag) → named (settled es h) ≡ names_by es h
+settled-names es None = refl
+settled-names es (Some tag) = refl
 
 named-length : (es : List target.Element) → length (named es) ≡ length es
 named-length [] = refl

@@ -1,11 +1,10 @@
 -- What was done where the answer is said.
-use Rattle.std.proofs.Common.{◌≡◌, ◌⊎◌, inl, inr, ℕ, ◌||◌, Bool, true, false, if◌then◌else◌, List, [], ◌++◌, length, map, take, Some, None, Ok, Err, refl, sym, ap, subst, ◌∙◌, append-nil}
-use Rattle.std.specs.Prelude.{encode_utf8_all, is_some}
+use Rattle.std.proofs.Common.{◌≡◌, ◌⊎◌, inl, inr, ℕ, ◌||◌, Bool, true, false, if◌then◌else◌, List, [], ◌++◌, map, take, Some, None, Ok, Err, refl, sym, ap, subst, ◌∙◌, append-nil}
+use Rattle.std.specs.Prelude.{is_some}
 use Rattle.std.specs.List.{concat}
 use Rattle.std.proofs.lemmas.Bool.{false≢true}
 use Rattle.std.proofs.lemmas.Option.{none-some, same_Some}
-use Rattle.stx_base.specs.Course.{Begins, Ends, Over}
-use Rattle.xml_events.specs.Tree.{Forest}
+use Rattle.stx_base.specs.Course.{Begins}
 use Rattle.stx_host.specs.declared.act.Act.{Act}
 use Rattle.stx_host.specs.Before.{AtMainReads, Taken}
 use Rattle.stx_host.specs.Outside.{LacksRoom, Outside}
@@ -14,17 +13,13 @@ use Rattle.stx_host.specs.declared.act.Doc.{Doc}
 use Rattle.stx_host.proofs.Lacking.{needs_after}
 use Rattle.stx_host.proofs.Stretches.{nothing_between}
 use Rattle.instr_code.specs.Code.{code_of}
-use Rattle.result_writer.specs.Target.{nothing}
 use Rattle.sheet_files.specs.Acts.{opens}
 use Rattle.sheet_files.specs.Loading as loading
 use Rattle.sheet_files.specs.Opened.{documents_told}
 use Rattle.sheet_files.specs.declared.load.Loaded.{Loaded}
 use Rattle.sheet_loader.specs.Values.{Reads}
 use Rattle.sheet_model.specs.declared.sheet.Sheet as model
-use Rattle.template_machine.specs.Ending.{Ending, Said}
-use Rattle.template_machine.specs.Meaning.{code, meaning}
 use Rattle.template_machine.specs.Ordinary.{IsOrdinary}
-use Rattle.template_machine.specs.Written.{lines_of, settled_by}
 use Rattle.fault_report.specs.declared.outcome.HostFault.TheVariants as fault
 use Rattle.fault_report.specs.declared.outcome.Outcome.{Outcome}
 use Rattle.fault_report.specs.declared.outcome.Outcome.TheVariants as outcome
@@ -32,32 +27,31 @@ use Rattle.command_words.specs.Words.{command_of}
 use Rattle.command_words.specs.declared.command.Command.{Command}
 use Rattle.command_words.specs.declared.command.Mode.{Mode}
 use Rattle.command_words.specs.declared.command.Mode.TheVariants.{Run as AsksRun, Check, Sample}
-use Rattle.run_engine.specs.Does.{InOrder, InOrderAt, IsRunOf}
-use Rattle.run_engine.specs.Run.{IsAtStart, Run, head}
+use Rattle.run_engine.specs.Run.{IsAtStart, Run}
 use Rattle.sample_maker.specs.Document as sample
 use Rattle.sheet_runs.specs.Counts.{SameCounts}
 use Rattle.sheet_runs.specs.Counts as run_counts
-use Rattle.sheet_runs.specs.Meant.{EndsAsMeant, EndsMeaning, IsDocument, IsOnOther, IsSettledOn, KeepsMeaning, RunsKeepMeaning, WritesMeaning, tree_of}
+use Rattle.sheet_runs.specs.Meant.{IsDocument, IsOnOther, IsSettledOn, KeepsMeaning, RunsKeepMeaning}
 use Rattle.sheet_runs.specs.Runs.{RunsSheet}
-use Rattle.sheet_runs.specs.Talk.{main_ends, main_in}
-use Rattle.sheet_runs.specs.Writing.{counted}
 use Rattle.sheet_runs.specs.declared.main_document.Main.{Main}
 use Rattle.sheet_runs.specs.declared.main_document.Main.TheVariants as main_of
 use Rattle.sheet_runs.specs.declared.run.End.{End}
 use Rattle.sheet_runs.specs.declared.run.End.TheVariants as ends
 use Rattle.sheet_runs.specs.declared.run.Ran.{Ran}
-use Rattle.stx_engine.specs.Answer.{Answer, Asked_for, answer, answered, asked, document_of, end_in, given_of, is_any_run, is_run, loaded, mode_answer, param_of, ran, ran_by, sheet_answer, words_answer, written}
+use Rattle.stx_engine.specs.Answer.{Answer, Asked_for, answer, answered, asked, document_of, end_in, given_of, is_any_run, is_run, loaded, mode_answer, param_of, ran, sheet_answer, words_answer}
 use Rattle.stx_engine.specs.Doing.{Checks, Does, DoesCommand, DoesWords, GoesOn, Lacks, Loads, Obeys, Passes, PassesOn, Refuses, RunsIt, RunsOnSample, Stops}
 use Rattle.stx_engine.specs.Plain.{is_ordinary, pass_of, takes_in_order}
-use Rattle.stx_engine.specs.RunEnd.{end_of_run, end_of_sample, on_sample, outcome_in, sample_of, summary_of}
+use Rattle.stx_engine.specs.RunEnd.{end_of_run, end_of_sample, outcome_in}
 use Rattle.stx_engine.specs.Running.{Asks, CountsIn, FailedOnSheet, IfDocFailed, IfFailed, IsAnswered, OpensNames, RunsAnswered, UnlessFailed}
 use Rattle.stx_engine.specs.declared.run_end.RunEnd.{RunEnd}
 use Rattle.stx_engine.specs.declared.run_end.RunEnd.TheVariants.{Told, Sampled, Unnoted}
+use Rattle.sheet_runs.proofs.Acting.{opens-then}
 use Rattle.sheet_runs.proofs.Lacking.{needs_all}
-use Rattle.stx_engine.proofs.Driven.{counts-then, opens-append}
+use Rattle.sheet_runs.proofs.Stepping.{counts-then}
+use Rattle.stx_engine.proofs.AsMeant.{answers-so, begins-so, kept, lacks-so, main-fails, sample-bytes, sample-fails, sample-is, sample-outcome}
 use Rattle.stx_engine.proofs.Idle.{no_main_reads}
 use Rattle.stx_engine.proofs.Prefixes.{begins_all, begins_nothing}
-use Rattle.stx_engine.proofs.Meant.{HaveMeaning, MeaningIsOutcome, none-new}
+use Rattle.stx_engine.proofs.Meant.{HaveMeaning, MeaningIsOutcome}
 use Rattle.stx_engine.proofs.Ordered.{ordinary-so}
 use Rattle.stx_engine.proofs.Ran.{accepted-is, answer-is, answer-opened, answered-by, answered-stopped, asked-so, between_after, failed-on-sheet, main_after, never-on-doc, opens-all, opens-stopped, ran-opens, reads_after}
 
@@ -79,21 +73,6 @@ mode-said (Sample records) k opened main a any e = if-said (takes_in_order k.she
 -- a sheet that doesn't only pass documents through is an ordinary one
 more-ordinary : (sheet : model.Sheet) → pass_of sheet ≡ None → takes_in_order sheet ≡ true → IsOrdinary (code_of sheet)
 more-ordinary sheet none order = ordinary-so (code_of sheet) (sym (ap (λ o. is_some o || is_ordinary (code_of sheet)) none) ∙ order)
-
--- an engine that begins with an ordinary sheet
-
-module _ (k : Asked_for) (start : Run) (b : IsAtStart k.sheet (map param_of k.command.params) k.command.limits start) where
-  begun-runs : IsRunOf (given_of k) start
-  begun-runs = record {
-    of = b.of;
-    limit = ap (λ (r : Run). r.output.limit) b.is;
-    bare = λ at. ap (λ (r : Run). r.output.left) b.is;
-    params = sym b.given;
-  }
-
-  begun-order : IsOrdinary (code_of k.sheet) → InOrder start
-  begun-order ordinary =
-      subst (λ s. InOrderAt s start.machine start.documents) (sym (ap (λ (r : Run). r.stage) b.is)) (subst IsOrdinary (sym b.of.code_is) ordinary)
 
 -- what follows from a failure, where no count changed before
 failed-before : (end : RunEnd) (old mid new : Outside) (P Q : Type 0) → SameCounts old mid → (P → Q) → IfFailed end mid new P → IfFailed end old new Q
@@ -160,7 +139,7 @@ module _ (law : RunsKeepMeaning) (have : HaveMeaning) (is-outcome : MeaningIsOut
   opened-so : (acts : List Act) (o : Outcome) → opens acts ≡ [] → OpensNames docs a.opened o (l.acts ++ acts)
   opened-so acts o none =
       let t = opens-all words c asked_for old mid docs documents reads x l o in
-      subst (λ n. OpensNames docs n o (l.acts ++ acts)) (sym opens-names) (t.0, t.1, opens-append l.acts acts ∙ ap (λ n. opens l.acts ++ n) none ∙ append-nil (opens l.acts) ∙ t.2, t.3)
+      subst (λ n. OpensNames docs n o (l.acts ++ acts)) (sym opens-names) (t.0, t.1, opens-then l.acts acts ∙ ap (λ n. opens l.acts ++ n) none ∙ append-nil (opens l.acts) ∙ t.2, t.3)
 
   -- nothing failed so far
   loaded-counts : SameCounts old mid
@@ -209,57 +188,11 @@ module _ (law : RunsKeepMeaning) (have : HaveMeaning) (is-outcome : MeaningIsOut
         by_mode false is = no_main_reads d.acts d.out [] (Asks reads words docs main) (d.no_main_read is)
 
   -- it was run by the sheet
-  module _ (ordinary : IsOrdinary (code_of x.sheet)) (source : Main) (ran : Ran) (start : Run) (b : IsAtStart x.sheet (map param_of c.params) c.limits start) (r : RunsSheet start source mid new ran) (end : RunEnd)
-      (is-document : IsDocument source mid (document_of c.mode main)) (same-outcome : outcome_in end ≡ outcome_in (end_of_run ran.end))
-      (fails-as : (P : Type 0) → run_counts.IfFailed ran.end mid new P → IfFailed end mid new P) where
-    h : KeepsMeaning (given_of k) source mid new r.acts r.out r.note ran.end
-    h = law (given_of k) start source mid new ran (none-new k) b.is (begun-runs k start b) (begun-order k start b ordinary) r
-
-    abbrev tree : Forest
-    tree = tree_of (given_of k) (record { bytes = document_of c.mode main; ended = true })
-
-    meant-is : (said : List Said) (e : Ending) → Ends (code (given_of k)) (meaning (given_of k) tree) said e → a ≡ ran_by (given_of k) c.mode names (Over said e)
-    meant-is said e means = ap (ran_by (given_of k) c.mode names) ((is-outcome (given_of k) (none-new k) tree said e).0 means)
-
-    writes : WritesMeaning (given_of k) (document_of c.mode main) r.out r.note ran.end
-    writes = h.writes (document_of c.mode main) is-document
-
-    begins-so : Begins r.out a.out × Begins r.note a.messages
-    begins-so =
-        let m = have (given_of k) (none-new k) tree in
-        let w = writes.begins m.0 m.1 m.2 in
-        let is = meant-is m.0 m.1 m.2 in
-        (subst (λ (w : Answer). Begins r.out w.out) (sym is) w.0, subst (λ (w : Answer). Begins r.note w.messages) (sym is) w.1)
-
-    -- what it lacked room for
-    room-so : IfFailed end old new (LacksRoom old (needed (l.acts ++ r.acts) a.out a.messages))
-    room-so =
-        let m = have (given_of k) (none-new k) tree in
-        let is = meant-is m.0 m.1 m.2 in
-        let bytes = head ++ settled_by nothing m.0 in
-        lacks-behind end new r.acts bytes (lines_of m.0) (subst (λ (w : Answer). Begins bytes w.out) (sym is) (begins_all bytes)) (subst (λ (w : Answer). Begins (lines_of m.0) w.messages) (sym is) (begins_all (lines_of m.0)))
-        (fails-as (LacksRoom mid (needed r.acts bytes (lines_of m.0))) (h.room (document_of c.mode main) is-document m.0 m.1 m.2))
-
-    ends-so : (o : Outcome) → EndsMeaning (given_of k) (document_of c.mode main) r.out r.note o → end ≡ end_in c.mode r.out o → IsAnswered r.out r.note end a
-    ends-so o m is =
-        let w = meant-is m.said m.ending m.means in
-        record {
-          output = m.out ∙ sym (ap (λ (w : Answer). w.out) w);
-          messages = m.note ∙ sym (ap (λ (w : Answer). w.messages) w);
-          is = is ∙ ap (λ out. end_in c.mode out o) m.out ∙ ap (end_in c.mode (written m.said)) m.is ∙ sym (ap (λ (w : Answer). w.end) w);
-        }
-
-    ends-by : (e : End) → EndsAsMeant (given_of k) (document_of c.mode main) r.out r.note e → ((o : Outcome) → e ≡ ends.Told o → end ≡ end_in c.mode r.out o)
-        → UnlessFailed (outcome_in (end_of_run e)) (IsAnswered r.out r.note end a)
-    ends-by ends.Unnoted m is = tt
-    ends-by (ends.Told outcome.Memory) m is = tt
-    ends-by (ends.Told (outcome.Host file f offset)) m is = tt
-    ends-by (ends.Told outcome.Done) m is = ends-so outcome.Done m (is outcome.Done refl)
-    ends-by (ends.Told outcome.Usage) m is = ends-so outcome.Usage m (is outcome.Usage refl)
-    ends-by (ends.Told (outcome.Sheet why)) m is = ends-so (outcome.Sheet why) m (is (outcome.Sheet why) refl)
-    ends-by (ends.Told (outcome.Run file code offset)) m is = ends-so (outcome.Run file code offset) m (is (outcome.Run file code offset) refl)
-    ends-by (ends.Told (outcome.Xml file why)) m is = ends-so (outcome.Xml file why) m (is (outcome.Xml file why) refl)
-    ends-by (ends.Told (outcome.Fuel file offset)) m is = ends-so (outcome.Fuel file offset) m (is (outcome.Fuel file offset) refl)
+  module _ (ordinary : IsOrdinary (code_of x.sheet)) (source : Main) (came : Ran) (start : Run) (b : IsAtStart x.sheet (map param_of c.params) c.limits start) (r : RunsSheet start source mid new came) (end : RunEnd)
+      (is-document : IsDocument source mid (document_of c.mode main)) (same-outcome : outcome_in end ≡ outcome_in (end_of_run came.end))
+      (fails-as : (P : Type 0) → run_counts.IfFailed came.end mid new P → IfFailed end mid new P) where
+    h : KeepsMeaning (given_of k) source mid new r.acts r.out r.note came.end
+    h = kept law have is-outcome k ordinary source mid new came start b r
 
     -- no other document is opened, so that none fails
     failed-by : (e : End) → (IsOnOther e → ⊥) → IfDocFailed (outcome_in (end_of_run e)) (FailedOnSheet reads words docs (l.acts ++ r.acts))
@@ -275,88 +208,37 @@ module _ (law : RunsKeepMeaning) (have : HaveMeaning) (is-outcome : MeaningIsOut
     failed-by (ends.Told (outcome.Xml file why)) alone = tt
     failed-by (ends.Told (outcome.Fuel file offset)) alone = tt
 
-    run-so : AtMainReads r.acts r.out r.note (Asks reads words docs main) → ((o : Outcome) → ran.end ≡ ends.Told o → end ≡ end_in c.mode r.out o) → Answers new end
+    run-so : AtMainReads r.acts r.out r.note (Asks reads words docs main) → ((o : Outcome) → came.end ≡ ends.Told o → end ≡ end_in c.mode r.out o) → Answers new end
     run-so asks is = record {
       acts = l.acts ++ r.acts;
       out = r.out;
       note = r.note;
       between = between_after words c asked_for old mid new x l r.acts r.out r.note r.between;
       asks = reads_after words c asked_for old mid new x l r.acts r.out r.note (Asks reads words docs main) asks;
-      begins = begins-so;
-      ends = subst (λ o. UnlessFailed o (IsAnswered r.out r.note end a)) (sym same-outcome) (ends-by ran.end writes.ends is);
+      begins = begins-so law have is-outcome k ordinary source mid new came start b r names main is-document;
+      ends = answers-so law have is-outcome k ordinary source mid new came start b r names main is-document end same-outcome is;
       opened = opened-so r.acts (outcome_in end) h.opened;
-      failed = subst (λ o. IfDocFailed o (FailedOnSheet reads words docs (l.acts ++ r.acts))) (sym same-outcome) (failed-by ran.end h.alone);
-      room = room-so;
+      failed = subst (λ o. IfDocFailed o (FailedOnSheet reads words docs (l.acts ++ r.acts))) (sym same-outcome) (failed-by came.end h.alone);
+      room = lacks-behind end new r.acts a.out a.messages (begins_all a.out) (begins_all a.messages)
+          (fails-as (LacksRoom mid (needed r.acts a.out a.messages)) (lacks-so law have is-outcome k ordinary source mid new came start b r names main is-document));
     }
 
   -- the main document was read
-  main-fails : (e : End) (P : Type 0) → run_counts.IfFailed e mid new P → IfFailed (end_of_run e) mid new P
-  main-fails ends.Unnoted P p = p
-  main-fails (ends.Told outcome.Done) P p = p
-  main-fails (ends.Told outcome.Memory) P p = p
-  main-fails (ends.Told (outcome.Host file f offset)) P p = p
-  main-fails (ends.Told outcome.Usage) P p = p
-  main-fails (ends.Told (outcome.Sheet why)) P p = p
-  main-fails (ends.Told (outcome.Run file code offset)) P p = p
-  main-fails (ends.Told (outcome.Xml file why)) P p = p
-  main-fails (ends.Told (outcome.Fuel file offset)) P p = p
-
-  run-main : IsOrdinary (code_of x.sheet) → (ran : Ran) (start : Run) (b : IsAtStart x.sheet (map param_of c.params) c.limits start) → c.mode ≡ AsksRun → RunsSheet start main_of.Host mid new ran → Answers new (end_of_run ran.end)
-  run-main ordinary ran start b plain r =
+  run-main : IsOrdinary (code_of x.sheet) → (came : Ran) (start : Run) (b : IsAtStart x.sheet (map param_of c.params) c.limits start) → c.mode ≡ AsksRun → RunsSheet start main_of.Host mid new came → Answers new (end_of_run came.end)
+  run-main ordinary came start b plain r =
       let there = main_after words c asked_for old mid new x l main told in
-      run-so ordinary main_of.Host ran start b r (end_of_run ran.end) (there ∙ ap Some (ap (λ m. document_of m main) (sym plain))) refl (main-fails ran.end)
-      (λ n is_read. asks-so (ap is_run plain) _ ((law (given_of k) start main_of.Host mid new ran (none-new k) b.is (begun-runs k start b) (begun-order k start b ordinary) r).reads main there n is_read))
+      run-so ordinary main_of.Host came start b r (end_of_run came.end) (there ∙ ap Some (ap (λ m. document_of m main) (sym plain))) refl (main-fails came.end mid new)
+      (λ n is_read. asks-so (ap is_run plain) _ ((kept law have is-outcome k ordinary main_of.Host mid new came start b r).reads main there n is_read))
       (λ o is. ap end_of_run is ∙ sym (ap (λ m. end_in m r.out o) plain))
 
   -- the sample was
-  sample-outcome : (records : ℕ) (ran : Ran) (e : End) → outcome_in (end_of_sample records ran e) ≡ outcome_in (end_of_run e)
-  sample-outcome records ran ends.Unnoted = refl
-  sample-outcome records ran (ends.Told outcome.Done) = refl
-  sample-outcome records ran (ends.Told outcome.Memory) = refl
-  sample-outcome records ran (ends.Told (outcome.Host file f offset)) = refl
-  sample-outcome records ran (ends.Told outcome.Usage) = refl
-  sample-outcome records ran (ends.Told (outcome.Sheet why)) = refl
-  sample-outcome records ran (ends.Told (outcome.Run file code offset)) = refl
-  sample-outcome records ran (ends.Told (outcome.Xml file why)) = refl
-  sample-outcome records ran (ends.Told (outcome.Fuel file offset)) = refl
-
-  sample-end : (records : ℕ) (ran : Ran) (out : List ℕ) (o : Outcome) → ran.output ≡ counted (length out) → (o ≡ outcome.Done → ran.input ≡ counted (length (sample_of records)))
-      → end_of_sample records ran (ends.Told o) ≡ on_sample (summary_of records out) o
-  sample-end records ran out outcome.Done output input = ap (λ n. on_sample (record { records = records; input = n; output = ran.output }) outcome.Done) (input refl) ∙ ap (λ n. on_sample (record { records = records; input = counted (length (sample_of records)); output = n }) outcome.Done) output
-  sample-end records ran out outcome.Memory output input = refl
-  sample-end records ran out (outcome.Host file f offset) output input = refl
-  sample-end records ran out outcome.Usage output input = refl
-  sample-end records ran out (outcome.Sheet why) output input = refl
-  sample-end records ran out (outcome.Run file code offset) output input = refl
-  sample-end records ran out (outcome.Xml file why) output input = refl
-  sample-end records ran out (outcome.Fuel file offset) output input = refl
-
-  sample-fails : (records : ℕ) (ran : Ran) (e : End) (P : Type 0) → run_counts.IfFailed e mid new P → IfFailed (end_of_sample records ran e) mid new P
-  sample-fails records ran ends.Unnoted P p = p
-  sample-fails records ran (ends.Told outcome.Done) P p = tt
-  sample-fails records ran (ends.Told outcome.Memory) P p = p
-  sample-fails records ran (ends.Told (outcome.Host file f offset)) P p = p
-  sample-fails records ran (ends.Told outcome.Usage) P p = p
-  sample-fails records ran (ends.Told (outcome.Sheet why)) P p = p
-  sample-fails records ran (ends.Told (outcome.Run file code offset)) P p = p
-  sample-fails records ran (ends.Told (outcome.Xml file why)) P p = p
-  sample-fails records ran (ends.Told (outcome.Fuel file offset)) P p = p
-
-  run-sample : IsOrdinary (code_of x.sheet) → (records : ℕ) (ran : Ran) (start : Run) (b : IsAtStart x.sheet (map param_of c.params) c.limits start) → c.mode ≡ Sample records → RunsSheet start (main_of.Sample (sample.pieces records)) mid new ran
-      → Answers new (end_of_sample records ran ran.end)
-  run-sample ordinary records ran start b plain r =
-      let pieces : List (List ℕ) = sample.pieces records in
-      let bytes : sample_of records ≡ encode_utf8_all (concat (sample.pieces records)) = ap encode_utf8_all (sym (joins records)) in
-      run-so ordinary (main_of.Sample (sample.pieces records)) ran start b r (end_of_sample records ran ran.end) (ap (λ m. document_of m main) plain ∙ bytes) (sample-outcome records ran ran.end) (sample-fails records ran ran.end)
+  run-sample : IsOrdinary (code_of x.sheet) → (records : ℕ) (came : Ran) (start : Run) (b : IsAtStart x.sheet (map param_of c.params) c.limits start) → c.mode ≡ Sample records → RunsSheet start (main_of.Sample (sample.pieces records)) mid new came
+      → Answers new (end_of_sample records came came.end)
+  run-sample ordinary records came start b plain r =
+      run-so ordinary (main_of.Sample (sample.pieces records)) came start b r (end_of_sample records came came.end) (ap (λ m. document_of m main) plain ∙ sample-bytes joins records) (sample-outcome records came came.end)
+      (sample-fails records came came.end mid new)
       (no_main_reads r.acts r.out r.note (Asks reads words docs main) r.hands.0)
-      (λ o is.
-      ap (end_of_sample records ran) is
-      ∙ sample-end records ran r.out o r.output
-      (λ done.
-      let left = r.hands.1 in
-      let ended : main_ends start r.talk ≡ true = r.whole (is ∙ ap ends.Told done) in
-      r.input ∙ ap (λ (l : List ℕ). counted (length l)) (sym (append-nil (main_in start r.talk)) ∙ ap (λ (p : List (List ℕ)). main_in start r.talk ++ encode_utf8_all (concat p)) (sym (left.2 ended)) ∙ left.1 ∙ sym bytes))
-      ∙ sym (ap (λ m. end_in m r.out o) plain))
+      (λ o is. sample-is joins records mid new came start r o is ∙ sym (ap (λ m. end_in m r.out o) plain))
 
 -- What was done with words
 

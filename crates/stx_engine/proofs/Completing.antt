@@ -23,7 +23,7 @@ use Rattle.stx_engine.specs.RunEnd.{line_in, outcome_in, status_in}
 use Rattle.stx_engine.specs.Running.{CountsIn, IfFailed, IsAnswered, Reports, RunsAnswered, UnlessFailed, unwritten_status}
 use Rattle.stx_engine.specs.declared.run_end.RunEnd.{RunEnd}
 use Rattle.stx_engine.specs.declared.run_end.RunEnd.TheVariants.{Sampled, Told, Unnoted}
-use Rattle.stx_engine.proofs.Driven.{counts-then}
+use Rattle.sheet_runs.proofs.Stepping.{counts-then}
 use Rattle.stx_engine.proofs.Headed.{EndsItself, answered, own_same, own_status, own_unwritten}
 use Rattle.stx_engine.proofs.LastLine.{reported}
 use Rattle.stx_engine.proofs.Prefixes.{begins_all}

@@ -17,7 +17,7 @@ use Rattle.run_parts.specs.Sound.{declares_names, is_named, is_sound_part}
 use Rattle.run_parts.proofs.Sound.{filter_good, order_good}
 use Rattle.stx_engine.specs.inside.Accepted.{RunsNest}
 use Rattle.stx_engine.specs.inside.Passed.{Passed, attribute_part, copied_attrs, end_parts, leaf_parts, once_ready, parts_if, passed, put, run_from, start_parts, then_put, unless_refused, unless_stopped, with_first}
-use Rattle.stx_engine.specs.inside.Scope.{scope_within}
+use Rattle.template_machine.specs.Trail.{scope_within}
 use Rattle.sheet_model.specs.declared.pass.Kinds.{Kinds}
 use Rattle.stx_engine.proofs.Parts.{parts-nest}
 

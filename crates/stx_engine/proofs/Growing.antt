@@ -12,7 +12,7 @@ use Rattle.run_engine.specs.Run.{head}
 use Rattle.stx_engine.specs.inside.Run.{output}
 use Rattle.stx_engine.specs.inside.Growing.{BytesStay, RunStays, TreeIsOver, TreeStays}
 use Rattle.stx_engine.specs.inside.Passed.{Passed, Run, Unready, end_parts, leaf_parts, once_ready, passed, put, run_from, start_parts, stopped, then_put, unless_refused, unless_stopped, with_first}
-use Rattle.stx_engine.specs.inside.Scope.{scope_within}
+use Rattle.template_machine.specs.Trail.{scope_within}
 use Rattle.sheet_model.specs.declared.pass.Kinds.{Kinds}
 
 -- q is p, or p is stopped for want of more, and its parts are the first of q

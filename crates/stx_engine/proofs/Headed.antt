@@ -27,7 +27,7 @@ use Rattle.fault_report.specs.declared.outcome.Outcome.TheVariants.{Done, Run, U
 use Rattle.stx_engine.specs.RunEnd.{line_in, outcome_in, status_in}
 use Rattle.stx_engine.specs.declared.run_end.RunEnd.{RunEnd}
 use Rattle.stx_engine.specs.declared.run_end.RunEnd.TheVariants.{Told, Sampled, Unnoted}
-use Rattle.stx_engine.proofs.Driven.{no_doc_read-writes, once-writes}
+use Rattle.sheet_runs.proofs.Acting.{gots-writes, none-read, once-same}
 use Rattle.stx_engine.proofs.LastLine.{Reported, failed-on-sheet-then, failed-on-then, failed-then, loads-so, loads-then, map_some, note-kept, opens-then, reported, rose_for}
 use Rattle.stx_engine.proofs.Prefixes.{begins_after, begins_all, begins_more}
 use Rattle.stx_engine.proofs.Ran.{if-doc}
@@ -439,7 +439,7 @@ module _ (words : List (List ℕ)) (old mid new : Outside) (end : RunEnd) (r : R
     pub reads_to_end : ReadsToEnd old new words main result
     reads_to_end = (
       r.ended,
-      subst (λ log. EndOnce r.ended (main_gots log)) (sym log_is) (once-writes r.ended r.acts Note line.lens r.once),
+      subst (λ log. EndOnce r.ended (main_gots log)) (sym log_is) (once-same r.ended r.acts (writes Note line.lens) (gots-writes Note line.lens) r.once),
       λ asks zero.
           let done : outcome_in end ≡ Done = elim status_is [ inl e ↦ zero_done end (sym e ∙ zero) | inr e ↦ absurd (unwritten_some (status_in end) (sym e ∙ zero)) ] in
           let all = on_main.all asks done in
@@ -465,7 +465,7 @@ module _ (words : List (List ℕ)) (old mid new : Outside) (end : RunEnd) (r : R
         (λ c h.
         let names = (loaded reads docs c).opened in
         subst (LoadsFirst reads docs c.sheet (OpensFirst docs names result) none_run) (sym (log_is main on))
-        (loads-then reads docs c.sheet (OpensFirst docs names result) none_run r.acts (writes Note line.lens) (no_doc_read-writes Note line.lens)
+        (loads-then reads docs c.sheet (OpensFirst docs names result) none_run r.acts (writes Note line.lens) (none-read Note line.lens)
         (loads-so reads docs c.sheet (OpensNames docs names (outcome_in end)) (OpensFirst docs names result) none_run r.acts (opens_by_status names) h))) (told.sheet reads)
 
     pub is_plain : (reads : Reads) → runs_none reads words docs ≡ true → IsPlainStatus result

@@ -16,8 +16,9 @@ use Rattle.sheet_files.specs.Acts.{given_behind, opens, read_behind}
 use Rattle.sheet_files.specs.Loading.{FailsInOrder}
 use Rattle.sheet_loader.specs.Values.{Reads}
 use Rattle.sheet_runs.specs.Counts.{CountsBy}
+use Rattle.sheet_runs.specs.Reading.{is_doc_read}
 use Rattle.stx_engine.specs.Answer.{loaded, runs_none}
-use Rattle.stx_engine.specs.Running.{CountsIn, FailedIn, FailedOn, FailedOnSheet, LoadsFirst, OpensNames, Reports, Runs, is_doc_read, unwritten_status}
+use Rattle.stx_engine.specs.Running.{CountsIn, FailedIn, FailedOn, FailedOnSheet, LoadsFirst, OpensNames, Reports, Runs, unwritten_status}
 use Rattle.stx_engine.specs.Headline.{RoseFor}
 use Rattle.fault_report.specs.declared.outcome.HostFault.{HostFault}
 use Rattle.fault_report.specs.declared.outcome.HostFault.TheVariants as fault
@@ -26,7 +27,7 @@ use Rattle.fault_report.specs.declared.outcome.Outcome.TheVariants.{Done, Run, U
 use Rattle.stx_engine.specs.RunEnd.{line_in, outcome_in}
 use Rattle.stx_engine.specs.declared.run_end.RunEnd.{RunEnd}
 use Rattle.stx_engine.specs.declared.run_end.RunEnd.TheVariants.{Told, Sampled, Unnoted}
-use Rattle.stx_engine.proofs.Driven.{opens-append, opens-writes}
+use Rattle.sheet_runs.proofs.Acting.{opens-nothing, opens-writes}
 use Rattle.stx_engine.proofs.Idle.{of_any}
 
 pub map_some : {X : Type 0} (o : Option X) (P Q : X → Type 0) → ((x : X) → P x → Q x) → IfSome o P → IfSome o Q
@@ -195,7 +196,7 @@ fails-then at front rest file offset acts lens (inl f) = inl (f.0, (f.1.0, given
 fails-then at front rest file offset acts lens (inr next) = inr next
 
 pub opens-then : (acts : List Act) (lens : List ℕ) → opens (acts ++ writes Note lens) ≡ opens acts
-opens-then acts lens = opens-append acts (writes Note lens) ∙ ap (λ l. opens acts ++ l) (opens-writes Note lens) ∙ append-nil (opens acts)
+opens-then acts lens = opens-nothing acts (writes Note lens) (opens-writes Note lens)
 
 pub failed-on-sheet-then : (reads : Reads) (words : List (List ℕ)) (docs : List Doc) (acts : List Act) (lens : List ℕ) (file : List ℕ) (offset : ℕ)
     → FailedOnSheet reads words docs acts file offset → FailedOnSheet reads words docs (acts ++ writes Note lens) file offset

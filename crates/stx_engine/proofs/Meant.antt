@@ -38,7 +38,7 @@ use Rattle.stx_engine.specs.inside.Laws.{PassesAsMeant, meant_ending}
 use Rattle.stx_engine.specs.inside.Passed as mine
 use Rattle.stx_engine.specs.inside.Passed.{Complete, Ending, Passed, Refused, Run, Unready, attribute_part, copied_attrs, end_parts, ending_by, once_ready, parts_if, passed, put, run_from, start_parts, then_put, unless_refused, unless_stopped, with_first}
 use Rattle.stx_engine.specs.inside.Run.{output, outcome_of, result_of, run_on}
-use Rattle.stx_engine.specs.inside.Scope.{scope_within}
+use Rattle.template_machine.specs.Trail.{scope_within}
 use Rattle.stx_engine.proofs.Unrecognised.{documents_have_no_sections}
 
 -- What nodes put

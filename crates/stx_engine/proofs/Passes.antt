@@ -1,155 +1,378 @@
--- What passing documents through did is what the sheet means.
-use Rattle.std.proofs.Common.{◌≡◌, ℕ, ◌≤◌, ◌==◌, true, false, List, [], map, take, Some, IsSome, refl, sym, ap, subst, ◌∙◌}
-use Rattle.std.specs.List.{list_any}
+-- A run of a sheet that only passes documents through does what the sheet means.
+use Rattle.std.proofs.Common.{◌≡◌, ℕ, ◌≤◌, ◌==◌, Bool, true, false, List, [], ◌∷◌, length, map, take, Some, None, Option, IsSome, inl, inr, arith, refl, sym, ap, subst, ◌∙◌}
+use Rattle.std.specs.List.{concat, list_any}
 use Rattle.std.proofs.lemmas.Bool.{false≢true, true≢false}
-use Rattle.stx_base.specs.Course.{Begins, Ends}
+use Rattle.stx_base.specs.Course.{Begins}
+use Rattle.stx_base.specs.declared.fault.RunCode.{RunCode}
+use Rattle.command_words.specs.declared.command.Mode.{Mode}
 use Rattle.command_words.specs.declared.command.Mode.TheVariants.{Run as AsksRun, Sample}
-use Rattle.stx_host.specs.Before.{Taken}
-use Rattle.stx_host.specs.Outside.{Outside}
+use Rattle.stx_host.specs.Before.{AtMainReads, Between, Taken, main_read}
+use Rattle.stx_host.specs.Outside.{LacksRoom, Outside}
+use Rattle.stx_host.specs.Rooms.{needed}
+use Rattle.stx_host.specs.declared.act.Act.{Act}
+use Rattle.stx_host.proofs.Stretches.{nothing_between}
+use Rattle.fault_report.specs.declared.outcome.HostFault.TheVariants as fault
 use Rattle.fault_report.specs.declared.outcome.Outcome.{Outcome}
-use Rattle.fault_report.specs.declared.outcome.Outcome.TheVariants.{Done, Run as Stopped, Usage, Sheet, Xml, Host, Fuel, Memory}
+use Rattle.fault_report.specs.declared.outcome.Outcome.TheVariants as outcome
+use Rattle.instr_code.specs.Code.{code_of}
+use Rattle.result_writer.specs.declared.fault.ResultFault.{ResultFault}
+use Rattle.sample_maker.specs.Document as sample
 use Rattle.sheet_model.specs.declared.pass.Kinds.{Kinds}
 use Rattle.sheet_model.specs.declared.sheet.Sheet as model
-use Rattle.sheet_runs.specs.Counts.{CountsBy}
-use Rattle.sheet_runs.specs.Meant.{IsSettledOn, tree_of}
-use Rattle.template_machine.specs.Ending.{Put}
-use Rattle.template_machine.specs.Meaning.{code, meaning}
-use Rattle.stx_engine.specs.Answer.{Answer, Asked_for, document_of, end_in, given_of, is_run, ran}
-use Rattle.stx_engine.specs.Doing.{PassesOn}
-use Rattle.stx_engine.specs.Plain.{pass_of}
-use Rattle.stx_engine.specs.RunEnd.{on_sample, outcome_in, sample_of, summary_of}
-use Rattle.stx_engine.specs.Running.{CountsIn, IsAnswered, TakesParts}
+use Rattle.xml_events.specs.Tree.{Need, Bad}
+use Rattle.template_machine.specs.Ending as meant
+use Rattle.template_machine.specs.Ending.{Needs, Put}
+use Rattle.template_machine.specs.Ordinary.{IsOrdinary}
+use Rattle.template_machine.specs.Written.{lines_of}
+use Rattle.run_engine.specs.Does.{told_as}
+use Rattle.run_engine.specs.More.{nothing_yet}
+use Rattle.run_engine.specs.Run.{IsAtStart, Run}
+use Rattle.run_engine.specs.Run as engine
+use Rattle.sheet_runs.specs.Counts.{CountsAt}
+use Rattle.sheet_runs.specs.Meant.{EndedAs, HasEnded, IsDocument, IsOnOther, IsSettledOn, KeepsMeaning, Means as RunMeans, RunsKeepMeaning, RunsMean, came}
+use Rattle.sheet_runs.specs.Runs.{EndsBy, RunsSheet}
+use Rattle.sheet_runs.specs.Talk.{bytes_in, main_ends, notes_in}
+use Rattle.sheet_runs.specs.declared.main_document.Main.{Main}
+use Rattle.sheet_runs.specs.declared.main_document.Main.TheVariants as main_of
+use Rattle.sheet_runs.specs.declared.run.End.{End}
+use Rattle.sheet_runs.specs.declared.run.End.TheVariants as ends
+use Rattle.sheet_runs.specs.declared.run.Ran.{Ran}
+use Rattle.sheet_runs.proofs.KeptMeaning.{front-of, lines-begin, settled, was-begins}
+use Rattle.stx_engine.specs.Answer.{Answer, Asked_for, document_of, end_in, given_of, is_run, param_of, ran}
+use Rattle.stx_engine.specs.Doing.{AreUsual, Does, Passes, PassesOn, RunsAny, RunsIt, RunsOnSample, asked_by}
+use Rattle.stx_engine.specs.Laws.{Means}
+use Rattle.stx_engine.specs.Plain.{pass_of, runnable}
+use Rattle.stx_engine.specs.RunEnd.{end_of_run, end_of_sample, outcome_in}
+use Rattle.stx_engine.specs.Running.{CountsIn, FailedAt, IfFailed, IsAnswered, TakesParts, UnlessFailed}
+use Rattle.stx_engine.specs.declared.asked.Asked.{Asked}
 use Rattle.stx_engine.specs.declared.run_end.RunEnd.{RunEnd}
-use Rattle.stx_engine.specs.declared.run_end.RunEnd.TheVariants.{Told, Sampled, Unnoted}
+use Rattle.stx_engine.specs.declared.run_end.RunEnd.TheVariants.{Told, Unnoted}
 use Rattle.stx_engine.specs.inside.Accepted.{DocumentsAreTaken}
-use Rattle.stx_engine.specs.inside.Driving.{Drives, DrivesSample, IsSettledAt, RefusesSome}
 use Rattle.stx_engine.specs.inside.Laws.{PassesAsMeant, meant_ending}
 use Rattle.stx_engine.specs.inside.Passed as gives
-use Rattle.stx_engine.specs.inside.Run.{outcome_of, result_of, run_on}
+use Rattle.stx_engine.specs.inside.Run.{outcome_of, run_on}
+use Rattle.stx_engine.proofs.AsMeant.{answers-so, begins-so, kept, main-fails, sample-bytes, sample-fails, sample-is, sample-outcome}
+use Rattle.stx_engine.proofs.Begun.{begun-order, begun-runs}
 use Rattle.stx_engine.proofs.Idle.{no_main_gots, no_main_reads}
-use Rattle.stx_engine.proofs.Meant.{MeaningIsOutcome, lines-none, ran-passed, told-same, written-same}
-use Rattle.stx_engine.proofs.Sampled.{unless-map}
+use Rattle.stx_engine.proofs.Prefixes.{begins_nothing}
+use Rattle.stx_engine.proofs.Meant.{HaveMeaning, MeaningIsOutcome, lines-none, none-new, ran-passed, told-same, written-same}
+use Rattle.stx_engine.proofs.Runnable.{runnable-all, runnable-plain, uncalled, uncalled-ordinary}
+use Rattle.stx_engine.proofs.Stays.{OneMeaning}
 
-module _ (as_meant : PassesAsMeant) (is_outcome : MeaningIsOutcome) (taken : DocumentsAreTaken) (k : Asked_for) (pass : Kinds) (passes : pass_of k.sheet ≡ Some pass)
-    (below : k.command.limits.depth ≤ k.command.limits.elements) where
-  abbrev run_of : (bytes : List ℕ) → gives.Run
-  run_of bytes = run_on k.command.limits pass bytes true
+none-begins : (xs ys : List ℕ) → ys ≡ [] → Begins xs ys → xs ≡ []
+none-begins [] ys none h = refl
+none-begins (x ∷ xs) ys none h = absurd (omega (arith, ap length h.1, ap length none))
+
+-- an end that isn't that of an instruction, nor of want of fuel
+never-run : (name : List ℕ) (e : gives.Ending) (file : List ℕ) (why : RunCode) (offset : ℕ) → ((f : ResultFault) → e ≡ gives.Refused f → ⊥) → outcome.Run file why offset ≡ outcome_of name e → ⊥
+never-run name gives.Complete file why offset taken is = cc
+never-run name (gives.Unready Need) file why offset taken is = cc
+never-run name (gives.Unready (Bad f)) file why offset taken is = cc
+never-run name (gives.Refused f) file why offset taken is = taken f refl
+
+never-fuel : (name : List ℕ) (e : gives.Ending) (file : List ℕ) (offset : ℕ) → outcome.Fuel file offset ≡ outcome_of name e → ⊥
+never-fuel name gives.Complete file offset is = cc
+never-fuel name (gives.Unready Need) file offset is = cc
+never-fuel name (gives.Unready (Bad f)) file offset is = cc
+never-fuel name (gives.Refused f) file offset is = cc
+
+-- how a run on the main document ended
+counts-so : (e : End) (old new : Outside) → CountsAt e old new → CountsIn (end_of_run e) old new
+counts-so ends.Unnoted old new h = h
+counts-so (ends.Told o) old new h = h
+
+noted-so : (e : End) → (e ≡ ends.Unnoted → ⊥) → end_of_run e ≡ Unnoted → ⊥
+noted-so ends.Unnoted some is = some refl
+noted-so (ends.Told o) some is = cc
+
+done-so : (e : End) → outcome_in (end_of_run e) ≡ outcome.Done → e ≡ ends.Told outcome.Done
+done-so (ends.Told o) is = ap ends.Told is
+done-so ends.Unnoted is = absurd cc
+
+failed-so : (run : Run) (acts : List Act) (out : List ℕ) (e : End) → EndsBy run acts out e → (IsOnOther e → ⊥) → FailedAt (outcome_in (end_of_run e)) acts out
+failed-so run acts out ends.Unnoted h alone = tt
+failed-so run acts out (ends.Told outcome.Memory) h alone = tt
+failed-so run acts out (ends.Told (outcome.Host file fault.Doc offset)) h alone = absurd (alone tt)
+failed-so run acts out (ends.Told (outcome.Host file fault.Read offset)) h alone = (h.1, h.2)
+failed-so run acts out (ends.Told (outcome.Host file fault.Write offset)) h alone = h
+failed-so run acts out (ends.Told outcome.Done) h alone = tt
+failed-so run acts out (ends.Told outcome.Usage) h alone = absurd h
+failed-so run acts out (ends.Told (outcome.Sheet why)) h alone = absurd h
+failed-so run acts out (ends.Told (outcome.Run file why offset)) h alone = tt
+failed-so run acts out (ends.Told (outcome.Xml file why)) h alone = tt
+failed-so run acts out (ends.Told (outcome.Fuel file offset)) h alone = tt
+
+-- and one on the sample
+counts-on : (records : ℕ) (x : Ran) (e : End) (old new : Outside) → CountsAt e old new → CountsIn (end_of_sample records x e) old new
+counts-on records x ends.Unnoted old new h = h
+counts-on records x (ends.Told outcome.Done) old new h = h
+counts-on records x (ends.Told outcome.Memory) old new h = h
+counts-on records x (ends.Told (outcome.Host file f offset)) old new h = h
+counts-on records x (ends.Told outcome.Usage) old new h = h
+counts-on records x (ends.Told (outcome.Sheet why)) old new h = h
+counts-on records x (ends.Told (outcome.Run file why offset)) old new h = h
+counts-on records x (ends.Told (outcome.Xml file why)) old new h = h
+counts-on records x (ends.Told (outcome.Fuel file offset)) old new h = h
+
+noted-on : (records : ℕ) (x : Ran) (e : End) → (e ≡ ends.Unnoted → ⊥) → end_of_sample records x e ≡ Unnoted → ⊥
+noted-on records x ends.Unnoted some is = some refl
+noted-on records x (ends.Told outcome.Done) some is = cc
+noted-on records x (ends.Told outcome.Memory) some is = cc
+noted-on records x (ends.Told (outcome.Host file f offset)) some is = cc
+noted-on records x (ends.Told outcome.Usage) some is = cc
+noted-on records x (ends.Told (outcome.Sheet why)) some is = cc
+noted-on records x (ends.Told (outcome.Run file why offset)) some is = cc
+noted-on records x (ends.Told (outcome.Xml file why)) some is = cc
+noted-on records x (ends.Told (outcome.Fuel file offset)) some is = cc
+
+-- The laws that this rests on
+
+pub record Laws : Type 1 where
+  pub as_meant : PassesAsMeant
+  pub have : HaveMeaning
+  pub is_outcome : MeaningIsOutcome
+  pub one : OneMeaning
+  pub taken : DocumentsAreTaken
+  pub says : RunsMean
+  pub keeps : RunsKeepMeaning
+
+module _ (laws : Laws) (k : Asked_for) (pass : Kinds) (passes : pass_of k.sheet ≡ Some pass) (below : k.command.limits.depth ≤ k.command.limits.elements) where
+  -- the same without procedures
+  abbrev bare : Asked_for
+  bare = record k { sheet = uncalled k.sheet }
+
+  abbrev passing : (bytes : List ℕ) (ended : Bool) → gives.Run
+  passing bytes ended = run_on k.command.limits pass bytes ended
+
+  not-refused : (bytes : List ℕ) (ended : Bool) (f : ResultFault) → (passing bytes ended).ending ≡ gives.Refused f → ⊥
+  not-refused bytes ended f = laws.taken k.command.limits pass bytes ended f below
+
+  passed-through : (bytes : List ℕ) (ended : Bool) → Means (given_of bare) bytes ended (map Put (passing bytes ended).parts) (meant_ending (given_of bare) (passing bytes ended).ending)
+  passed-through bytes ended = laws.as_meant (given_of bare) pass bytes ended passes
+
+  -- whatever it means without them the sheet means with them
+  same-meaning : (bytes : List ℕ) (ended : Bool) (said : List meant.Said) (e : meant.Ending) → Means (given_of bare) bytes ended said e → Means (given_of k) bytes ended said e
+  same-meaning bytes ended said e means =
+      let run = passing bytes ended in
+      let same = laws.one (given_of bare) _ said (map Put run.parts) e (meant_ending (given_of bare) run.ending) means (passed-through bytes ended) in
+      subst (λ os. Means (given_of k) bytes ended os e) (sym same.0)
+      (subst (Means (given_of k) bytes ended (map Put run.parts)) (sym same.1) (laws.as_meant (given_of k) pass bytes ended passes))
+
+  same-answer : (opened : List (List ℕ)) (main : List ℕ) → ran bare opened main ≡ ran k opened main
+  same-answer opened main =
+      ran-passed laws.as_meant laws.is_outcome bare pass passes opened main ∙ sym (ran-passed laws.as_meant laws.is_outcome k pass passes opened main)
+
+  ordinary : IsOrdinary (code_of bare.sheet)
+  ordinary = uncalled-ordinary k.sheet pass passes
 
   -- before a read
-  settled-so : (bytes : List ℕ) (t : Taken) → IsSettledAt k.command.limits pass bytes t → IsSettledOn (given_of k) bytes t
-  settled-so bytes t s =
-      let run = run_on k.command.limits pass bytes false in
-      record {
-        said = map Put run.parts;
-        needs = subst (λ e. Ends (code (given_of k)) (meaning (given_of k) (tree_of (given_of k) (record { bytes = bytes; ended = false }))) (map Put run.parts) (meant_ending (given_of k) e)) s.needs
-            (as_meant (given_of k) pass bytes false passes);
-        out = s.out ∙ sym (written-same run.parts);
-        note = s.note ∙ sym (lines-none run.parts);
-      }
+  settled-so : (bytes : List ℕ) (t : Taken) → IsSettledOn (given_of bare) bytes t → IsSettledOn (given_of k) bytes t
+  settled-so bytes t s = record { said = s.said; needs = same-meaning bytes false s.said Needs s.needs; out = s.out; note = s.note }
 
-  takes-parts : (o : Outcome) → RefusesSome k.command.limits pass o → TakesParts o
-  takes-parts (Stopped file code offset) r = taken k.command.limits pass r.0 r.1 r.2 below r.3
-  takes-parts (Host file fault offset) r = tt
-  takes-parts Memory r = tt
-  takes-parts Done r = tt
-  takes-parts Usage r = tt
-  takes-parts (Sheet reason) r = tt
-  takes-parts (Xml file fault) r = tt
-  takes-parts (Fuel file offset) r = absurd r
+  module _ (source : Main) (old new : Outside) (x : Ran) (start : Run) (b : IsAtStart bare.sheet (map param_of k.command.params) k.command.limits start) (r : RunsSheet start source old new x) where
+    h : KeepsMeaning (given_of bare) source old new r.acts r.out r.note x.end
+    h = kept laws.keeps laws.have laws.is_outcome bare ordinary source old new x start b r
 
-  -- what is answered
-  module _ (opened : List (List ℕ)) (main : List ℕ) where
-    abbrev bytes : List ℕ
-    bytes = document_of k.command.mode main
+    m : RunMeans (given_of bare) start r.run r.talk
+    m = laws.says (given_of bare) start r.run r.talk (none-new bare) b.is (begun-runs bare start b) (begun-order bare start b ordinary) r.leads
 
-    begins-so : (out : List ℕ) → Begins out (result_of (run_of bytes)) → Begins out (ran k opened main).out
-    begins-so out b = subst (λ (a : Answer). Begins out a.out) (sym (ran-passed as_meant is_outcome k pass passes opened main)) b
+    -- no message is said
+    silent : lines_of m.said ≡ []
+    silent =
+        let t = came start r.talk nothing_yet in
+        let run = passing t.bytes t.ended in
+        none-begins (lines_of m.said) (lines_of (map Put run.parts)) (lines-none run.parts)
+        (lines-begin m.said (map Put run.parts) (m.begins nothing_yet (map Put run.parts) (meant_ending (given_of bare) run.ending) (passed-through t.bytes t.ended)))
 
-    answered-so : (name out : List ℕ) (end : RunEnd) → out ≡ result_of (run_of bytes) → end ≡ end_in k.command.mode out (outcome_of name (run_of bytes).ending) → IsAnswered out [] end (ran k opened main)
-    answered-so name out end whole is =
-        let run = run_of bytes in
-        let told = told-same (given_of k) name k.sheet.files run.ending (λ fault. taken k.command.limits pass bytes true fault below) in
-        subst (IsAnswered out [] end) (sym (ran-passed as_meant is_outcome k pass passes opened main))
-        (record {
-          output = whole;
-          messages = refl;
-          is = is ∙ ap (λ o. end_in k.command.mode o (outcome_of name run.ending)) whole ∙ ap (end_in k.command.mode (result_of run)) (sym told);
-        })
+    notes-none : notes_in r.talk ≡ []
+    notes-none = none-begins (notes_in r.talk) (lines_of m.said) silent (was-begins r.run.stage (notes_in r.talk) (lines_of m.said) m.notes)
+
+    note-none : r.note ≡ []
+    note-none = none-begins r.note (notes_in r.talk) notes-none (front-of x.end r.talk r.out r.note r.writes).1
+
+    noted : x.end ≡ ends.Unnoted → ⊥
+    noted is = omega (arith, r.unnoted is, ap length notes-none)
+
+    -- it ends as passing the document through does
+    ended-so : (o : Outcome) → r.run.stage ≡ engine.Over o → HasEnded (engine.Over o) → ((e : meant.Ending) → EndedAs k.sheet.files (engine.Over o) e → o ≡ told_as k.sheet.files e)
+        → (e : gives.Ending) × (o ≡ outcome_of [] e) × ((f : ResultFault) → e ≡ gives.Refused f → ⊥)
+    ended-so o over has told =
+        let t = came start r.talk nothing_yet in
+        let run = passing t.bytes t.ended in
+        let e = m.ends (subst HasEnded (sym over) has) nothing_yet in
+        let same = laws.one (given_of bare) _ m.said (map Put run.parts) e.0 (meant_ending (given_of bare) run.ending) e.1.1 (passed-through t.bytes t.ended) in (
+          run.ending,
+          told e.0 (subst (λ s. EndedAs k.sheet.files s e.0) over e.1.0) ∙ ap (told_as k.sheet.files) same.1 ∙ told-same (given_of bare) [] k.sheet.files run.ending (not-refused t.bytes t.ended),
+          not-refused t.bytes t.ended,
+        )
+
+    takes : (e : End) → EndsBy r.run r.acts r.out e → TakesParts (outcome_in (end_of_run e))
+    takes ends.Unnoted h = tt
+    takes (ends.Told outcome.Memory) h = tt
+    takes (ends.Told (outcome.Host file f offset)) h = tt
+    takes (ends.Told outcome.Done) h = tt
+    takes (ends.Told outcome.Usage) h = tt
+    takes (ends.Told (outcome.Sheet why)) h = tt
+    takes (ends.Told (outcome.Run file why offset)) h =
+        let e = ended-so (outcome.Run file why offset) h tt (λ e is. is) in never-run [] e.0 file why offset e.2 e.1
+    takes (ends.Told (outcome.Xml file why)) h = tt
+    takes (ends.Told (outcome.Fuel file offset)) h = let e = ended-so (outcome.Fuel file offset) h tt (λ e is. is) in never-fuel [] e.0 file offset e.1
+
+    between-so : Between old new r.acts r.out []
+    between-so = subst (Between old new r.acts r.out) note-none r.between
+
+    -- what it lacked room for
+    room-so : (end : RunEnd) → IfFailed end old new (LacksRoom old (needed r.acts (bytes_in r.talk) (notes_in r.talk))) → IfFailed end old new (LacksRoom old (needed r.acts (bytes_in r.talk) []))
+    room-so end = subst (λ notes. IfFailed end old new (LacksRoom old (needed r.acts (bytes_in r.talk) notes))) notes-none
+
+    module _ (main : List ℕ) (is-document : IsDocument source old (document_of k.command.mode main)) (opened : List (List ℕ)) where
+      writes-so : (end : RunEnd) → outcome_in end ≡ outcome_in (end_of_run x.end) → ((o : Outcome) → x.end ≡ ends.Told o → end ≡ end_in k.command.mode r.out o)
+          → Begins r.out (ran k opened main).out × UnlessFailed (outcome_in end) (IsAnswered r.out [] end (ran k opened main))
+      writes-so end same is = (
+        subst (λ (a : Answer). Begins r.out a.out) (same-answer opened main) (begins-so laws.keeps laws.have laws.is_outcome bare ordinary source old new x start b r opened main is-document).0,
+        subst (λ note. UnlessFailed (outcome_in end) (IsAnswered r.out note end (ran k opened main))) note-none
+            (subst (λ (a : Answer). UnlessFailed (outcome_in end) (IsAnswered r.out r.note end a)) (same-answer opened main)
+            (answers-so laws.keeps laws.have laws.is_outcome bare ordinary source old new x start b r opened main is-document end same is)),
+      )
+
+      -- what was settled begins it
+      settles-so : Begins (bytes_in r.talk) (ran k opened main).out
+      settles-so =
+          let document = document_of k.command.mode main in
+          let run = passing document true in
+          let begins = settled laws.says (given_of bare) start (none-new bare) b.is (begun-runs bare start b) (begun-order bare start b ordinary) source old new x r document is-document
+          (map Put run.parts) (meant_ending (given_of bare) run.ending) (passed-through document true) in
+          subst (λ (a : Answer). Begins (bytes_in r.talk) a.out) (sym (ran-passed laws.as_meant laws.is_outcome k pass passes opened main)) (subst (Begins (bytes_in r.talk)) (written-same run.parts) begins.0)
+
+    reads-so : (main : List ℕ) → old.to_come 0 ≡ Some main → AtMainReads r.acts r.out [] (λ taken. IsSettledOn (given_of k) (take taken.main_read main) taken)
+    reads-so main told =
+        subst (λ note. AtMainReads r.acts r.out note (λ taken. IsSettledOn (given_of k) (take taken.main_read main) taken)) note-none (λ n is_read. settled-so (take _ main) _ (h.reads main told n is_read))
 
   -- The main document was read
 
-  pub on-main : (name : List ℕ) (old new : Outside) (o : Outcome) → k.command.mode ≡ AsksRun → Drives k.command.limits pass name old new o → PassesOn k old new (Told o)
-  on-main name old new o plain d = record {
-    acts = d.acts;
-    out = d.out;
-    between = d.between;
-    opened = d.opened;
-    no_doc_read = d.no_doc_read;
-    ended = d.ended;
-    once = d.once;
-    no_main_read = λ other. absurd (true≢false (sym (ap is_run plain) ∙ other));
-    ids = d.ids;
-    counts = d.counts;
-    noted = λ e. cc;
-    failed = d.failed;
-    takes = takes-parts o d.refused;
-    reads = λ main told n is_read. settled-so (take _ main) _ ((d.told main told).reads n is_read);
-    writes = λ main told opened.
-        let w = d.told main (told (ap is_run plain)) in
-        let same : document_of k.command.mode main ≡ main = ap (λ m. document_of m main) plain in
-        let run = run_of (document_of k.command.mode main) in (
-          begins-so opened main d.out (subst (λ bytes. Begins d.out (result_of (run_of bytes))) (sym same) w.prefix),
-          unless-map o ((d.out ≡ result_of (run_of main)) × (o ≡ outcome_of name (run_of main).ending)) (IsAnswered d.out [] (Told o) (ran k opened main))
-              (λ both.
-              answered-so opened main name d.out (Told o) (both.0 ∙ ap (λ bytes. result_of (run_of bytes)) (sym same))
-              (ap Told (both.1 ∙ ap (λ bytes. outcome_of name (run_of bytes).ending) (sym same)) ∙ sym (ap (λ m. end_in m d.out (outcome_of name run.ending)) plain))) w.ends,
-        );
-    all = λ plain main told. (d.told main told).all;
-    due = d.due;
-    settles = λ main told opened.
-        begins-so opened main d.due (subst (λ bytes. Begins d.due (result_of (run_of bytes))) (sym (ap (λ m. document_of m main) plain)) (d.due_told main (told (ap is_run plain))));
-    room = d.room;
-  }
+  on-main : k.command.mode ≡ AsksRun → (old new : Outside) (x : Ran) (start : Run) (b : IsAtStart bare.sheet (map param_of k.command.params) k.command.limits start) → RunsSheet start main_of.Host old new x → PassesOn k old new (end_of_run x.end)
+  on-main plain old new x start b r =
+      let meant = h main_of.Host old new x start b r in
+      let is-document : (main : List ℕ) → old.to_come 0 ≡ Some main → IsDocument main_of.Host old (document_of k.command.mode main) = λ main told. told ∙ ap Some (ap (λ m. document_of m main) (sym plain)) in
+      record {
+        acts = r.acts;
+        out = r.out;
+        between = between-so main_of.Host old new x start b r;
+        opened = meant.opened;
+        no_doc_read = r.alone meant.opened;
+        ended = main_ends start r.talk;
+        once = r.hands.0;
+        no_main_read = λ other. absurd (true≢false (sym (ap is_run plain) ∙ other));
+        ids = r.ids;
+        counts = counts-so x.end old new r.counts;
+        noted = noted-so x.end (noted main_of.Host old new x start b r);
+        failed = failed-so r.run r.acts r.out x.end r.ends meant.alone;
+        takes = takes main_of.Host old new x start b r x.end r.ends;
+        reads = reads-so main_of.Host old new x start b r;
+        writes = λ main told opened.
+            writes-so main_of.Host old new x start b r main (is-document main (told (ap is_run plain))) opened (end_of_run x.end) refl (λ o is. ap end_of_run is ∙ sym (ap (λ m. end_in m r.out o) plain));
+        all = λ asks main told done.
+            let whole = r.whole (done-so x.end done) in
+            let handed = r.hands.2 main told in
+            (whole, omega (arith, r.hands.1, ap length (handed.1 whole)));
+        due = bytes_in r.talk;
+        settles = λ main told opened. settles-so main_of.Host old new x start b r main (is-document main (told (ap is_run plain))) opened;
+        room = room-so main_of.Host old new x start b r (end_of_run x.end) (main-fails x.end old new _ r.room);
+      }
 
   -- The sample was
 
-  in-outcome : (end : RunEnd) (old new : Outside) → (end ≡ Unnoted → ⊥) → CountsBy (outcome_in end) old new → CountsIn end old new
-  in-outcome (Told o) old new some by = by
-  in-outcome (Sampled s) old new some by = by
-  in-outcome Unnoted old new some by = absurd (some refl)
+  on-sample : ((n : ℕ) → concat (sample.pieces n) ≡ sample.document n) → (records : ℕ) → k.command.mode ≡ Sample records → (old new : Outside) (x : Ran) (start : Run) (b : IsAtStart bare.sheet (map param_of k.command.params) k.command.limits start)
+      → RunsSheet start (main_of.Sample (sample.pieces records)) old new x → PassesOn k old new (end_of_sample records x x.end)
+  on-sample joins records sampled old new x start b r =
+      let source : Main = main_of.Sample (sample.pieces records) in
+      let end = end_of_sample records x x.end in
+      let meant = h source old new x start b r in
+      let is-document : (main : List ℕ) → IsDocument source old (document_of k.command.mode main) = λ main. ap (λ m. document_of m main) sampled ∙ sample-bytes joins records in
+      record {
+        acts = r.acts;
+        out = r.out;
+        between = between-so source old new x start b r;
+        opened = meant.opened;
+        no_doc_read = r.alone meant.opened;
+        ended = false;
+        once = ap (list_any (λ got. got == 0)) (no_main_gots r.acts r.hands.0);
+        no_main_read = λ other. r.hands.0;
+        ids = r.ids;
+        counts = counts-on records x x.end old new r.counts;
+        noted = noted-on records x x.end (noted source old new x start b r);
+        failed = subst (λ o. FailedAt o r.acts r.out) (sym (sample-outcome records x x.end)) (failed-so r.run r.acts r.out x.end r.ends meant.alone);
+        takes = subst TakesParts (sym (sample-outcome records x x.end)) (takes source old new x start b r x.end r.ends);
+        reads = λ main told. no_main_reads r.acts r.out [] (λ taken. IsSettledOn (given_of k) (take taken.main_read main) taken) r.hands.0;
+        writes = λ main told opened.
+            writes-so source old new x start b r main (is-document main) opened end (sample-outcome records x x.end) (λ o is. sample-is joins records old new x start r o is ∙ sym (ap (λ m. end_in m r.out o) sampled));
+        all = λ plain. absurd (false≢true (sym (ap is_run sampled) ∙ plain));
+        due = bytes_in r.talk;
+        settles = λ main told opened. settles-so source old new x start b r main (is-document main) opened;
+        room = room-so source old new x start b r end (sample-fails records x x.end old new _ r.room);
+      }
 
-  pub on-sample : (name : List ℕ) (records : ℕ) (old new : Outside) (end : RunEnd) → k.command.mode ≡ Sample records → DrivesSample k.command.limits pass name records old new end → PassesOn k old new end
-  on-sample name records old new end sample d = record {
-    acts = d.acts;
-    out = d.out;
-    between = d.between;
-    opened = d.opened;
-    no_doc_read = d.no_doc_read;
-    ended = false;
-    once = ap (list_any (λ got. got == 0)) (no_main_gots d.acts d.no_main_read);
-    no_main_read = λ other. d.no_main_read;
-    ids = d.ids;
-    counts = in-outcome end old new d.noted d.counts;
-    noted = d.noted;
-    failed = d.failed;
-    takes = takes-parts (outcome_in end) d.refused;
-    reads = λ main told. no_main_reads d.acts d.out [] (λ taken. IsSettledOn (given_of k) (take taken.main_read main) taken) d.no_main_read;
-    writes = λ main told opened.
-        let same : document_of k.command.mode main ≡ sample_of records = ap (λ m. document_of m main) sample in
-        let run = run_of (document_of k.command.mode main) in (
-          begins-so opened main d.out (subst (λ bytes. Begins d.out (result_of (run_of bytes))) (sym same) d.prefix),
-          unless-map (outcome_in end) ((d.out ≡ result_of (run_of (sample_of records))) × (end ≡ on_sample (summary_of records d.out) (outcome_of name (run_of (sample_of records)).ending)))
-              (IsAnswered d.out [] end (ran k opened main))
-              (λ both.
-              answered-so opened main name d.out end (both.0 ∙ ap (λ bytes. result_of (run_of bytes)) (sym same))
-              (both.1 ∙ ap (λ bytes. on_sample (summary_of records d.out) (outcome_of name (run_of bytes).ending)) (sym same) ∙ sym (ap (λ m. end_in m d.out (outcome_of name run.ending)) sample))) d.ends,
-        );
-    all = λ plain. absurd (false≢true (sym (ap is_run sample) ∙ plain));
-    due = d.due;
-    settles = λ main told opened. begins-so opened main d.due (subst (λ bytes. Begins d.due (result_of (run_of bytes))) (sym (ap (λ m. document_of m main) sample)) d.due_of);
-    room = d.room;
-  }
+-- There was no memory to begin it
 
--- a sheet that passes something through is such a one
-pub some-pass : (sheet : model.Sheet) (pass : Kinds) → pass_of sheet ≡ Some pass → IsSome (pass_of sheet)
-some-pass sheet pass e = subst IsSome (sym e) refl
+lacking : (k : Asked_for) (old : Outside) → PassesOn k old old (Told outcome.Memory)
+lacking k old = record {
+  acts = [];
+  out = [];
+  between = nothing_between old;
+  opened = refl;
+  no_doc_read = refl;
+  ended = false;
+  once = refl;
+  no_main_read = λ other. refl;
+  ids = refl;
+  counts = refl;
+  noted = λ e. cc;
+  failed = tt;
+  takes = tt;
+  reads = λ main told n is_read. absurd (false≢true is_read);
+  writes = λ main told opened. (begins_nothing (ran k opened main).out, tt);
+  all = λ asks main told e. cc;
+  due = [];
+  settles = λ main told opened. begins_nothing (ran k opened main).out;
+  room = inl (record { doc = refl; main = refl; out = refl; note = refl });
+}
+
+-- What was done with a sheet
+
+module _ (laws : Laws) (a : Asked) (sheet : model.Sheet) (usual : AreUsual a.limits) (old new : Outside) (x : Ran) where
+  abbrev asked_for : Mode → Asked_for
+  asked_for mode = record { command = asked_by a mode; sheet = sheet }
+
+  abbrev RunsSo : Main → model.Sheet → Type 0
+  RunsSo source s = RunsAny (map param_of a.params) a.limits s source old new x
+
+  some-pass : (pass : Kinds) → pass_of sheet ≡ Some pass → IsSome (pass_of sheet)
+  some-pass pass e = subst IsSome (sym e) refl
+
+  -- the main document was read
+  pub does-main : RunsSo main_of.Host (runnable sheet) → Does (asked_by a AsksRun) sheet old new (end_of_run x.end)
+  does-main runs = by_pass (pass_of sheet) refl where
+    passes-on : (pass : Kinds) → pass_of sheet ≡ Some pass → RunsSo main_of.Host (uncalled sheet) → PassesOn (asked_for AsksRun) old new (end_of_run x.end)
+    passes-on pass e runs = elim runs [
+      | inl r ↦ on-main laws (asked_for AsksRun) pass e usual.below refl old new x r.0 r.1.0 r.1.1
+      | inr lacks ↦ subst (PassesOn (asked_for AsksRun) old new) (sym (ap end_of_run lacks.1)) (subst (λ o. PassesOn (asked_for AsksRun) old o (Told outcome.Memory)) (sym lacks.0) (lacking (asked_for AsksRun) old))
+    ]
+
+    by_pass : (o : Option Kinds) → pass_of sheet ≡ o → Does (asked_by a AsksRun) sheet old new (end_of_run x.end)
+    by_pass None e = RunsIt refl e x (subst (RunsSo main_of.Host) (runnable-all sheet e) runs) refl
+    by_pass (Some pass) e = Passes refl (some-pass pass e) (passes-on pass e (subst (RunsSo main_of.Host) (runnable-plain sheet pass e) runs))
+
+  -- the sample was
+  pub does-sample : ((n : ℕ) → concat (sample.pieces n) ≡ sample.document n) → (records : ℕ) → RunsSo (main_of.Sample (sample.pieces records)) (runnable sheet) → Does (asked_by a (Sample records)) sheet old new (end_of_sample records x x.end)
+  does-sample joins records runs = by_pass (pass_of sheet) refl where
+    passes-on : (pass : Kinds) → pass_of sheet ≡ Some pass → RunsSo (main_of.Sample (sample.pieces records)) (uncalled sheet) → PassesOn (asked_for (Sample records)) old new (end_of_sample records x x.end)
+    passes-on pass e runs =
+        let k = asked_for (Sample records) in
+        elim runs [
+          | inl r ↦ on-sample laws k pass e usual.below joins records refl old new x r.0 r.1.0 r.1.1
+          | inr lacks ↦ subst (PassesOn k old new) (sym (ap (end_of_sample records x) lacks.1)) (subst (λ o. PassesOn k old o (Told outcome.Memory)) (sym lacks.0) (lacking k old))
+        ]
+
+    by_pass : (o : Option Kinds) → pass_of sheet ≡ o → Does (asked_by a (Sample records)) sheet old new (end_of_sample records x x.end)
+    by_pass None e = RunsOnSample records refl e x (subst (RunsSo (main_of.Sample (sample.pieces records))) (runnable-all sheet e) runs) refl
+    by_pass (Some pass) e = Passes refl (some-pass pass e) (passes-on pass e (subst (RunsSo (main_of.Sample (sample.pieces records))) (runnable-plain sheet pass e) runs))

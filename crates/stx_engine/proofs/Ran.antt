@@ -31,23 +31,24 @@ use Rattle.sheet_loader.specs.Files.{loads}
 use Rattle.sheet_loader.specs.Values.{Reads}
 use Rattle.sheet_model.specs.declared.sheet.Sheet as model
 use Rattle.sheet_runs.specs.Counts.{CountsBy, SameCounts}
-use Rattle.sheet_runs.specs.Reading.{EndOnce, main_gots}
+use Rattle.sheet_runs.specs.Reading.{EndOnce, is_doc_read, main_gots}
 use Rattle.run_engine.specs.Run.{head}
 use Rattle.template_machine.specs.Ending.{Ending, Said}
 use Rattle.template_machine.specs.Job.{Given, Here}
 use Rattle.template_machine.specs.Outcome.{outcome}
 use Rattle.sheet_runs.specs.Meant.{tree_of}
-use Rattle.stx_engine.proofs.Driven.{counts-then, main_gots-append, opens-append}
+use Rattle.sheet_runs.proofs.Acting.{gots-then, opens-then}
+use Rattle.sheet_runs.proofs.Stepping.{counts-then}
 use Rattle.stx_engine.specs.Answer.{Answer, Asked_for, accepted, answer, answered, asked, asks_any_run, asks_run, document_of, given_of, is_any_run, is_run, loaded, mode_answer, ran, ran_by, run_with, runs_none, sheet_answer, sheet_named, words_answer}
 use Rattle.stx_engine.specs.Doing.{Loads, PassesOn}
-use Rattle.stx_engine.specs.Running.{CountsIn, FailedAt, FailedIn, FailedOn, FailedOnSheet, HasHead, IfDocFailed, IsAnswered, IsOwn, LoadsFirst, OpensNames, RefusesWords, Runs, TakesParts, UnlessFailed, is_doc_read}
+use Rattle.stx_engine.specs.Running.{CountsIn, FailedAt, FailedIn, FailedOn, FailedOnSheet, HasHead, IfDocFailed, IsAnswered, IsOwn, LoadsFirst, OpensNames, RefusesWords, Runs, TakesParts, UnlessFailed}
 use Rattle.stx_engine.specs.Plain.{pass_of, takes_in_order}
 use Rattle.stx_engine.specs.RunEnd.{outcome_in}
 use Rattle.stx_engine.specs.declared.run_end.RunEnd.{RunEnd}
 use Rattle.stx_engine.specs.declared.run_end.RunEnd.TheVariants.{Told, Sampled, Unnoted}
 use Rattle.stx_engine.proofs.Idle.{no_main_gots, no_main_reads, nothing_read, of_any}
 use Rattle.stx_engine.proofs.Prefixes.{begins_all, begins_nothing}
-use Rattle.stx_engine.proofs.Sampled.{unless-map}
+use Rattle.stx_engine.proofs.Outcomes.{unless-map}
 
 no_counts : (o : Outside) → SameCounts o o
 no_counts o = record { doc = refl; main = refl; out = refl; note = refl }
@@ -467,7 +468,7 @@ module _ (words : List Word) (c : Command) (asked_for : command_of words ≡ Som
     own_so sheet (Xml file fault) t = tt
 
     pub once_after : (ended : Bool) (acts : List Act) → EndOnce ended (main_gots acts) → EndOnce ended (main_gots (l.acts ++ acts))
-    once_after ended acts once = subst (EndOnce ended) (sym (main_gots-append l.acts acts ∙ ap (λ g. g ++ main_gots acts) (no_main_gots l.acts l.did.no_main_read))) once
+    once_after ended acts once = subst (EndOnce ended) (sym (gots-then l.acts acts ∙ ap (λ g. g ++ main_gots acts) (no_main_gots l.acts l.did.no_main_read))) once
 
     pub between_after : (acts : List Act) (out note : List ℕ) → Between mid new acts out note → Between old new (l.acts ++ acts) out note
     between_after acts out note b = between_joins old mid new l.acts acts [] out [] note l.did.between b
@@ -484,7 +485,7 @@ module _ (words : List Word) (c : Command) (asked_for : command_of words ≡ Som
     opens_after : (docs : List Doc) (documents : documents_told old ≡ Some docs) (reads : Reads) (acts : List Act) (o : Outcome) → opens acts ≡ [] → OpensNames docs (loaded reads docs c).opened o (l.acts ++ acts)
     opens_after docs documents reads acts o none =
         let n = opens-all old mid docs documents reads x l o in
-        (n.0, n.1, opens-append l.acts acts ∙ ap (λ g. opens l.acts ++ g) none ∙ append-nil (opens l.acts) ∙ n.2, n.3)
+        (n.0, n.1, opens-then l.acts acts ∙ ap (λ g. opens l.acts ++ g) none ∙ append-nil (opens l.acts) ∙ n.2, n.3)
 
     pub loads_sheet : (docs : List Doc) (documents : documents_told old ≡ Some docs) (reads : Reads) (acts : List Act) (o : Outcome) (none_run : Bool) → (none_run ≡ true → list_any is_doc_read acts ≡ false)
         → IfSome (command_of words) (λ c. LoadsFirst reads docs c.sheet (OpensNames docs (loaded reads docs c).opened o) none_run (l.acts ++ acts))

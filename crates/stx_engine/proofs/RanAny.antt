@@ -46,7 +46,7 @@ use Rattle.stx_engine.specs.declared.run_end.Summary.{Summary}
 use Rattle.stx_engine.proofs.Idle.{no_main_reads, nothing_read}
 use Rattle.stx_engine.proofs.Prefixes.{begins_more}
 use Rattle.stx_engine.proofs.Ran.{accepted-is, asks_some, between_after, counts_after, for_command, loads-alone, loads_sheet, main_after, named, none-run-is, none_once, once_after, opens-all, ran-checked, ran-stopped, ran-through, reads_after, unasked}
-use Rattle.stx_engine.proofs.Sampled.{outcome-on}
+use Rattle.stx_engine.proofs.Outcomes.{outcome-on}
 
 -- What an engine's talk says
 

@@ -13,7 +13,7 @@ use Rattle.xml_events.specs.Telling.{stop_in}
 use Rattle.xml_events.specs.Tree.{Why, Need, Forest, End, Cut, Single, Nested, Stage, Waiting, Ready, Entered}
 use Rattle.stx_engine.specs.inside.Ending.{RunIsOpen, RunIsOver}
 use Rattle.stx_engine.specs.inside.Passed.{Complete, Passed, Refused, Unready, end_parts, once_ready, passed, put, run_from, start_parts, then_put, unless_refused, unless_stopped, with_first}
-use Rattle.stx_engine.specs.inside.Scope.{scope_within}
+use Rattle.template_machine.specs.Trail.{scope_within}
 use Rattle.sheet_model.specs.declared.pass.Kinds.{Kinds}
 
 then-stop : (p q : Passed) → (then_put p q).stop ≡ option_or p.stop q.stop

@@ -26,7 +26,7 @@ use Rattle.sheet_files.specs.Opened.{documents_told}
 use Rattle.sheet_files.specs.declared.load.Loaded.{Loaded}
 use Rattle.sheet_model.specs.declared.sheet.Sheet.{Sheet}
 use Rattle.sheet_runs.specs.Meant.{IsSettledOn}
-use Rattle.sheet_runs.specs.Reading.{EndOnce, main_gots}
+use Rattle.sheet_runs.specs.Reading.{EndOnce, is_doc_read, main_gots}
 use Rattle.sheet_runs.specs.Runs.{RunsSheet}
 use Rattle.sheet_runs.specs.declared.main_document.Main.{Main}
 use Rattle.sheet_runs.specs.declared.main_document.Main.TheVariants as main
@@ -35,7 +35,7 @@ use Rattle.sheet_runs.specs.declared.run.Ran.{Ran}
 use Rattle.stx_engine.specs.Answer.{Asked_for, given_of, is_any_run, is_run, param_of, ran}
 use Rattle.stx_engine.specs.Plain.{pass_of}
 use Rattle.stx_engine.specs.RunEnd.{end_of_run, end_of_sample, outcome_in}
-use Rattle.stx_engine.specs.Running.{CountsIn, FailedAt, IfFailed, IsAnswered, ReadsAll, TakesParts, UnlessFailed, is_doc_read}
+use Rattle.stx_engine.specs.Running.{CountsIn, FailedAt, IfFailed, IsAnswered, ReadsAll, TakesParts, UnlessFailed}
 use Rattle.stx_engine.specs.declared.run_end.RunEnd.{RunEnd}
 use Rattle.stx_engine.specs.declared.run_end.RunEnd.TheVariants.{Told, Unnoted}
 

@@ -25,6 +25,10 @@ abbrev pub pass_of : Sheet → Option Kinds
 pass_of sheet =
     if sheet.strip || (sheet.cdata || (has_some sheet.templates || has_some sheet.variables)) then None else root_pass sheet.groups
 
+-- What can be run of a sheet: all of it, but where it only passes documents through its procedures, which nothing calls.
+abbrev pub runnable : Sheet → Sheet
+runnable sheet = if is_some (pass_of sheet) then record sheet { procedures = [] } else sheet
+
 -- an instruction that asks for no other nodes, and puts no parts elsewhere
 abbrev pub stays_in_order : Instr-F Instr When → Bool
 stays_in_order (Instr-F.ProcessSiblings going until group params at) = false

@@ -1,5 +1,5 @@
 -- What a run of the program does to the outside, before its last line is written.
-use Rattle.std.specs.Prelude.{◌≡◌, ℕ, ◌<◌, ◌⊎◌, ◌==◌, Bool, true, false, not, if◌then◌else◌, List, [], ◌++◌, length, map, take, sum, codes, Option, Some, None, IsSome, IfSome, Ok, Err}
+use Rattle.std.specs.Prelude.{◌≡◌, ℕ, ◌<◌, ◌⊎◌, ◌==◌, Bool, true, false, if◌then◌else◌, List, [], ◌++◌, length, map, take, sum, codes, Option, Some, None, IsSome, IfSome, Ok, Err}
 use Rattle.std.specs.List.{list_any}
 use Rattle.stx_base.specs.Course.{Begins}
 use Rattle.stx_base.specs.StandardLimits.{standard_limits}
@@ -7,7 +7,6 @@ use Rattle.stx_host.specs.Before.{AtMainReads, Between, Taken, is_main_read, mai
 use Rattle.stx_host.specs.Outside.{LacksRoom, NoteFault, Outside, Rose, document, for_writes, place, wrote}
 use Rattle.stx_host.specs.Rooms.{needed}
 use Rattle.stx_host.specs.declared.act.Act.{Act}
-use Rattle.stx_host.specs.declared.act.Act.TheVariants.{Read}
 use Rattle.stx_host.specs.declared.act.Doc.{Doc}
 use Rattle.stx_host.specs.declared.act.Lane.TheVariants.{Note}
 use Rattle.command_words.specs.Words.{command_of}
@@ -24,7 +23,7 @@ use Rattle.sheet_loader.specs.Values.{Reads}
 use Rattle.sheet_model.specs.declared.sheet.Sheet as model
 use Rattle.sheet_runs.specs.Counts.{CountsBy, SameCounts}
 use Rattle.sheet_runs.specs.Meant.{IsSettledOn}
-use Rattle.sheet_runs.specs.Reading.{EndOnce, main_gots}
+use Rattle.sheet_runs.specs.Reading.{EndOnce, is_doc_read, main_gots}
 use Rattle.sheet_runs.specs.Runs.{AreAsTold, FailsOn}
 use Rattle.sheet_runs.specs.Talk.{Exchange, Leads, beside_in, none_beside}
 use Rattle.sheet_runs.specs.Writing.{counted}
@@ -34,11 +33,6 @@ use Rattle.stx_engine.specs.Plain.{pass_of}
 use Rattle.stx_engine.specs.RunEnd.{outcome_in}
 use Rattle.stx_engine.specs.declared.run_end.RunEnd.{RunEnd}
 use Rattle.stx_engine.specs.declared.run_end.RunEnd.TheVariants.{Told, Sampled, Unnoted}
-
--- whether an act is a read of a document, other than the main one
-abbrev pub is_doc_read : Act → Bool
-is_doc_read (Read id got) = not (id == 0)
-is_doc_read act = false
 
 -- this holds, unless the host failed or memory was wanting
 abbrev pub UnlessFailed : Outcome → Type 0 → Type 0

@@ -1,12 +1,6 @@
 pub mod Passed
 pub mod Run
-pub mod Scope
-pub mod Copying
-pub mod Told
 pub mod Opens
-pub mod More
-pub mod Engine
-pub mod Driving
 pub mod Ending
 pub mod Growing
 pub mod Accepted

@@ -1,6 +1,5 @@
-ghost use Rattle.std.specs.Prelude.{◌≡◌, ◌≤◌, ◌^◌, IfOk, ℕ, List, Some, false, map, true};
+ghost use Rattle.std.specs.Prelude.{◌≡◌, IfOk, ℕ, List, Some, map, true};
 ghost use Rattle.stx_base.specs.Course.{Begins};
-ghost use Rattle.stx_base.specs.declared.limits.Limits.{Limits};
 ghost use Rattle.stx_host.specs.Before.{since};
 ghost use Rattle.stx_host.specs.declared.act.Doc.{Doc};
 ghost use Rattle.command_words.specs.declared.command.Mode.TheVariants as mode;
@@ -9,33 +8,28 @@ ghost use Rattle.sheet_loader.specs.Values.{Reads};
 ghost use Rattle.sheet_model.specs.Sound.{IsSound};
 ghost use Rattle.stx_engine.specs.Answer.{Answer, Asked_for, answer, asked, param_of, runs_none};
 ghost use Rattle.stx_engine.specs.Doing.{AreUsual, Does, DoesCommand, DoesWords, RunsAny, asked_by};
-ghost use Rattle.stx_engine.specs.inside.Driving.{Drives, DrivesSample};
-ghost use Rattle.stx_engine.specs.inside.Engine.{GoesOn, IsWaiting, Means};
 ghost use Rattle.stx_engine.specs.Headline.{AsksSettled, BeginsWell, DoesAll, EndsInLine, FailsForRoom, GivesAnswer, IsPlainStatus, IsStatus, NotesAfterFailure, NotesItsFailure, OpensFirst, ReadsBack, ReadsSheetFirst, ReadsToEnd, RefusesUnnamed, Tells, TellsMain};
 ghost use Rattle.stx_engine.specs.Nesting.{EndsHaveStarts};
 ghost use Rattle.stx_engine.specs.Plain.{takes_in_order};
 ghost use Rattle.stx_engine.specs.Running.{Reports, Runs};
 ghost use Rattle.stx_engine.specs.Words.{spelled};
-ghost use Rattle.xml_events.specs.Source.{source};
-ghost use Rattle.sheet_model.specs.declared.pass.Kinds.{Kinds};
 ghost use Rattle.stx_engine.specs.declared.run_end.RunEnd.TheVariants as end;
 ghost use Rattle.fault_report.specs.declared.outcome.Outcome.TheVariants as outcome;
 
 use crate::asked::Asked;
-use crate::engine::{Engine, Piece, Pumped};
-use crate::plain::pass_of;
-use crate::run_end::{HOST_FAILED, RunEnd, Summary, end_of_run, end_of_sample};
-use crate::{copied, law};
+use crate::plain::runnable;
+use crate::run_end::{HOST_FAILED, RunEnd, end_of_run, end_of_sample};
+use crate::{law, passed};
 use command_words::{Command, Mode, Param as Given, WordsFault, read_words};
-use fault_report::{HostFault, OUT_OF_MEMORY, Outcome};
-use run_engine::Engine as SheetEngine;
+use fault_report::{OUT_OF_MEMORY, Outcome};
+use run_engine::Engine;
 use sample_maker::{law as sample_law, make_sample};
 use sheet_files::{Loaded, load_sheet};
-use sheet_model::{Kinds, Sheet};
-use sheet_runs::{End, Main, PIECE, Ran, failure, law as sheet_law, next_chunk, run_sheet, write};
+use sheet_model::Sheet;
+use sheet_runs::{End, Main, Ran, law as sheet_law, run_sheet, write};
 use std::alloc::Global;
 use stx_base::{Limits, List, Memory};
-use stx_host::{Got, Host, Lane};
+use stx_host::{Host, Lane};
 use template_machine::{Param, law as machine_law};
 
 /// The status where memory was wanting.
@@ -175,16 +169,12 @@ fn run_main<H: Host>(alloc: Global, asked: Asked, sheet: Sheet, host: &mut H) ->
     requires limits { AreUsual asked.limits }
     ensures { Does (asked_by asked mode.Run) sheet (H.outside host.old) (H.outside host.new) result }
 {
-    copied::documents();
-    copied::meant();
+    passed::documents();
+    passed::meant();
     machine_law::one_meaning();
-    match pass_of(&sheet) {
-        Some(pass) => {
-            drop(sheet);
-            RunEnd::Told(drive(alloc, passing(alloc, asked, pass), host))
-        }
-        None => end_of_run(run_any(alloc, asked, sheet, Main::Host, host)),
-    }
+    sheet_law::meant();
+    let sheet = runnable(alloc, sheet);
+    end_of_run(run_any(alloc, asked, sheet, Main::Host, host))
 }
 
 // Transforms the sample of so many records.
@@ -199,35 +189,14 @@ fn run_sample<H: Host>(
     requires limits { AreUsual asked.limits }
     ensures { Does (asked_by asked (mode.Sample records)) sheet (H.outside host.old) (H.outside host.new) result }
 {
-    copied::documents();
-    copied::meant();
+    passed::documents();
+    passed::meant();
     machine_law::one_meaning();
-    match pass_of(&sheet) {
-        Some(pass) => {
-            drop(sheet);
-            drive_sample(alloc, passing(alloc, asked, pass), records, host)
-        }
-        None => {
-            let main = Main::Sample(make_sample(records));
-            end_of_sample(records, run_any(alloc, asked, sheet, main, host))
-        }
-    }
-}
-
-// An engine that passes documents through.
-fn passing(alloc: Global, asked: Asked, pass: Kinds) -> Engine
-    ensures reader { result.reader ≡ source asked.limits false }
-    ensures sheet { result.sheet ≡ asked.name }
-    ensures waits { IsWaiting result }
-    ensures meaning { Means asked.limits pass result }
-{
-    let Asked {
-        name,
-        params,
-        limits,
-    } = asked;
-    drop(params);
-    Engine::new(alloc, name, pass, limits)
+    sheet_law::meant();
+    sample_law::pieces();
+    let sheet = runnable(alloc, sheet);
+    let main = Main::Sample(make_sample(records));
+    end_of_sample(records, run_any(alloc, asked, sheet, main, host))
 }
 
 // Runs any sheet.
@@ -246,7 +215,7 @@ fn run_any<H: Host>(alloc: Global, asked: Asked, sheet: Sheet, main: Main, host:
     }
 }
 
-fn engine_of(alloc: Global, asked: Asked, sheet: Sheet) -> Result<SheetEngine, Memory>
+fn engine_of(alloc: Global, asked: Asked, sheet: Sheet) -> Result<Engine, Memory>
     requires sound { IsSound sheet }
     requires limits { AreUsual asked.limits }
     ensures { IfOk result (IsAtStart sheet (map param_of asked.params) asked.limits) }
@@ -258,7 +227,7 @@ fn engine_of(alloc: Global, asked: Asked, sheet: Sheet) -> Result<SheetEngine, M
     } = asked;
     drop(name);
     match params_of(alloc, params) {
-        Ok(params) => SheetEngine::new(alloc, sheet, params, limits),
+        Ok(params) => Engine::new(alloc, sheet, params, limits),
         Err(Memory) => {
             drop(sheet);
             Err(Memory)
@@ -282,90 +251,4 @@ fn param_from(given: Given) -> Param
 {
     let Given { name, value } = given;
     Param { name, value }
-}
-
-// Reads the main document, hands it to the engine, and writes what is settled before each read.
-fn drive<H: Host>(alloc: Global, engine: Engine, host: &mut H) -> Outcome
-    requires goes_on { GoesOn engine.reader.lexer }
-    requires waits { IsWaiting engine }
-    requires input { engine.reader.lexer.limits.input ≤ 2 ^ 50 }
-    ensures { (limits : Limits) (pass : Kinds) → Means limits pass engine → Drives limits pass engine.sheet (H.outside host.old) (H.outside host.new) result }
-{
-    let mut engine = engine;
-    let mut settled = Vec::new(alloc);
-    let mut room = [0; PIECE];
-    let mut read = 0u64;
-    let mut written = 0u64;
-    let mut pumped = engine.pump(Piece::Start, &mut settled);
-    loop {
-        if let Err(refused) = write(host, Lane::Out, settled.as_slice()) {
-            drop(engine);
-            return failure(
-                alloc,
-                HostFault::Write,
-                written.saturating_add(refused.taken as u64),
-            );
-        }
-        written = written.saturating_add(settled.len() as u64);
-        settled.clear();
-        if pumped != Pumped::Main {
-            return engine.into_outcome().unwrap_or(Outcome::Memory);
-        }
-        pumped = match host.read(0, &mut room) {
-            Got::Bytes(got) => {
-                read += got as u64;
-                engine.pump(Piece::Bytes(&room[..got]), &mut settled)
-            }
-            Got::End => engine.pump(Piece::End, &mut settled),
-            Got::Failed => {
-                drop(engine);
-                return failure(alloc, HostFault::Read, read);
-            }
-        };
-    }
-}
-
-// Hands the sample of so many records to the engine, and writes what is settled of each piece.
-fn drive_sample<H: Host>(alloc: Global, engine: Engine, records: u64, host: &mut H) -> RunEnd
-    requires goes_on { GoesOn engine.reader.lexer }
-    requires waits { IsWaiting engine }
-    ensures { (limits : Limits) (pass : Kinds) → Means limits pass engine → DrivesSample limits pass engine.sheet records (H.outside host.old) (H.outside host.new) result }
-{
-    sample_law::pieces();
-    let mut engine = engine;
-    let mut sample = make_sample(records);
-    let mut settled = Vec::new(alloc);
-    let mut input = 0u64;
-    let mut written = 0u64;
-    let mut pumped = engine.pump(Piece::Start, &mut settled);
-    loop {
-        if let Err(refused) = write(host, Lane::Out, &settled) {
-            drop(engine);
-            let offset = written.saturating_add(refused.taken as u64);
-            return RunEnd::Told(failure(alloc, HostFault::Write, offset));
-        }
-        written = written.saturating_add(settled.len() as u64);
-        settled.clear();
-        if pumped != Pumped::Main {
-            let outcome = engine.into_outcome().unwrap_or(Outcome::Memory);
-            let read = Summary {
-                records,
-                input,
-                output: written,
-            };
-            return read.end(outcome);
-        }
-        pumped = match next_chunk(alloc, &mut sample) {
-            Ok(Some(chunk)) => {
-                let bytes = chunk.as_str().as_bytes();
-                input = input.saturating_add(bytes.len() as u64);
-                engine.pump(Piece::Bytes(bytes), &mut settled)
-            }
-            Ok(None) => engine.pump(Piece::End, &mut settled),
-            Err(Memory) => {
-                drop(engine);
-                return RunEnd::Told(Outcome::Memory);
-            }
-        };
-    }
 }

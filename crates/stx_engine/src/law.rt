@@ -5,7 +5,7 @@ ghost use Rattle.stx_engine.specs.Laws.{AnswerStays, AnswersAreRead, AnswersAreT
 ghost use Rattle.stx_engine.specs.Nesting.{EndsHaveStarts};
 ghost use Rattle.stx_engine.specs.Older.{RunsAsBefore};
 
-use crate::copied;
+use crate::passed;
 use template_machine::law as machine_law;
 
 /// No end tag in a result of accepted parts lacks its start tag, wherever the result stops.
@@ -36,8 +36,8 @@ pub fn answers()
     run_parts::law::sound();
     run_parts::law::read();
     machine_law::one_meaning();
-    copied::meant();
-    copied::documents();
+    passed::meant();
+    passed::documents();
 }
 
 /// What sheets that only pass documents through mean on a document's first bytes, and on all.
@@ -52,9 +52,9 @@ pub fn settled_stays()
     ensures beginning { BeginningIsOpen }
 {
     machine_law::one_meaning();
-    copied::meant();
-    copied::settled_stays();
-    copied::documents_end();
+    passed::meant();
+    passed::settled_stays();
+    passed::documents_end();
 }
 
 /// What a sheet of version 1.0 came to and did before there was version 1.1.

@@ -1,15 +1,11 @@
-//! Sheets applied to documents: `transform`, which does all that the program does over a host, and the engine of sheets that do
-//! nothing but pass documents through, a pure step over pieces of a document.
+//! Sheets applied to documents: `transform`, which does all that the program does over a host.
 #![tactic(auto)]
 
 mod asked;
-mod copied;
-mod copier;
 mod driver;
-mod engine;
 pub mod law;
+mod passed;
 mod plain;
 mod run_end;
-mod scope;
 
 pub use driver::transform;

@@ -10,7 +10,7 @@ use Rattle.result_writer.specs.declared.fault.ResultFault.{ResultFault}
 use Rattle.result_writer.specs.declared.fault.ResultFault.TheVariants.{UnclosedResult}
 use Rattle.xml_events.specs.Tree.{Why, Stage, Waiting, Ready, Entered, Leaf, Chars, CData, Comment, Pi, Forest, End, Cut, Single, Nested}
 use Rattle.sheet_model.specs.declared.pass.Kinds.{Kinds}
-use Rattle.stx_engine.specs.inside.Scope.{scope_within}
+use Rattle.template_machine.specs.Trail.{scope_within}
 
 -- how a run ends: it is done, it comes to a node that isn't ready, or the result refuses a part
 pub data Ending : Type 0 where

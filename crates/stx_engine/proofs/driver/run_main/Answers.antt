@@ -1,27 +1,30 @@
-use Rattle.std.proofs.Common.{arith, ap, refl, subst, sym}
-use Rattle.stx_engine.specs.Answer.{Asked_for}
-use Rattle.stx_engine.specs.Doing.{Passes, RunsIt, asked_by}
-use Rattle.stx_engine.specs.inside.Driving.{Drives}
-use Rattle.stx_engine.specs.inside.Engine.{GoesOn}
+use Rattle.std.proofs.Common.{map, subst, sym}
 use Rattle.command_words.specs.declared.command.Mode.TheVariants.{Run}
-use Rattle.stx_engine.proofs.Passes.{on-main, some-pass}
+use Rattle.sheet_model.specs.Sound.{IsSound}
+use Rattle.sheet_runs.specs.declared.main_document.Main.TheVariants.{Host}
+use Rattle.stx_engine.specs.Answer.{param_of}
+use Rattle.stx_engine.specs.Doing.{Does, RunsAny, asked_by}
+use Rattle.stx_engine.proofs.Passes.{Laws, does-main}
+use Rattle.stx_engine.proofs.Runnable.{runnable-sound}
 use Rattle.stx_engine.proofs.driver.run_main.Goals as goal
 
-pub drive-requires-clause-goes_on : goal.drive-requires-clause-goes_on
-drive-requires-clause-goes_on g c = subst (λ r. GoesOn r.lexer) (sym c.passing.ensures.reader) (record { unended = refl; within = omega arith })
+pub run_any-requires-clause-sound : goal.run_any-requires-clause-sound
+run_any-requires-clause-sound g c = subst IsSound (sym c.runnable-sheet.ensures) (runnable-sound c.args.sheet c.requires.sound)
 
-pub drive-requires-clause-input : goal.drive-requires-clause-input
-drive-requires-clause-input g c = omega (arith, ap (λ r. r.lexer.limits.input) c.passing.ensures.reader, c.requires.limits.input)
-
-pub returns-in-Some : goal.returns-in-Some
-returns-in-Some g c =
+pub returns : goal.returns
+returns g c =
     let old = g.H.Host.outside c.args.host.now in
-    let new = g.H.Host.outside c.drive.new.host in
-    let limits = c.args.asked.limits in
-    let k : Asked_for = record { command = asked_by c.args.asked Run; sheet = c.args.sheet } in
-    Passes refl (some-pass c.args.sheet c.in-Some.pass (sym c.in-Some.ensures))
-    (on-main c.meant.ensures c.one_meaning.ensures.function c.documents.ensures.taken k c.in-Some.pass (sym c.in-Some.ensures) c.requires.limits.below c.args.asked.name old new c.drive.result refl
-    (subst (λ sheet. Drives limits c.in-Some.pass sheet old new c.drive.result) c.passing.ensures.sheet (c.drive.ensures limits c.in-Some.pass c.passing.ensures.meaning)))
-
-pub returns-in-None : goal.returns-in-None
-returns-in-None g c = RunsIt refl (sym c.in-None.ensures) c.run_any.result c.run_any.ensures c.end_of_run.ensures
+    let new = g.H.Host.outside c.run_any.new.host in
+    let a = c.args.asked in
+    let laws : Laws = record {
+      as_meant = c.meant.ensures;
+      have = c.one_meaning.ensures.some;
+      is_outcome = c.one_meaning.ensures.function;
+      one = c.one_meaning.ensures.one;
+      taken = c.documents.ensures.taken;
+      says = c.meant-2.ensures.says;
+      keeps = c.meant-2.ensures.keeps;
+    } in
+    subst (Does (asked_by a Run) c.args.sheet old new) (sym c.end_of_run.ensures)
+    (does-main laws a c.args.sheet c.requires.limits old new c.run_any.result
+    (subst (λ s. RunsAny (map param_of a.params) a.limits s Host old new c.run_any.result) c.runnable-sheet.ensures c.run_any.ensures))
