@@ -10,8 +10,6 @@ mod run;
 mod running;
 mod writing;
 
-pub use chunk::{PIECE, next_chunk};
-pub use failing::failure;
 pub use main_document::Main;
 pub use run::{End, Ran, run_sheet};
 pub use writing::{Refused, write};
