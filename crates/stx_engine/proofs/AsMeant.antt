@@ -27,10 +27,11 @@ use Rattle.sheet_runs.specs.declared.run.End.TheVariants as ends
 use Rattle.sheet_runs.specs.declared.run.Ran.{Ran}
 use Rattle.stx_engine.specs.Answer.{Answer, Asked_for, document_of, end_in, given_of, param_of, ran, ran_by, written}
 use Rattle.stx_engine.specs.RunEnd.{end_of_run, end_of_sample, on_sample, outcome_in, sample_of, summary_of}
-use Rattle.stx_engine.specs.Running.{IfFailed, IsAnswered, UnlessFailed}
+use Rattle.stx_engine.specs.Running.{CountsIn, IfFailed, IsAnswered, UnlessFailed}
 use Rattle.stx_engine.specs.declared.run_end.RunEnd.{RunEnd}
 use Rattle.stx_engine.proofs.Begun.{begun-order, begun-runs}
 use Rattle.stx_engine.proofs.Meant.{HaveMeaning, MeaningIsOutcome, none-new}
+use Rattle.stx_engine.proofs.Outcomes.{outcome-on}
 
 -- How a run ended, as it is told
 
@@ -48,14 +49,19 @@ main-fails (ends.Told (outcome.Fuel file offset)) old new P p = p
 module _ (records : ℕ) (came : Ran) where
   pub sample-outcome : (e : End) → outcome_in (end_of_sample records came e) ≡ outcome_in (end_of_run e)
   sample-outcome ends.Unnoted = refl
-  sample-outcome (ends.Told outcome.Done) = refl
-  sample-outcome (ends.Told outcome.Memory) = refl
-  sample-outcome (ends.Told (outcome.Host file f offset)) = refl
-  sample-outcome (ends.Told outcome.Usage) = refl
-  sample-outcome (ends.Told (outcome.Sheet why)) = refl
-  sample-outcome (ends.Told (outcome.Run file code offset)) = refl
-  sample-outcome (ends.Told (outcome.Xml file why)) = refl
-  sample-outcome (ends.Told (outcome.Fuel file offset)) = refl
+  sample-outcome (ends.Told o) = outcome-on (record { records = records; input = came.input; output = came.output }) o
+
+  -- a run that is done tells what it read and wrote, and all others as on a main document
+  pub sample-counts : (e : End) (old new : Outside) → CountsIn (end_of_run e) old new → CountsIn (end_of_sample records came e) old new
+  sample-counts ends.Unnoted old new h = h
+  sample-counts (ends.Told outcome.Done) old new h = h
+  sample-counts (ends.Told outcome.Memory) old new h = h
+  sample-counts (ends.Told (outcome.Host file f offset)) old new h = h
+  sample-counts (ends.Told outcome.Usage) old new h = h
+  sample-counts (ends.Told (outcome.Sheet why)) old new h = h
+  sample-counts (ends.Told (outcome.Run file code offset)) old new h = h
+  sample-counts (ends.Told (outcome.Xml file why)) old new h = h
+  sample-counts (ends.Told (outcome.Fuel file offset)) old new h = h
 
   pub sample-fails : (e : End) (old new : Outside) (P : Type 0) → run_counts.IfFailed e old new P → IfFailed (end_of_sample records came e) old new P
   sample-fails ends.Unnoted old new P p = p

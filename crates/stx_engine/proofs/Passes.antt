@@ -51,7 +51,7 @@ use Rattle.stx_engine.specs.inside.Accepted.{DocumentsAreTaken}
 use Rattle.stx_engine.specs.inside.Laws.{PassesAsMeant, meant_ending}
 use Rattle.stx_engine.specs.inside.Passed as gives
 use Rattle.stx_engine.specs.inside.Run.{outcome_of, run_on}
-use Rattle.stx_engine.proofs.AsMeant.{answers-so, begins-so, kept, main-fails, sample-bytes, sample-fails, sample-is, sample-outcome}
+use Rattle.stx_engine.proofs.AsMeant.{answers-so, begins-so, kept, main-fails, sample-bytes, sample-counts, sample-fails, sample-is, sample-outcome}
 use Rattle.stx_engine.proofs.Begun.{begun-order, begun-runs}
 use Rattle.stx_engine.proofs.Idle.{no_main_gots, no_main_reads}
 use Rattle.stx_engine.proofs.Prefixes.{begins_nothing}
@@ -103,17 +103,6 @@ failed-so run acts out (ends.Told (outcome.Xml file why)) h alone = tt
 failed-so run acts out (ends.Told (outcome.Fuel file offset)) h alone = tt
 
 -- and one on the sample
-counts-on : (records : ℕ) (x : Ran) (e : End) (old new : Outside) → CountsAt e old new → CountsIn (end_of_sample records x e) old new
-counts-on records x ends.Unnoted old new h = h
-counts-on records x (ends.Told outcome.Done) old new h = h
-counts-on records x (ends.Told outcome.Memory) old new h = h
-counts-on records x (ends.Told (outcome.Host file f offset)) old new h = h
-counts-on records x (ends.Told outcome.Usage) old new h = h
-counts-on records x (ends.Told (outcome.Sheet why)) old new h = h
-counts-on records x (ends.Told (outcome.Run file why offset)) old new h = h
-counts-on records x (ends.Told (outcome.Xml file why)) old new h = h
-counts-on records x (ends.Told (outcome.Fuel file offset)) old new h = h
-
 noted-on : (records : ℕ) (x : Ran) (e : End) → (e ≡ ends.Unnoted → ⊥) → end_of_sample records x e ≡ Unnoted → ⊥
 noted-on records x ends.Unnoted some is = some refl
 noted-on records x (ends.Told outcome.Done) some is = cc
@@ -299,7 +288,7 @@ module _ (laws : Laws) (k : Asked_for) (pass : Kinds) (passes : pass_of k.sheet 
         once = ap (list_any (λ got. got == 0)) (no_main_gots r.acts r.hands.0);
         no_main_read = λ other. r.hands.0;
         ids = r.ids;
-        counts = counts-on records x x.end old new r.counts;
+        counts = sample-counts records x x.end old new (counts-so x.end old new r.counts);
         noted = noted-on records x x.end (noted source old new x start b r);
         failed = subst (λ o. FailedAt o r.acts r.out) (sym (sample-outcome records x x.end)) (failed-so r.run r.acts r.out x.end r.ends meant.alone);
         takes = subst TakesParts (sym (sample-outcome records x x.end)) (takes source old new x start b r x.end r.ends);

@@ -42,11 +42,10 @@ use Rattle.stx_engine.specs.Plain.{pass_of}
 use Rattle.stx_engine.specs.RunEnd.{end_of_run, end_of_sample, outcome_in}
 use Rattle.stx_engine.specs.declared.run_end.RunEnd.{RunEnd}
 use Rattle.stx_engine.specs.declared.run_end.RunEnd.TheVariants.{Told}
-use Rattle.stx_engine.specs.declared.run_end.Summary.{Summary}
+use Rattle.stx_engine.proofs.AsMeant.{sample-counts, sample-outcome}
 use Rattle.stx_engine.proofs.Idle.{no_main_reads, nothing_read}
 use Rattle.stx_engine.proofs.Prefixes.{begins_more}
 use Rattle.stx_engine.proofs.Ran.{accepted-is, asks_some, between_after, counts_after, for_command, loads-alone, loads_sheet, main_after, named, none-run-is, none_once, once_after, opens-all, ran-checked, ran-stopped, ran-through, reads_after, unasked}
-use Rattle.stx_engine.proofs.Outcomes.{outcome-on}
 
 -- What an engine's talk says
 
@@ -307,25 +306,6 @@ module _ (words : List Word) (c : Command) (asked_for : command_of words ≡ Som
     abbrev end : RunEnd
     end = end_of_sample records ran ran.end
 
-    abbrev summary : Summary
-    summary = record { records = records; input = ran.input; output = ran.output }
-
-    -- a run that is done tells what it read and wrote, and all others as on a main document
-    outcome-same : (e : End) → outcome_in (end_of_sample records ran e) ≡ outcome_in (end_of_run e)
-    outcome-same ends.Unnoted = refl
-    outcome-same (ends.Told o) = outcome-on summary o
-
-    counts-on : (e : End) → CountsIn (end_of_run e) old new → CountsIn (end_of_sample records ran e) old new
-    counts-on ends.Unnoted h = h
-    counts-on (ends.Told outcome.Done) h = h
-    counts-on (ends.Told outcome.Memory) h = h
-    counts-on (ends.Told (outcome.Host file f offset)) h = h
-    counts-on (ends.Told outcome.Usage) h = h
-    counts-on (ends.Told (outcome.Sheet why)) h = h
-    counts-on (ends.Told (outcome.Run file code offset)) h = h
-    counts-on (ends.Told (outcome.Xml file why)) h = h
-    counts-on (ends.Told (outcome.Fuel file offset)) h = h
-
     refuses-on : (e : End) → RefusesWords words (end_of_run e) → RefusesWords words (end_of_sample records ran e)
     refuses-on ends.Unnoted h = h
     refuses-on (ends.Told outcome.Done) h = h
@@ -361,21 +341,21 @@ module _ (words : List Word) (c : Command) (asked_for : command_of words ≡ Som
       ended = false;
       once = none_once (l.acts ++ r.acts) (unread start r);
       ids = r.ids ∙ l.ids;
-      counts = counts-on ran.end (counts-told words c asked_for old mid new x l of ran start b r ran.end r.counts);
-      failed = subst (λ o. FailedIn o (l.acts ++ r.acts) r.out) (sym (outcome-same ran.end)) (failed-told words c asked_for old mid new x l of ran start b r ran.end r.ends);
+      counts = sample-counts records ran ran.end old new (counts-told words c asked_for old mid new x l of ran start b r ran.end r.counts);
+      failed = subst (λ o. FailedIn o (l.acts ++ r.acts) r.out) (sym (sample-outcome records ran ran.end)) (failed-told words c asked_for old mid new x l of ran start b r ran.end r.ends);
       refuses = refuses-on ran.end (refuses-told words c asked_for old mid new x l of ran start b r ran.end r.ends);
       takes = λ no_run. absurd (asks_some words c asked_for (Sample records) sample refl no_run);
       told = λ docs documents. record {
         sheet = λ reads. loads_sheet words c asked_for old mid new x l docs documents reads r.acts (outcome_in end) (runs_none reads words docs)
             (λ is. absurd (runs-some words c asked_for old mid new x l of ran start b r (Sample records) sample refl none reads docs documents is));
         takes = λ reads is. absurd (runs-some words c asked_for old mid new x l of ran start b r (Sample records) sample refl none reads docs documents is);
-        failed = λ reads. subst (λ o. IfDocFailed o (FailedOn reads words docs (l.acts ++ r.acts))) (sym (outcome-same ran.end)) (failed-on words c asked_for old mid new x l of ran start b r none docs documents reads ran.end r.ends);
+        failed = λ reads. subst (λ o. IfDocFailed o (FailedOn reads words docs (l.acts ++ r.acts))) (sym (sample-outcome records ran ran.end)) (failed-on words c asked_for old mid new x l of ran start b r none docs documents reads ran.end r.ends);
         own = λ reads. for_command words c asked_for (λ c. IsOwn (accepted (loaded reads docs c).result) end)
             (own-in words c asked_for old mid new x l of ran start b r docs documents reads end (own-on ran.end (own-told words c asked_for old mid new x l of ran start b r ran.end r.ends)));
       };
       main_told = λ document told. record {
         all = λ asks is. absurd (unasked words c asked_for (Sample records) sample refl asks);
-        begins = subst (λ o. UnlessFailed o ((r.out ≡ []) ⊎ Begins head r.out)) (sym (outcome-same ran.end)) (begins-told words c asked_for old mid new x l of ran start b r ran.end r.ends r.writes);
+        begins = subst (λ o. UnlessFailed o ((r.out ≡ []) ⊎ Begins head r.out)) (sym (sample-outcome records ran ran.end)) (begins-told words c asked_for old mid new x l of ran start b r ran.end r.ends r.writes);
         asks = no_main_reads (l.acts ++ r.acts) r.out r.note HasHead (unread start r);
       };
     }
