@@ -16,8 +16,11 @@ use Rattle.result_writer.specs.declared.fault.ResultFault.{ResultFault}
 use Rattle.result_writer.specs.declared.fault.ResultFault.TheVariants.{BadName, BadChar, BadComment, BadPi, ResultDepth, UnclosedResult, WrongEnd}
 use Rattle.result_writer.specs.declared.tag.HeldTag.{HeldTag}
 use Rattle.xml_events.specs.Tree.{Why, Leaf, Chars, CData, Comment, Pi, Element, Forest, End, Cut, Single, Nested, Stage, Waiting, Ready, Entered}
+use Rattle.template_machine.specs.Passed.{Passed, once_ready, put, then_put, unless_stopped}
+use Rattle.template_machine.specs.Passing.{parts_if}
+use Rattle.template_machine.specs.Putting.{attribute_part}
 use Rattle.stx_engine.specs.inside.Accepted.{TakesGood, is_good, is_good_attr, is_good_element, is_good_leaf}
-use Rattle.stx_engine.specs.inside.Passed.{Complete, Passed, Refused, attribute_part, copied_attrs, end_parts, leaf_parts, once_ready, parts_if, passed, put, run_from, start_parts, then_put, unless_refused, unless_stopped, with_first}
+use Rattle.stx_engine.specs.inside.Passed.{Complete, Refused, copied_attrs, end_parts, leaf_parts, passed, run_from, start_parts, unless_refused, with_first}
 use Rattle.stx_engine.specs.inside.Opens.{named, names_by, names_of}
 use Rattle.template_machine.specs.Trail.{scope_within}
 use Rattle.sheet_model.specs.declared.pass.Kinds.{Kinds}

@@ -15,8 +15,11 @@ use Rattle.result_writer.specs.declared.fault.ResultFault.{ResultFault}
 use Rattle.xml_events.specs.Tree.{Why, Leaf, Chars, CData, Comment, Pi, Forest, End, Cut, Single, Nested, Stage, Waiting, Ready, Entered}
 use Rattle.run_parts.specs.Sound.{declares_names, is_named, is_sound_part}
 use Rattle.run_parts.proofs.Sound.{filter_good, order_good}
+use Rattle.template_machine.specs.Passed.{Passed, once_ready, put, then_put, unless_stopped}
+use Rattle.template_machine.specs.Passing.{parts_if}
+use Rattle.template_machine.specs.Putting.{attribute_part}
 use Rattle.stx_engine.specs.inside.Accepted.{RunsNest}
-use Rattle.stx_engine.specs.inside.Passed.{Passed, attribute_part, copied_attrs, end_parts, leaf_parts, once_ready, parts_if, passed, put, run_from, start_parts, then_put, unless_refused, unless_stopped, with_first}
+use Rattle.stx_engine.specs.inside.Passed.{copied_attrs, end_parts, leaf_parts, passed, run_from, start_parts, unless_refused, with_first}
 use Rattle.template_machine.specs.Trail.{scope_within}
 use Rattle.sheet_model.specs.declared.pass.Kinds.{Kinds}
 use Rattle.stx_engine.proofs.Parts.{parts-nest}

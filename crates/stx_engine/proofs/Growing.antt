@@ -9,9 +9,10 @@ use Rattle.xml_events.specs.Document.{doc, stage_by}
 use Rattle.xml_events.specs.Growing.{DocumentsGrow, Grows}
 use Rattle.xml_events.specs.Tree.{Why, Need, Bad, Forest, End, Cut, Single, Nested}
 use Rattle.run_engine.specs.Run.{head}
+use Rattle.template_machine.specs.Passed.{Passed, once_ready, put, stopped, then_put, unless_stopped}
 use Rattle.stx_engine.specs.inside.Run.{output}
 use Rattle.stx_engine.specs.inside.Growing.{BytesStay, RunStays, TreeIsOver, TreeStays}
-use Rattle.stx_engine.specs.inside.Passed.{Passed, Run, Unready, end_parts, leaf_parts, once_ready, passed, put, run_from, start_parts, stopped, then_put, unless_refused, unless_stopped, with_first}
+use Rattle.stx_engine.specs.inside.Passed.{Run, Unready, end_parts, leaf_parts, passed, run_from, start_parts, unless_refused, with_first}
 use Rattle.template_machine.specs.Trail.{scope_within}
 use Rattle.sheet_model.specs.declared.pass.Kinds.{Kinds}
 

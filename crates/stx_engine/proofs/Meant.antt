@@ -13,7 +13,7 @@ use Rattle.result_writer.specs.declared.fault.ResultFault.{ResultFault}
 use Rattle.result_writer.specs.declared.fault.ResultFault.TheVariants.{UnclosedResult}
 use Rattle.stx_base.specs.declared.fault.RunCode.TheVariants as run_code
 use Rattle.xml_events.specs.Document.{doc, doc_for}
-use Rattle.xml_events.specs.Tree.{Why, Need, Bad, Stage, Waiting, Ready, Entered, Chars, CData, Comment, Pi, Element, Forest, End, Cut, Single, Nested}
+use Rattle.xml_events.specs.Tree.{Why, Need, Bad, Chars, CData, Comment, Pi, Forest, End, Cut, Single, Nested}
 use Rattle.sheet_model.specs.Passing.{kinds}
 use Rattle.sheet_model.specs.declared.pass.Kinds.{Kinds}
 use Rattle.sheet_model.specs.declared.sheet.Group.{Group}
@@ -24,9 +24,9 @@ use Rattle.template_machine.specs.Job.{Given}
 use Rattle.template_machine.specs.Outcome.{AreNew, outcome}
 use Rattle.template_machine.specs.Meaning.{code, meaning}
 use Rattle.template_machine.specs.Passed as machine
-use Rattle.template_machine.specs.Passed.{PassesThrough, passing_run}
+use Rattle.template_machine.specs.Passed.{Passed, PassesThrough, once_ready, passing_run, put, then_put}
 use Rattle.template_machine.specs.Passing as passing
-use Rattle.template_machine.specs.Passing.{group_at}
+use Rattle.template_machine.specs.Passing.{group_at, parts_if}
 use Rattle.template_machine.specs.Unchanged.{HasNoSections}
 use Rattle.template_machine.specs.Written.{lines_of, settled_by}
 use Rattle.run_engine.specs.Does.{told_as}
@@ -36,65 +36,24 @@ use Rattle.stx_engine.specs.Answer.{Answer, Asked_for, document_of, end_in, give
 use Rattle.stx_engine.specs.Plain.{has_some, pass_of, root_pass}
 use Rattle.stx_engine.specs.inside.Laws.{PassesAsMeant, meant_ending}
 use Rattle.stx_engine.specs.inside.Passed as mine
-use Rattle.stx_engine.specs.inside.Passed.{Complete, Ending, Passed, Refused, Run, Unready, attribute_part, copied_attrs, end_parts, ending_by, once_ready, parts_if, passed, put, run_from, start_parts, then_put, unless_refused, unless_stopped, with_first}
+use Rattle.stx_engine.specs.inside.Passed.{Complete, Ending, Refused, Run, Unready, end_parts, ending_by, passed, run_from, start_parts, unless_refused, with_first}
 use Rattle.stx_engine.specs.inside.Run.{output, outcome_of, result_of, run_on}
 use Rattle.template_machine.specs.Trail.{scope_within}
 use Rattle.stx_engine.proofs.Unrecognised.{documents_have_no_sections}
 
--- What nodes put
+-- What nodes put, of which none is a CDATA section
 
-abbrev as_machine : Passed → machine.Passed
-as_machine p = record { parts = p.parts; stop = p.stop }
-
-if-same : (b : Bool) (ps : List Part) → passing.parts_if b ps ≡ parts_if b ps
-if-same true ps = refl
-if-same false ps = refl
-
--- an element's start and end
-starts-same : (k : Kinds) (scope : List Binding) (e : Element) → machine.starts k scope e ≡ start_parts k scope e.name e.attrs
-starts-same k scope e = if-same k.elements (part.Start e.name scope ∷ map attribute_part (copied_attrs k e.attrs))
-
-ends-same : (k : Kinds) (e : Element) → machine.ends k e ≡ end_parts k e.name
-ends-same k e = if-same k.elements (part.End e.name ∷ [])
-
-once-same : (stage : Stage) (kids : Forest) (p : Passed) → machine.once_ready stage kids (as_machine p) ≡ as_machine (once_ready stage kids p)
-once-same Waiting (Cut why) p = refl
-once-same Waiting (End m offset) p = refl
-once-same Waiting (Single m leaf next) p = refl
-once-same Waiting (Nested m e kids next) p = refl
-once-same (Ready first) kids p = refl
-once-same (Entered first) kids p = refl
-
-unless-same : (o : Option Why) (p q : Passed) → machine.unless_stopped o (as_machine p) (as_machine q) ≡ as_machine (unless_stopped o p q)
-unless-same None p q = refl
-unless-same (Some why) p q = refl
-
--- nodes of which none is a CDATA section
-passed-same : (k : Kinds) (scope : List Binding) (list : Forest) → HasNoSections list → machine.passed k scope list ≡ as_machine (passed k scope list)
+passed-same : (k : Kinds) (scope : List Binding) (list : Forest) → HasNoSections list → machine.passed k scope list ≡ passed k scope list
 passed-same k scope (End m offset) h = refl
 passed-same k scope (Cut why) h = refl
-passed-same k scope (Single m (Chars offset text) next) h =
-    ap (λ ps. machine.put ps (machine.passed k scope next)) (if-same k.text (part.Chars text ∷ []))
-    ∙ ap (machine.put (parts_if k.text (part.Chars text ∷ []))) (passed-same k scope next h)
+passed-same k scope (Single m (Chars offset text) next) h = ap (put (parts_if k.text (part.Chars text ∷ []))) (passed-same k scope next h)
 passed-same k scope (Single m (CData offset text) next) h = absurd h
-passed-same k scope (Single m (Comment offset text) next) h =
-    ap (λ ps. machine.put ps (machine.passed k scope next)) (if-same k.comments (part.Comment text ∷ []))
-    ∙ ap (machine.put (parts_if k.comments (part.Comment text ∷ []))) (passed-same k scope next h)
-passed-same k scope (Single m (Pi offset target text) next) h =
-    ap (λ ps. machine.put ps (machine.passed k scope next)) (if-same k.instructions (part.Pi target text ∷ []))
-    ∙ ap (machine.put (parts_if k.instructions (part.Pi target text ∷ []))) (passed-same k scope next h)
+passed-same k scope (Single m (Comment offset text) next) h = ap (put (parts_if k.comments (part.Comment text ∷ []))) (passed-same k scope next h)
+passed-same k scope (Single m (Pi offset target text) next) h = ap (put (parts_if k.instructions (part.Pi target text ∷ []))) (passed-same k scope next h)
 passed-same k scope (Nested stage e kids next) h =
     let within = scope_within scope e.decls in
-    let last = λ (ps : List Part) (q : machine.Passed). machine.put ps q in
-    let all = λ (ps : List Part) (p q : machine.Passed). machine.once_ready stage kids (machine.put ps (machine.then_put p q)) in
-    let inside = passed k within kids in
-    let behind = put (end_parts k e.name) (passed k scope next) in
-    ap (λ ps. all ps (machine.passed k within kids) (last (machine.ends k e) (machine.passed k scope next))) (starts-same k within e)
-    ∙ ap (λ p. all (start_parts k within e.name e.attrs) p (last (machine.ends k e) (machine.passed k scope next))) (passed-same k within kids h.0)
-    ∙ ap (λ ps. all (start_parts k within e.name e.attrs) (as_machine inside) (last ps (machine.passed k scope next))) (ends-same k e)
-    ∙ ap (λ q. all (start_parts k within e.name e.attrs) (as_machine inside) (last (end_parts k e.name) q)) (passed-same k scope next h.1)
-    ∙ ap (λ q. machine.once_ready stage kids (machine.put (start_parts k within e.name e.attrs) q)) (unless-same inside.stop inside behind)
-    ∙ once-same stage kids (put (start_parts k within e.name e.attrs) (then_put inside behind))
+    let all = λ (p q : Passed). once_ready stage kids (put (start_parts k within e.name e.attrs) (then_put p (put (end_parts k e.name) q))) in
+    ap (λ p. all p (machine.passed k scope next)) (passed-same k within kids h.0) ∙ ap (all (passed k within kids)) (passed-same k scope next h.1)
 
 -- What the result takes of them
 

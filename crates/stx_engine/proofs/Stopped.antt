@@ -11,8 +11,9 @@ use Rattle.xml_events.specs.Document.{doc}
 use Rattle.xml_events.specs.Growing.{BeginningGoesOn, WholeNeedsNoMore}
 use Rattle.xml_events.specs.Telling.{stop_in}
 use Rattle.xml_events.specs.Tree.{Why, Need, Forest, End, Cut, Single, Nested, Stage, Waiting, Ready, Entered}
+use Rattle.template_machine.specs.Passed.{Passed, once_ready, put, then_put, unless_stopped}
 use Rattle.stx_engine.specs.inside.Ending.{RunIsOpen, RunIsOver}
-use Rattle.stx_engine.specs.inside.Passed.{Complete, Passed, Refused, Unready, end_parts, once_ready, passed, put, run_from, start_parts, then_put, unless_refused, unless_stopped, with_first}
+use Rattle.stx_engine.specs.inside.Passed.{Complete, Refused, Unready, end_parts, passed, run_from, start_parts, unless_refused, with_first}
 use Rattle.template_machine.specs.Trail.{scope_within}
 use Rattle.sheet_model.specs.declared.pass.Kinds.{Kinds}
 

@@ -1,5 +1,5 @@
 -- What passing a document through puts, node by node.
-use Rattle.std.specs.Prelude.{ℕ, Bool, if◌then◌else◌, List, [], ◌∷◌, ◌++◌, map, Option, Some, None}
+use Rattle.std.specs.Prelude.{ℕ, if◌then◌else◌, List, [], ◌∷◌, map, Option, Some, None}
 use Rattle.stx_base.specs.declared.name.Attr.{Attr}
 use Rattle.stx_base.specs.declared.name.Binding.{Binding}
 use Rattle.stx_base.specs.declared.name.Name.{Name}
@@ -8,8 +8,11 @@ use Rattle.stx_base.specs.declared.part.Part.TheVariants as part
 use Rattle.result_writer.specs.Target.{Left, fault, is_closed, next}
 use Rattle.result_writer.specs.declared.fault.ResultFault.{ResultFault}
 use Rattle.result_writer.specs.declared.fault.ResultFault.TheVariants.{UnclosedResult}
-use Rattle.xml_events.specs.Tree.{Why, Stage, Waiting, Ready, Entered, Leaf, Chars, CData, Comment, Pi, Forest, End, Cut, Single, Nested}
+use Rattle.xml_events.specs.Tree.{Why, Leaf, Chars, CData, Comment, Pi, Forest, End, Cut, Single, Nested}
 use Rattle.sheet_model.specs.declared.pass.Kinds.{Kinds}
+use Rattle.template_machine.specs.Passed.{Passed, once_ready, put, stopped, then_put}
+use Rattle.template_machine.specs.Passing.{parts_if}
+use Rattle.template_machine.specs.Putting.{attribute_part}
 use Rattle.template_machine.specs.Trail.{scope_within}
 
 -- how a run ends: it is done, it comes to a node that isn't ready, or the result refuses a part
@@ -17,13 +20,6 @@ pub data Ending : Type 0 where
   Complete : Ending
   Unready : Why → Ending
   Refused : ResultFault → Ending
-
-abbrev pub attribute_part : Attr → Part
-attribute_part a = part.Attribute a.name a.value
-
--- the parts of a node of a kind that is copied
-abbrev pub parts_if : (copied : Bool) → List Part → List Part
-parts_if copied parts = if copied then parts else []
 
 abbrev pub copied_attrs : Kinds → List Attr → List Attr
 copied_attrs pass attrs = if pass.attributes then attrs else []
@@ -45,35 +41,6 @@ leaf_parts pass (Pi offset target text) = parts_if pass.instructions (part.Pi ta
 -- a run is done only where no element of the result is open
 abbrev pub ending_of : Left → Ending
 ending_of l = if is_closed l.elements l.held then Complete else Refused UnclosedResult
-
--- the parts that are to be put, and why nothing follows them, if so
-pub record Passed : Type 0 where
-  pub parts : List Part
-  pub stop : Option Why
-
-abbrev pub stopped : Why → Passed
-stopped why = record { parts = []; stop = Some why }
-
--- parts, and then what is put after them
-abbrev pub put : List Part → Passed → Passed
-put parts p = record p { parts = parts ++ p.parts }
-
--- p, and then q, unless p was stopped
-abbrev pub unless_stopped : Option Why → (p q : Passed) → Passed
-unless_stopped None p q = put p.parts q
-unless_stopped (Some why) p q = p
-
-abbrev pub then_put : (p q : Passed) → Passed
-then_put p q = unless_stopped p.stop p q
-
--- an element whose list is a cut alone isn't begun
-abbrev pub once_ready : Stage → (kids : Forest) → Passed → Passed
-once_ready Waiting (Cut why) p = stopped why
-once_ready Waiting (End m offset) p = p
-once_ready Waiting (Single m leaf next) p = p
-once_ready Waiting (Nested m e kids next) p = p
-once_ready (Ready first) kids p = p
-once_ready (Entered first) kids p = p
 
 -- what a list of nodes puts, where these bindings are in force around it
 abbrev pub passed : Kinds → (scope : List Binding) → Forest → Passed
