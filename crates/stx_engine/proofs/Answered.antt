@@ -39,17 +39,19 @@ use Rattle.sheet_runs.specs.declared.run.End.{End}
 use Rattle.sheet_runs.specs.declared.run.End.TheVariants as ends
 use Rattle.sheet_runs.specs.declared.run.Ran.{Ran}
 use Rattle.stx_engine.specs.Answer.{Answer, Asked_for, answer, answered, asked, document_of, end_in, given_of, is_any_run, is_run, loaded, mode_answer, param_of, ran, sheet_answer, words_answer}
-use Rattle.stx_engine.specs.Doing.{Checks, Does, DoesCommand, DoesWords, GoesOn, Lacks, Loads, Obeys, Passes, PassesOn, Refuses, RunsIt, RunsOnSample, Stops}
+use Rattle.stx_engine.specs.Doing.{DoesCommand, DoesWords, GoesOn, Lacks, Loads, Obeys, Refuses, Stops}
 use Rattle.stx_engine.specs.Plain.{is_ordinary, pass_of, takes_in_order}
 use Rattle.stx_engine.specs.RunEnd.{end_of_run, end_of_sample, outcome_in}
 use Rattle.stx_engine.specs.Running.{Asks, CountsIn, FailedOnSheet, IfDocFailed, IfFailed, IsAnswered, OpensNames, RunsAnswered, UnlessFailed}
 use Rattle.stx_engine.specs.declared.run_end.RunEnd.{RunEnd}
 use Rattle.stx_engine.specs.declared.run_end.RunEnd.TheVariants.{Told, Sampled, Unnoted}
+use Rattle.stx_engine.specs.inside.Passing.{Checked, DoesAsMeant, Passed, PassesOn, RanIt, RanOnSample, RunsAsMeant}
 use Rattle.sheet_runs.proofs.Acting.{opens-then}
 use Rattle.sheet_runs.proofs.Lacking.{needs_all}
 use Rattle.sheet_runs.proofs.Stepping.{counts-then}
 use Rattle.stx_engine.proofs.AsMeant.{answers-so, begins-so, kept, lacks-so, main-fails, sample-bytes, sample-fails, sample-is, sample-outcome}
 use Rattle.stx_engine.proofs.Idle.{no_main_reads}
+use Rattle.stx_engine.proofs.Limited.{usual}
 use Rattle.stx_engine.proofs.Prefixes.{begins_all, begins_nothing}
 use Rattle.stx_engine.proofs.Meant.{HaveMeaning, MeaningIsOutcome}
 use Rattle.stx_engine.proofs.Ordered.{ordinary-so}
@@ -242,7 +244,7 @@ module _ (law : RunsKeepMeaning) (have : HaveMeaning) (is-outcome : MeaningIsOut
 
 -- What was done with words
 
-module _ (law : RunsKeepMeaning) (have : HaveMeaning) (is-outcome : MeaningIsOutcome) (joins : (n : ℕ) → concat (sample.pieces n) ≡ sample.document n)
+module _ (runs : RunsAsMeant) (law : RunsKeepMeaning) (have : HaveMeaning) (is-outcome : MeaningIsOutcome) (joins : (n : ℕ) → concat (sample.pieces n) ≡ sample.document n)
     (reads : Reads) (words : List (List ℕ)) (docs : List Doc) (main : List ℕ) (a : Answer) (said : answer reads words docs main ≡ Some a) (old : Outside) (documents : documents_told old ≡ Some docs) (told : old.to_come 0 ≡ Some main) where
   abbrev Ends_as_said : Outside → RunEnd → Type 0
   Ends_as_said new end = RunsAnswered reads words docs main old new end a
@@ -324,29 +326,29 @@ module _ (law : RunsKeepMeaning) (have : HaveMeaning) (is-outcome : MeaningIsOut
       run-any : (mode : Mode) → c.mode ≡ mode → is_any_run mode ≡ true → is_any_run c.mode ≡ true
       run-any mode is any = ap is_any_run is ∙ any
 
-      did : (end : RunEnd) → Does c x.sheet mid new end → Ends_as_said new end
-      did end (Checks alone same is) = subst (λ o. Ends_as_said o end) (sym same) (subst (Ends_as_said mid) (sym is) (checked alone))
-      did end (Passes any some d) = as-said any end (through law have is-outcome joins reads words docs main c asked_for old mid new documents told x l any end d)
-      did end (RunsIt plain none came (inl r) is) =
+      did : (end : RunEnd) → DoesAsMeant c x.sheet mid new end → Ends_as_said new end
+      did end (Checked alone same is) = subst (λ o. Ends_as_said o end) (sym same) (subst (Ends_as_said mid) (sym is) (checked alone))
+      did end (Passed any d) = as-said any end (through law have is-outcome joins reads words docs main c asked_for old mid new documents told x l any end d)
+      did end (RanIt plain none came (inl r) is) =
           let any = run-any AsksRun plain refl in
           as-said any end (subst (λ e. RunsAnswered reads words docs main old new e (ran task files main)) (sym is)
           (run-main law have is-outcome joins reads words docs main c asked_for old mid new documents told x l any (more-ordinary x.sheet none (so any).0) came r.0 r.1.0 plain r.1.1))
-      did end (RunsIt plain none came (inr lacks) is) =
+      did end (RanIt plain none came (inr lacks) is) =
           let any = run-any AsksRun plain refl in
           as-said any end (subst (λ e. RunsAnswered reads words docs main old new e (ran task files main)) (sym (is ∙ ap end_of_run lacks.1))
           (lacking law have is-outcome joins reads words docs main c asked_for old mid new documents told x l any lacks.0))
-      did end (RunsOnSample records plain none came (inl r) is) =
+      did end (RanOnSample records plain none came (inl r) is) =
           let any = run-any (Sample records) plain refl in
           as-said any end (subst (λ e. RunsAnswered reads words docs main old new e (ran task files main)) (sym is)
           (run-sample law have is-outcome joins reads words docs main c asked_for old mid new documents told x l any (more-ordinary x.sheet none (so any).0) records came r.0 r.1.0 plain r.1.1))
-      did end (RunsOnSample records plain none came (inr lacks) is) =
+      did end (RanOnSample records plain none came (inr lacks) is) =
           let any = run-any (Sample records) plain refl in
           as-said any end (subst (λ e. RunsAnswered reads words docs main old new e (ran task files main)) (sym (is ∙ ap (end_of_sample records came) lacks.1))
           (lacking law have is-outcome joins reads words docs main c asked_for old mid new documents told x l any lacks.0))
 
     commanded : (new : Outside) (end : RunEnd) → DoesCommand c old new end → Ends_as_said new end
     commanded new end (Stops o l is) = subst (Ends_as_said new) (sym is) (stopped new o l)
-    commanded new end (GoesOn mid x l does) = did mid new x l end does
+    commanded new end (GoesOn mid x l does) = did mid new x l end (runs c x.sheet mid new end (usual words c asked_for) does)
 
   pub answered-words : (new : Outside) (end : RunEnd) → DoesWords words old new end → Ends_as_said new end
   answered-words new end (Refuses none same is) = subst (λ o. Ends_as_said o end) (sym same) (subst (Ends_as_said old) (sym is) (refused none))

@@ -12,7 +12,6 @@ use Rattle.template_machine.specs.Meaning.{code, meaning}
 use Rattle.template_machine.specs.Ordinary.{IsOrdinary}
 use Rattle.fault_report.specs.declared.outcome.Outcome.{Outcome}
 use Rattle.fault_report.specs.declared.outcome.Outcome.TheVariants as outcome
-use Rattle.command_words.specs.declared.command.Mode.TheVariants.{Sample}
 use Rattle.run_engine.specs.Run.{IsAtStart, Run}
 use Rattle.sample_maker.specs.Document as sample
 use Rattle.sheet_runs.specs.Counts as run_counts

@@ -1,12 +1,12 @@
 -- A run of a sheet that only passes documents through does what the sheet means.
-use Rattle.std.proofs.Common.{◌≡◌, ℕ, ◌≤◌, ◌==◌, Bool, true, false, List, [], ◌∷◌, length, map, take, Some, None, Option, IsSome, inl, inr, arith, refl, sym, ap, subst, ◌∙◌}
+use Rattle.std.proofs.Common.{◌≡◌, ℕ, ◌≤◌, ◌==◌, Bool, true, false, List, [], ◌∷◌, length, map, take, Some, None, Option, inl, inr, arith, refl, sym, ap, subst, ◌∙◌}
 use Rattle.std.specs.List.{concat, list_any}
 use Rattle.std.proofs.lemmas.Bool.{false≢true, true≢false}
 use Rattle.stx_base.specs.Course.{Begins}
 use Rattle.stx_base.specs.declared.fault.RunCode.{RunCode}
-use Rattle.command_words.specs.declared.command.Mode.{Mode}
+use Rattle.command_words.specs.declared.command.Command.{Command}
 use Rattle.command_words.specs.declared.command.Mode.TheVariants.{Run as AsksRun, Sample}
-use Rattle.stx_host.specs.Before.{AtMainReads, Between, Taken, main_read}
+use Rattle.stx_host.specs.Before.{AtMainReads, Between, Taken}
 use Rattle.stx_host.specs.Outside.{LacksRoom, Outside}
 use Rattle.stx_host.specs.Rooms.{needed}
 use Rattle.stx_host.specs.declared.act.Act.{Act}
@@ -38,18 +38,18 @@ use Rattle.sheet_runs.specs.declared.run.End.{End}
 use Rattle.sheet_runs.specs.declared.run.End.TheVariants as ends
 use Rattle.sheet_runs.specs.declared.run.Ran.{Ran}
 use Rattle.sheet_runs.proofs.KeptMeaning.{front-of, lines-begin, settled, was-begins}
-use Rattle.stx_engine.specs.Answer.{Answer, Asked_for, document_of, end_in, given_of, is_run, param_of, ran}
-use Rattle.stx_engine.specs.Doing.{AreUsual, Does, Passes, PassesOn, RunsAny, RunsIt, RunsOnSample, asked_by}
+use Rattle.stx_engine.specs.Answer.{Answer, Asked_for, document_of, end_in, given_of, is_any_run, is_run, param_of, ran}
+use Rattle.stx_engine.specs.Doing.{AreUsual, Checks, RunsAny, RunsIt, RunsOnSample}
 use Rattle.stx_engine.specs.Laws.{Means}
 use Rattle.stx_engine.specs.Plain.{pass_of, runnable}
 use Rattle.stx_engine.specs.RunEnd.{end_of_run, end_of_sample, outcome_in}
 use Rattle.stx_engine.specs.Running.{CountsIn, FailedAt, IfFailed, IsAnswered, TakesParts, UnlessFailed}
-use Rattle.stx_engine.specs.declared.asked.Asked.{Asked}
 use Rattle.stx_engine.specs.declared.run_end.RunEnd.{RunEnd}
 use Rattle.stx_engine.specs.declared.run_end.RunEnd.TheVariants.{Told, Unnoted}
 use Rattle.stx_engine.specs.inside.Accepted.{DocumentsAreTaken}
 use Rattle.stx_engine.specs.inside.Laws.{PassesAsMeant, meant_ending}
 use Rattle.stx_engine.specs.inside.Passed as gives
+use Rattle.stx_engine.specs.inside.Passing.{Checked, DoesAsMeant, Passed, PassesOn, RanIt, RanOnSample, RunsAsMeant}
 use Rattle.stx_engine.specs.inside.Run.{outcome_of, run_on}
 use Rattle.stx_engine.proofs.AsMeant.{answers-so, begins-so, kept, main-fails, sample-bytes, sample-counts, sample-fails, sample-is, sample-outcome}
 use Rattle.stx_engine.proofs.Begun.{begun-order, begun-runs}
@@ -328,40 +328,38 @@ lacking k old = record {
 
 -- What was done with a sheet
 
-module _ (laws : Laws) (a : Asked) (sheet : model.Sheet) (usual : AreUsual a.limits) (old new : Outside) (x : Ran) where
-  abbrev asked_for : Mode → Asked_for
-  asked_for mode = record { command = asked_by a mode; sheet = sheet }
+module _ (laws : Laws) (joins : (n : ℕ) → concat (sample.pieces n) ≡ sample.document n) (c : Command) (sheet : model.Sheet) (usual : AreUsual c.limits) (old new : Outside) (x : Ran) where
+  abbrev k : Asked_for
+  k = record { command = c; sheet = sheet }
 
-  abbrev RunsSo : Main → model.Sheet → Type 0
-  RunsSo source s = RunsAny (map param_of a.params) a.limits s source old new x
+  abbrev Runs : Main → model.Sheet → Type 0
+  Runs source s = RunsAny (map param_of c.params) c.limits s source old new x
 
-  some-pass : (pass : Kinds) → pass_of sheet ≡ Some pass → IsSome (pass_of sheet)
-  some-pass pass e = subst IsSome (sym e) refl
+  -- on the main document
+  passed-main : (pass : Kinds) → pass_of sheet ≡ Some pass → c.mode ≡ AsksRun → Runs main_of.Host (uncalled sheet) → PassesOn k old new (end_of_run x.end)
+  passed-main pass e plain (inl r) = on-main laws k pass e usual.below plain old new x r.0 r.1.0 r.1.1
+  passed-main pass e plain (inr lacks) = subst (PassesOn k old new) (sym (ap end_of_run lacks.1)) (subst (λ o. PassesOn k old o (Told outcome.Memory)) (sym lacks.0) (lacking k old))
 
-  -- the main document was read
-  pub does-main : RunsSo main_of.Host (runnable sheet) → Does (asked_by a AsksRun) sheet old new (end_of_run x.end)
-  does-main runs = by_pass (pass_of sheet) refl where
-    passes-on : (pass : Kinds) → pass_of sheet ≡ Some pass → RunsSo main_of.Host (uncalled sheet) → PassesOn (asked_for AsksRun) old new (end_of_run x.end)
-    passes-on pass e runs = elim runs [
-      | inl r ↦ on-main laws (asked_for AsksRun) pass e usual.below refl old new x r.0 r.1.0 r.1.1
-      | inr lacks ↦ subst (PassesOn (asked_for AsksRun) old new) (sym (ap end_of_run lacks.1)) (subst (λ o. PassesOn (asked_for AsksRun) old o (Told outcome.Memory)) (sym lacks.0) (lacking (asked_for AsksRun) old))
-    ]
+  main-as-meant : c.mode ≡ AsksRun → Runs main_of.Host (runnable sheet) → (o : Option Kinds) → pass_of sheet ≡ o → DoesAsMeant c sheet old new (end_of_run x.end)
+  main-as-meant plain runs None e = RanIt plain e x (subst (Runs main_of.Host) (runnable-all sheet e) runs) refl
+  main-as-meant plain runs (Some pass) e = Passed (ap is_any_run plain) (passed-main pass e plain (subst (Runs main_of.Host) (runnable-plain sheet pass e) runs))
 
-    by_pass : (o : Option Kinds) → pass_of sheet ≡ o → Does (asked_by a AsksRun) sheet old new (end_of_run x.end)
-    by_pass None e = RunsIt refl e x (subst (RunsSo main_of.Host) (runnable-all sheet e) runs) refl
-    by_pass (Some pass) e = Passes refl (some-pass pass e) (passes-on pass e (subst (RunsSo main_of.Host) (runnable-plain sheet pass e) runs))
+  -- on the sample
+  module _ (records : ℕ) (sampled : c.mode ≡ Sample records) where
+    abbrev source : Main
+    source = main_of.Sample (sample.pieces records)
 
-  -- the sample was
-  pub does-sample : ((n : ℕ) → concat (sample.pieces n) ≡ sample.document n) → (records : ℕ) → RunsSo (main_of.Sample (sample.pieces records)) (runnable sheet) → Does (asked_by a (Sample records)) sheet old new (end_of_sample records x x.end)
-  does-sample joins records runs = by_pass (pass_of sheet) refl where
-    passes-on : (pass : Kinds) → pass_of sheet ≡ Some pass → RunsSo (main_of.Sample (sample.pieces records)) (uncalled sheet) → PassesOn (asked_for (Sample records)) old new (end_of_sample records x x.end)
-    passes-on pass e runs =
-        let k = asked_for (Sample records) in
-        elim runs [
-          | inl r ↦ on-sample laws k pass e usual.below joins records refl old new x r.0 r.1.0 r.1.1
-          | inr lacks ↦ subst (PassesOn k old new) (sym (ap (end_of_sample records x) lacks.1)) (subst (λ o. PassesOn k old o (Told outcome.Memory)) (sym lacks.0) (lacking k old))
-        ]
+    passed-sample : (pass : Kinds) → pass_of sheet ≡ Some pass → Runs source (uncalled sheet) → PassesOn k old new (end_of_sample records x x.end)
+    passed-sample pass e (inl r) = on-sample laws k pass e usual.below joins records sampled old new x r.0 r.1.0 r.1.1
+    passed-sample pass e (inr lacks) = subst (PassesOn k old new) (sym (ap (end_of_sample records x) lacks.1)) (subst (λ o. PassesOn k old o (Told outcome.Memory)) (sym lacks.0) (lacking k old))
 
-    by_pass : (o : Option Kinds) → pass_of sheet ≡ o → Does (asked_by a (Sample records)) sheet old new (end_of_sample records x x.end)
-    by_pass None e = RunsOnSample records refl e x (subst (RunsSo (main_of.Sample (sample.pieces records))) (runnable-all sheet e) runs) refl
-    by_pass (Some pass) e = Passes refl (some-pass pass e) (passes-on pass e (subst (RunsSo (main_of.Sample (sample.pieces records))) (runnable-plain sheet pass e) runs))
+    sample-as-meant : Runs source (runnable sheet) → (o : Option Kinds) → pass_of sheet ≡ o → DoesAsMeant c sheet old new (end_of_sample records x x.end)
+    sample-as-meant runs None e = RanOnSample records sampled e x (subst (Runs source) (runnable-all sheet e) runs) refl
+    sample-as-meant runs (Some pass) e = Passed (ap is_any_run sampled) (passed-sample pass e (subst (Runs source) (runnable-plain sheet pass e) runs))
+
+pub runs-as-meant : Laws → ((n : ℕ) → concat (sample.pieces n) ≡ sample.document n) → RunsAsMeant
+runs-as-meant laws joins c sheet old new end usual (Checks alone same is) = Checked alone same is
+runs-as-meant laws joins c sheet old new end usual (RunsIt plain x runs is) =
+    subst (DoesAsMeant c sheet old new) (sym is) (main-as-meant laws joins c sheet usual old new x plain runs (pass_of sheet) refl)
+runs-as-meant laws joins c sheet old new end usual (RunsOnSample records sampled x runs is) =
+    subst (DoesAsMeant c sheet old new) (sym is) (sample-as-meant laws joins c sheet usual old new x records sampled runs (pass_of sheet) refl)

@@ -40,12 +40,13 @@ use Rattle.sheet_runs.specs.Meant.{tree_of}
 use Rattle.sheet_runs.proofs.Acting.{gots-then, opens-then}
 use Rattle.sheet_runs.proofs.Stepping.{counts-then}
 use Rattle.stx_engine.specs.Answer.{Answer, Asked_for, accepted, answer, answered, asked, asks_any_run, asks_run, document_of, given_of, is_any_run, is_run, loaded, mode_answer, ran, ran_by, run_with, runs_none, sheet_answer, sheet_named, words_answer}
-use Rattle.stx_engine.specs.Doing.{Loads, PassesOn}
+use Rattle.stx_engine.specs.Doing.{Loads}
 use Rattle.stx_engine.specs.Running.{CountsIn, FailedAt, FailedIn, FailedOn, FailedOnSheet, HasHead, IfDocFailed, IsAnswered, IsOwn, LoadsFirst, OpensNames, RefusesWords, Runs, TakesParts, UnlessFailed}
 use Rattle.stx_engine.specs.Plain.{pass_of, takes_in_order}
 use Rattle.stx_engine.specs.RunEnd.{outcome_in}
 use Rattle.stx_engine.specs.declared.run_end.RunEnd.{RunEnd}
 use Rattle.stx_engine.specs.declared.run_end.RunEnd.TheVariants.{Told, Sampled, Unnoted}
+use Rattle.stx_engine.specs.inside.Passing.{PassesOn}
 use Rattle.stx_engine.proofs.Idle.{no_main_gots, no_main_reads, nothing_read, of_any}
 use Rattle.stx_engine.proofs.Prefixes.{begins_all, begins_nothing}
 use Rattle.stx_engine.proofs.Outcomes.{unless-map}

@@ -36,14 +36,16 @@ use Rattle.sheet_runs.specs.declared.run.End.TheVariants as ends
 use Rattle.sheet_runs.specs.declared.run.Ran.{Ran}
 use Rattle.stx_engine.specs.Answer.{accepted, is_any_run, loaded, param_of, runs_none, sheet_named}
 use Rattle.sample_maker.specs.Document.{pieces}
-use Rattle.stx_engine.specs.Doing.{Checks, Does, DoesCommand, GoesOn, Loads, Passes, RunsIt, RunsOnSample, Stops}
+use Rattle.stx_engine.specs.Doing.{DoesCommand, GoesOn, Loads, Stops}
 use Rattle.stx_engine.specs.Running.{CountsIn, FailedIn, FailedOn, HasHead, IfDocFailed, IsOwn, LoadsFirst, OpensNames, RefusesWords, Runs, UnlessFailed}
 use Rattle.stx_engine.specs.Plain.{pass_of}
 use Rattle.stx_engine.specs.RunEnd.{end_of_run, end_of_sample, outcome_in}
 use Rattle.stx_engine.specs.declared.run_end.RunEnd.{RunEnd}
 use Rattle.stx_engine.specs.declared.run_end.RunEnd.TheVariants.{Told}
+use Rattle.stx_engine.specs.inside.Passing.{Checked, DoesAsMeant, Passed, RanIt, RanOnSample, RunsAsMeant}
 use Rattle.stx_engine.proofs.AsMeant.{sample-counts, sample-outcome}
 use Rattle.stx_engine.proofs.Idle.{no_main_reads, nothing_read}
+use Rattle.stx_engine.proofs.Limited.{usual}
 use Rattle.stx_engine.proofs.Prefixes.{begins_more}
 use Rattle.stx_engine.proofs.Ran.{accepted-is, asks_some, between_after, counts_after, for_command, loads-alone, loads_sheet, main_after, named, none-run-is, none_once, once_after, opens-all, ran-checked, ran-stopped, ran-through, reads_after, unasked}
 
@@ -387,17 +389,17 @@ module _ (words : List Word) (c : Command) (asked_for : command_of words ≡ Som
 -- What a command did
 
 module _ (words : List Word) (c : Command) (asked_for : command_of words ≡ Some c) (old : Outside) where
-  ran-does : (mid new : Outside) (x : Loaded) (l : Loads c old mid (Ok x)) (end : RunEnd) → Does c x.sheet mid new end → Runs words old new end
-  ran-does mid new x l e (Checks alone same is) =
+  ran-does : (mid new : Outside) (x : Loaded) (l : Loads c old mid (Ok x)) (end : RunEnd) → DoesAsMeant c x.sheet mid new end → Runs words old new end
+  ran-does mid new x l e (Checked alone same is) =
       subst (λ o. Runs words old o e) (sym same) (subst (Runs words old mid) (sym is) (ran-checked words c asked_for old mid alone x l))
-  ran-does mid new x l e (Passes any some d) = ran-through words c asked_for old mid new x l e any d
-  ran-does mid new x l e (RunsIt plain none ran (inl r) is) = subst (Runs words old new) (sym is) (ran-any words c asked_for old mid new x l ran plain none r.0 r.1.0 r.1.1)
-  ran-does mid new x l e (RunsIt plain none ran (inr lacks) is) =
+  ran-does mid new x l e (Passed any d) = ran-through words c asked_for old mid new x l e any d
+  ran-does mid new x l e (RanIt plain none ran (inl r) is) = subst (Runs words old new) (sym is) (ran-any words c asked_for old mid new x l ran plain none r.0 r.1.0 r.1.1)
+  ran-does mid new x l e (RanIt plain none ran (inr lacks) is) =
       subst (Runs words old new) (sym (is ∙ ap end_of_run lacks.1)) (ran-lacking words c asked_for old mid new x l ran lacks.0)
-  ran-does mid new x l e (RunsOnSample records sample none ran (inl r) is) = subst (Runs words old new) (sym is) (ran-any-sampled words c asked_for old mid new x l ran records (pieces records) sample none r.0 r.1.0 r.1.1)
-  ran-does mid new x l e (RunsOnSample records sample none ran (inr lacks) is) =
+  ran-does mid new x l e (RanOnSample records sample none ran (inl r) is) = subst (Runs words old new) (sym is) (ran-any-sampled words c asked_for old mid new x l ran records (pieces records) sample none r.0 r.1.0 r.1.1)
+  ran-does mid new x l e (RanOnSample records sample none ran (inr lacks) is) =
       subst (Runs words old new) (sym (is ∙ ap (end_of_sample records ran) lacks.1)) (ran-lacking words c asked_for old mid new x l ran lacks.0)
 
-  pub ran-command : (new : Outside) (end : RunEnd) → DoesCommand c old new end → Runs words old new end
-  ran-command new e (Stops o l is) = subst (Runs words old new) (sym is) (ran-stopped words c asked_for old new o l)
-  ran-command new e (GoesOn mid x l does) = ran-does mid new x l e does
+  pub ran-command : RunsAsMeant → (new : Outside) (end : RunEnd) → DoesCommand c old new end → Runs words old new end
+  ran-command law new e (Stops o l is) = subst (Runs words old new) (sym is) (ran-stopped words c asked_for old new o l)
+  ran-command law new e (GoesOn mid x l does) = ran-does mid new x l e (law c x.sheet mid new e (usual words c asked_for) does)

@@ -5,3 +5,4 @@ pub mod Ending
 pub mod Growing
 pub mod Accepted
 pub mod Laws
+pub mod Passing

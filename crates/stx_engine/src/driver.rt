@@ -78,6 +78,7 @@ pub fn transform<H: Host>(alloc: Global, words: &[String], host: &mut H) -> u8
     ensures ids { (H.outside host.new).open_ids ≡ (H.outside host.old).open_ids }
 {
     law::answers();
+    passed::runs();
     machine_law::one_meaning();
     sheet_law::meant();
     sample_law::pieces();
@@ -102,6 +103,7 @@ fn run<H: Host>(alloc: Global, words: &[String], host: &mut H) -> RunEnd
     ensures does { DoesWords (spelled words.now) (H.outside host.old) (H.outside host.new) result }
     ensures runs { Runs (spelled words.now) (H.outside host.old) (H.outside host.new) result }
 {
+    passed::runs();
     match read_words(alloc, words) {
         Ok(command) => run_command(alloc, command, host),
         Err(WordsFault::Usage) => RunEnd::Told(Outcome::Usage),
@@ -169,10 +171,6 @@ fn run_main<H: Host>(alloc: Global, asked: Asked, sheet: Sheet, host: &mut H) ->
     requires limits { AreUsual asked.limits }
     ensures { Does (asked_by asked mode.Run) sheet (H.outside host.old) (H.outside host.new) result }
 {
-    passed::documents();
-    passed::meant();
-    machine_law::one_meaning();
-    sheet_law::meant();
     let sheet = runnable(alloc, sheet);
     end_of_run(run_any(alloc, asked, sheet, Main::Host, host))
 }
@@ -189,11 +187,6 @@ fn run_sample<H: Host>(
     requires limits { AreUsual asked.limits }
     ensures { Does (asked_by asked (mode.Sample records)) sheet (H.outside host.old) (H.outside host.new) result }
 {
-    passed::documents();
-    passed::meant();
-    machine_law::one_meaning();
-    sheet_law::meant();
-    sample_law::pieces();
     let sheet = runnable(alloc, sheet);
     let main = Main::Sample(make_sample(records));
     end_of_sample(records, run_any(alloc, asked, sheet, main, host))

@@ -4,7 +4,10 @@ ghost use Rattle.stx_engine.specs.inside.Accepted.{DocumentsAreTaken, DocumentsN
 ghost use Rattle.stx_engine.specs.inside.Ending.{RunIsOpen, RunIsOver};
 ghost use Rattle.stx_engine.specs.inside.Growing.{BytesStay, RunStays};
 ghost use Rattle.stx_engine.specs.inside.Laws.{PassesAsMeant};
+ghost use Rattle.stx_engine.specs.inside.Passing.{RunsAsMeant};
 
+use sample_maker::law as sample_law;
+use sheet_runs::law as sheet_law;
 use template_machine::law as machine_law;
 
 /// It is what the sheet means.
@@ -12,6 +15,17 @@ pub fn meant()
     ensures { PassesAsMeant }
 {
     machine_law::without_templates();
+}
+
+/// A run of such a sheet does it.
+pub fn runs()
+    ensures { RunsAsMeant }
+{
+    meant();
+    documents();
+    machine_law::one_meaning();
+    sheet_law::meant();
+    sample_law::pieces();
 }
 
 /// A result takes all parts of a document, and no end tag in it lacks its start tag.

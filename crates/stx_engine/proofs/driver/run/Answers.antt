@@ -13,7 +13,7 @@ run_command-requires g c = usual (spelled c.args.words.now) c.in-Ok.command c.in
 pub returns-in-Ok : goal.returns-in-Ok
 returns-in-Ok g c = record {
   does = Obeys c.in-Ok.command c.in-Ok.ensures c.run_command.ensures;
-  runs = ran-command (spelled c.args.words.now) c.in-Ok.command c.in-Ok.ensures (g.H.Host.outside c.args.host.now) (g.H.Host.outside c.run_command.new.host) c.run_command.result c.run_command.ensures;
+  runs = ran-command (spelled c.args.words.now) c.in-Ok.command c.in-Ok.ensures (g.H.Host.outside c.args.host.now) c.runs.ensures (g.H.Host.outside c.run_command.new.host) c.run_command.result c.run_command.ensures;
 }
 
 pub returns-in-Err-Usage : goal.returns-in-Err-Usage

@@ -1,10 +1,8 @@
-use Rattle.std.proofs.Common.{map, subst, sym}
-use Rattle.command_words.specs.declared.command.Mode.TheVariants.{Run}
+use Rattle.std.proofs.Common.{map, refl, subst, sym}
 use Rattle.sheet_model.specs.Sound.{IsSound}
 use Rattle.sheet_runs.specs.declared.main_document.Main.TheVariants.{Host}
 use Rattle.stx_engine.specs.Answer.{param_of}
-use Rattle.stx_engine.specs.Doing.{Does, RunsAny, asked_by}
-use Rattle.stx_engine.proofs.Passes.{Laws, does-main}
+use Rattle.stx_engine.specs.Doing.{RunsAny, RunsIt}
 use Rattle.stx_engine.proofs.Runnable.{runnable-sound}
 use Rattle.stx_engine.proofs.driver.run_main.Goals as goal
 
@@ -16,15 +14,4 @@ returns g c =
     let old = g.H.Host.outside c.args.host.now in
     let new = g.H.Host.outside c.run_any.new.host in
     let a = c.args.asked in
-    let laws : Laws = record {
-      as_meant = c.meant.ensures;
-      have = c.one_meaning.ensures.some;
-      is_outcome = c.one_meaning.ensures.function;
-      one = c.one_meaning.ensures.one;
-      taken = c.documents.ensures.taken;
-      says = c.meant-2.ensures.says;
-      keeps = c.meant-2.ensures.keeps;
-    } in
-    subst (Does (asked_by a Run) c.args.sheet old new) (sym c.end_of_run.ensures)
-    (does-main laws a c.args.sheet c.requires.limits old new c.run_any.result
-    (subst (λ s. RunsAny (map param_of a.params) a.limits s Host old new c.run_any.result) c.runnable-sheet.ensures c.run_any.ensures))
+    RunsIt refl c.run_any.result (subst (λ s. RunsAny (map param_of a.params) a.limits s Host old new c.run_any.result) c.runnable-sheet.ensures c.run_any.ensures) c.end_of_run.ensures

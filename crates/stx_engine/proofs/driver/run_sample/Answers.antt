@@ -1,11 +1,9 @@
-use Rattle.std.proofs.Common.{map, subst, sym}
-use Rattle.command_words.specs.declared.command.Mode.TheVariants as mode
+use Rattle.std.proofs.Common.{map, refl, subst, sym}
 use Rattle.sample_maker.specs.Document.{pieces}
 use Rattle.sheet_model.specs.Sound.{IsSound}
 use Rattle.sheet_runs.specs.declared.main_document.Main.TheVariants as main
 use Rattle.stx_engine.specs.Answer.{param_of}
-use Rattle.stx_engine.specs.Doing.{Does, RunsAny, asked_by}
-use Rattle.stx_engine.proofs.Passes.{Laws, does-sample}
+use Rattle.stx_engine.specs.Doing.{RunsAny, RunsOnSample}
 use Rattle.stx_engine.proofs.Runnable.{runnable-sound}
 use Rattle.stx_engine.proofs.driver.run_sample.Goals as goal
 
@@ -18,16 +16,7 @@ returns g c =
     let new = g.H.Host.outside c.run_any.new.host in
     let a = c.args.asked in
     let records = c.args.records in
-    let laws : Laws = record {
-      as_meant = c.meant.ensures;
-      have = c.one_meaning.ensures.some;
-      is_outcome = c.one_meaning.ensures.function;
-      one = c.one_meaning.ensures.one;
-      taken = c.documents.ensures.taken;
-      says = c.meant-2.ensures.says;
-      keeps = c.meant-2.ensures.keeps;
-    } in
-    subst (Does (asked_by a (mode.Sample records)) c.args.sheet old new) (sym c.end_of_sample.ensures)
-    (does-sample laws a c.args.sheet c.requires.limits old new c.run_any.result c.pieces.ensures.joined records
+    RunsOnSample records refl c.run_any.result
     (subst (λ s. RunsAny (map param_of a.params) a.limits s (main.Sample (pieces records)) old new c.run_any.result) c.runnable-sheet.ensures
-    (subst (λ ps. RunsAny (map param_of a.params) a.limits c.runnable-sheet.result (main.Sample ps) old new c.run_any.result) c.make_sample.ensures c.run_any.ensures)))
+    (subst (λ ps. RunsAny (map param_of a.params) a.limits c.runnable-sheet.result (main.Sample ps) old new c.run_any.result) c.make_sample.ensures c.run_any.ensures))
+    c.end_of_sample.ensures

@@ -30,7 +30,7 @@ returns-in-Ok g c =
     let reports : Reports mid (line_in end) (status_in end) new result = subst (λ line. Reports mid line (status_in end) new result) (c.as_str.ensures.bytes ∙ c.in-Ok.ensures.line)
     (subst (λ status. Reports mid c.as_str.result.now status new result) c.status.ensures c.report.ensures) in
     let said = λ (reads : Reads) (docs : List Doc) (main : List ℕ) (a : Answer) (tells : Tells old docs main) (is : answer reads words docs main ≡ Some a).
-    answered-words c.meant.ensures.keeps c.one_meaning.ensures.some c.one_meaning.ensures.function c.pieces.ensures.joined reads words docs main a is old (told_of old.open_ids old.documents docs tells.open_ids tells.documents) tells.main_document mid end c.run-end.ensures.does in
+    answered-words c.runs.ensures c.meant.ensures.keeps c.one_meaning.ensures.some c.one_meaning.ensures.function c.pieces.ensures.joined reads words docs main a is old (told_of old.open_ids old.documents docs tells.open_ids tells.documents) tells.main_document mid end c.run-end.ensures.does in
     record {
       answer = λ reads docs main a tells is. gives_answer words old mid new end r result reports docs main tells reads a (said reads docs main a tells is);
       reads = λ reads docs main a tells is. asks_settled words old mid new end r result reports docs main tells reads a (said reads docs main a tells is);
@@ -69,7 +69,7 @@ returns g c =
     let reports : Reports mid (line_in end) (status_in end) new result = c.report-in-Err.ensures in
     let said = λ (reads : Reads) (docs : List Doc) (main : List ℕ) (a : Answer) (tells : Tells old docs main) (is : answer reads words docs main ≡ Some a).
     answered-lacking reads words docs main a old mid c.run-end.result c.run-end.ensures.runs.counts
-    (answered-words c.meant.ensures.keeps c.one_meaning.ensures.some c.one_meaning.ensures.function c.pieces.ensures.joined reads words docs main a is old (told_of old.open_ids old.documents docs tells.open_ids tells.documents) tells.main_document mid c.run-end.result c.run-end.ensures.does) in
+    (answered-words c.runs.ensures c.meant.ensures.keeps c.one_meaning.ensures.some c.one_meaning.ensures.function c.pieces.ensures.joined reads words docs main a is old (told_of old.open_ids old.documents docs tells.open_ids tells.documents) tells.main_document mid c.run-end.result c.run-end.ensures.does) in
     record {
       answer = λ reads docs main a tells is. gives_answer words old mid new end r result reports docs main tells reads a (said reads docs main a tells is);
       reads = λ reads docs main a tells is. asks_settled words old mid new end r result reports docs main tells reads a (said reads docs main a tells is);
