@@ -35,3 +35,4 @@ pub mod Giving
 pub mod OldSheets
 pub mod OldRuns
 pub mod Back
+pub mod Keeping

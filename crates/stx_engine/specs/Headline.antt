@@ -8,7 +8,9 @@ use Rattle.stx_host.specs.Rooms.{needed}
 use Rattle.stx_host.specs.declared.act.Act.{Act}
 use Rattle.stx_host.specs.declared.act.Doc.{Doc}
 use Rattle.run_engine.specs.Run.{head}
-use Rattle.stx_engine.specs.Answer.{Answer, Asked_for, accepted, asks_any_run, asks_run, loaded, note_of, runs_none, sheet_named}
+use Rattle.stx_engine.specs.Answer.{Answer, Asked_for, accepted, answer, asked, asks_any_run, asks_run, loaded, note_of, runs_none, sheet_named}
+use Rattle.stx_engine.specs.Nesting.{EndsHaveStarts}
+use Rattle.stx_engine.specs.Plain.{takes_in_order}
 use Rattle.stx_engine.specs.ReadBack.{IsRead}
 use Rattle.stx_engine.specs.Doing.{DoesWords}
 use Rattle.sheet_runs.specs.Counts.{SameCounts}
@@ -172,3 +174,43 @@ NotesItsFailure old new reads words docs status =
     (status ≡ 5) ⊎ (status ≡ 7) → (Rose old.note_faults new.note_faults → ⊥)
     → (messages : List ℕ) × (o : Outcome) × IsFailure (FailedOn reads words docs acts) old new acts (since old.out new.out) o × (status_of o ≡ status)
     × (since old.note new.note ≡ messages ++ line_of o)
+
+-- What is kept where there is an answer.
+pub record KeepsAnswer (old new : Outside) (reads : Reads) (words : List (List ℕ)) (docs : List Doc) (main : List ℕ) (status : ℕ) (a : Answer) : Type 0 where
+  -- where no count of faults rose and memory sufficed, the lanes and the status are exactly the answer
+  pub answer : GivesAnswer old new status a
+  -- whenever the main document is read, exactly what the bytes read so far settle was written, and more is needed
+  pub settled : AsksSettled old new reads words docs main
+  -- after any stop the output is a beginning of the answer's
+  pub prefix : Begins (since old.out new.out) a.out
+  -- no end tag in it lacks its start tag
+  pub nested : EndsHaveStarts (since old.out new.out)
+  -- only documents that the answer opens are opened, in its order
+  pub opened : OpensFirst docs a.opened status (since old.log new.log)
+  -- where the host failed or memory was wanting, the line says which and where, behind first messages
+  pub failure : NotesAfterFailure old new reads words docs status a
+  -- where the host tells what it has room for, and that suffices for what is done and for the answer, no count of faults changes
+  pub room : FailsForRoom old new status a
+
+-- What is kept where the host tells its documents, the main one among them, its log, its lanes and which ids are open.
+pub record KeepsTold (old new : Outside) (reads : Reads) (words : List (List ℕ)) (docs : List Doc) (main : List ℕ) (status : ℕ) : Type 0 where
+  -- There is an answer to refused words and sheets, to sheets that are looked at alone, and to runs of sheets that take the nodes of the main
+  -- document alone, each list in order.
+  pub answered : (a : Answer) → answer reads words docs main ≡ Some a → KeepsAnswer old new reads words docs main status a
+  -- where the status of a run of such a sheet is 0, what it wrote is read back, by the grammar of XML, as the nodes that the sheet means to put
+  pub read_back : (k : Asked_for) → asked reads words docs ≡ Some k → takes_in_order k.sheet ≡ true → ReadsBack old new main status k
+  -- where no instruction is run, none has a fault, and no fuel is spent
+  pub plain : runs_none reads words docs ≡ true → IsPlainStatus status
+  -- Whatever the sheet does: its files are opened before all else, in their order, and read no further than it takes to decide it;
+  pub sheet : ReadsSheetFirst old new reads words docs status
+  -- the last line is that of an end with this status,
+  pub line : EndsInLine old new reads words docs status
+  -- also where the host failed or memory was wanting.
+  pub failed : NotesItsFailure old new reads words docs status
+
+-- What is kept where it tells its main document, its log and its lanes, whatever the sheet does.
+pub record KeepsMain (old new : Outside) (words : List (List ℕ)) (main : List ℕ) (status : ℕ) : Type 0 where
+  -- where the status of a run on the main document is 0 it was read to its end; once its end is known it isn't read any more
+  pub ends : ReadsToEnd old new words main status
+  -- the output begins with its head, which is written before the main document is read
+  pub begins : BeginsWell old new status

@@ -1,16 +1,12 @@
-ghost use Rattle.std.specs.Prelude.{◌≡◌, IfOk, ℕ, List, Some, map, true};
-ghost use Rattle.stx_base.specs.Course.{Begins};
-ghost use Rattle.stx_host.specs.Before.{since};
+ghost use Rattle.std.specs.Prelude.{◌≡◌, IfOk, ℕ, List, map};
 ghost use Rattle.stx_host.specs.declared.act.Doc.{Doc};
 ghost use Rattle.command_words.specs.declared.command.Mode.TheVariants as mode;
 ghost use Rattle.run_engine.specs.Run.{IsAtStart};
 ghost use Rattle.sheet_loader.specs.Values.{Reads};
 ghost use Rattle.sheet_model.specs.Sound.{IsSound};
-ghost use Rattle.stx_engine.specs.Answer.{Answer, Asked_for, answer, asked, param_of, runs_none};
+ghost use Rattle.stx_engine.specs.Answer.{param_of};
 ghost use Rattle.stx_engine.specs.Doing.{AreUsual, Does, DoesCommand, DoesWords, RunsAny, asked_by};
-ghost use Rattle.stx_engine.specs.Headline.{AsksSettled, BeginsWell, DoesAll, EndsInLine, FailsForRoom, GivesAnswer, IsPlainStatus, IsStatus, NotesAfterFailure, NotesItsFailure, OpensFirst, ReadsBack, ReadsSheetFirst, ReadsToEnd, RefusesUnnamed, Tells, TellsMain};
-ghost use Rattle.stx_engine.specs.Nesting.{EndsHaveStarts};
-ghost use Rattle.stx_engine.specs.Plain.{takes_in_order};
+ghost use Rattle.stx_engine.specs.Headline.{DoesAll, IsStatus, KeepsMain, KeepsTold, RefusesUnnamed, Tells, TellsMain};
 ghost use Rattle.stx_engine.specs.Running.{Reports, Runs};
 ghost use Rattle.stx_engine.specs.Words.{spelled};
 ghost use Rattle.stx_engine.specs.declared.run_end.RunEnd.TheVariants as end;
@@ -42,34 +38,11 @@ const MEMORY_WANTING: u8 = 7;
 /// fuel is spent, 7 where memory was wanting. Messages stand on the lane `Note`; what stopped the run stands behind them in one
 /// line, and so does what a run on the sample that is done read and wrote.
 pub fn transform<H: Host>(alloc: Global, words: &[String], host: &mut H) -> u8
-    // Of refused words and sheets, of sheets that are looked at alone, and of runs of sheets that take the nodes of the main document alone,
-    // each list in order: where no count of faults rose and memory sufficed, the lanes and the status are exactly the answer.
-    ensures answer { (reads : Reads) (docs : List Doc) (main : List ℕ) (a : Answer) → Tells (H.outside host.old) docs main → answer reads (spelled words.now) docs main ≡ Some a → GivesAnswer (H.outside host.old) (H.outside host.new) result a }
-    // Whenever the main document is read, exactly what the bytes read so far settle was written, and more is needed.
-    ensures reads { (reads : Reads) (docs : List Doc) (main : List ℕ) (a : Answer) → Tells (H.outside host.old) docs main → answer reads (spelled words.now) docs main ≡ Some a → AsksSettled (H.outside host.old) (H.outside host.new) reads (spelled words.now) docs main }
-    // Where the status of a run on the main document is 0 it was read to its end; once its end is known it isn't read any more.
-    ensures ends { (main : List ℕ) → TellsMain (H.outside host.old) main → ReadsToEnd (H.outside host.old) (H.outside host.new) (spelled words.now) main result }
-    // After any stop the output is a beginning of the answer's.
-    ensures prefix { (reads : Reads) (docs : List Doc) (main : List ℕ) (a : Answer) → Tells (H.outside host.old) docs main → answer reads (spelled words.now) docs main ≡ Some a → Begins (since (H.outside host.old).out (H.outside host.new).out) a.out }
-    // No end tag in it lacks its start tag.
-    ensures nested { (reads : Reads) (docs : List Doc) (main : List ℕ) (a : Answer) → Tells (H.outside host.old) docs main → answer reads (spelled words.now) docs main ≡ Some a → EndsHaveStarts (since (H.outside host.old).out (H.outside host.new).out) }
-    // Where the status of a run is 0, what it wrote is read back, by the grammar of XML, as the nodes that the sheet means to put.
-    ensures read_back { (reads : Reads) (docs : List Doc) (main : List ℕ) (k : Asked_for) → Tells (H.outside host.old) docs main → asked reads (spelled words.now) docs ≡ Some k → takes_in_order k.sheet ≡ true → ReadsBack (H.outside host.old) (H.outside host.new) main result k }
-    // Only documents that the answer opens are opened, in its order.
-    ensures opened { (reads : Reads) (docs : List Doc) (main : List ℕ) (a : Answer) → Tells (H.outside host.old) docs main → answer reads (spelled words.now) docs main ≡ Some a → OpensFirst docs a.opened result (since (H.outside host.old).log (H.outside host.new).log) }
-    // Where the host failed or memory was wanting, the line says which and where, behind first messages.
-    ensures failure { (reads : Reads) (docs : List Doc) (main : List ℕ) (a : Answer) → Tells (H.outside host.old) docs main → answer reads (spelled words.now) docs main ≡ Some a → NotesAfterFailure (H.outside host.old) (H.outside host.new) reads (spelled words.now) docs result a }
-    // Where no instruction is run, none has a fault, and no fuel is spent.
-    ensures plain { (reads : Reads) (docs : List Doc) (main : List ℕ) → Tells (H.outside host.old) docs main → runs_none reads (spelled words.now) docs ≡ true → IsPlainStatus result }
-    // Where the host tells what it has room for, and that suffices for what is done and for the answer, no count of faults changes.
-    ensures room { (reads : Reads) (docs : List Doc) (main : List ℕ) (a : Answer) → Tells (H.outside host.old) docs main → answer reads (spelled words.now) docs main ≡ Some a → FailsForRoom (H.outside host.old) (H.outside host.new) result a }
-    // Whatever the sheet does: its files are opened before all else, in their order, and read no further than it takes to decide it;
-    ensures sheet { (reads : Reads) (docs : List Doc) (main : List ℕ) → Tells (H.outside host.old) docs main → ReadsSheetFirst (H.outside host.old) (H.outside host.new) reads (spelled words.now) docs result }
-    // the output begins with its head, which is written before the main document is read;
-    ensures begins { (main : List ℕ) → TellsMain (H.outside host.old) main → BeginsWell (H.outside host.old) (H.outside host.new) result }
-    // the last line is that of an end with this status, also where the host failed or memory was wanting.
-    ensures line { (reads : Reads) (docs : List Doc) (main : List ℕ) → Tells (H.outside host.old) docs main → EndsInLine (H.outside host.old) (H.outside host.new) reads (spelled words.now) docs result }
-    ensures failed { (reads : Reads) (docs : List Doc) (main : List ℕ) → Tells (H.outside host.old) docs main → NotesItsFailure (H.outside host.old) (H.outside host.new) reads (spelled words.now) docs result }
+    // Where the host tells its documents, the main one among them, its log, its lanes and which ids are open: where there is an answer, output,
+    // messages and status are it, and what the bytes read so far settle of it was written whenever more is read;
+    ensures told { (reads : Reads) (docs : List Doc) (main : List ℕ) → Tells (H.outside host.old) docs main → KeepsTold (H.outside host.old) (H.outside host.new) reads (spelled words.now) docs main result }
+    // where it tells the main one, its log and its lanes: whether that was read to its end, and with what the output begins.
+    ensures main { (main : List ℕ) → TellsMain (H.outside host.old) main → KeepsMain (H.outside host.old) (H.outside host.new) (spelled words.now) main result }
     // For every host, whatever it tells: all that was done, one after the other;
     ensures does { DoesAll (H.outside host.old) (H.outside host.new) (spelled words.now) result }
     // the statuses that there are, when words are refused, and that each id is given back.
