@@ -5,7 +5,7 @@ use Rattle.std.specs.Option.{option_and_then, option_map}
 use Rattle.std.specs.Prelude.{if◌then◌else◌}
 use Rattle.stx_base.specs.declared.limits.Limits.{Limits}
 use Rattle.stx_host.proofs.ToCome.{with_here, with_other}
-use Rattle.stx_host.specs.Outside.{Closes, MayOpen, Opens, Outside, and_more, document, place}
+use Rattle.stx_host.specs.Outside.{Closes, MayOpen, Opens, Outside, SameCounts, and_more, document, place}
 use Rattle.stx_host.specs.declared.act.Act.{Act}
 use Rattle.stx_host.specs.declared.act.Act.TheVariants.{Open}
 use Rattle.stx_host.specs.declared.act.Doc.{Doc}
@@ -13,7 +13,7 @@ use Rattle.stx_host.specs.declared.act.Opened.TheVariants.{Absent as Gone, Id}
 use Rattle.sheet_loader.specs.Files.{changed}
 use Rattle.sheet_loader.specs.Levels.{name_at}
 use Rattle.sheet_files.specs.Acts.{given_for, opens, read_since_open}
-use Rattle.sheet_files.specs.Held.{AreGiven, AreHeld, AreLimited, AreNumbered, HasRest, IsWithin, SameCounts, came_of, ids_of, names_of, seen_of, with_going}
+use Rattle.sheet_files.specs.Held.{AreGiven, AreHeld, AreLimited, AreNumbered, HasRest, IsWithin, came_of, ids_of, names_of, seen_of, with_going}
 use Rattle.sheet_files.specs.Opened.{Absent, AreOf, Begun, Came, IsOf, Seen, Whole, place_told, places, whole}
 use Rattle.sheet_files.specs.Steps.{AreCloses}
 use Rattle.sheet_files.specs.declared.going.Going.{Going}

@@ -5,14 +5,14 @@ use Rattle.std.proofs.lemmas.Bool.Decides.{nat_tests}
 use Rattle.stx_host.proofs.Stretches.{between_close, between_joins, between_open, between_read, nothing_between}
 use Rattle.stx_host.specs.Before.{is_main_read}
 use Rattle.stx_host.specs.Laws.{Later, open_acts}
-use Rattle.stx_host.specs.Outside.{Closes, DocFault, MayOpen, Opens, Outside, Reads, ReadFault, Rose}
+use Rattle.stx_host.specs.Outside.{Closes, DocFault, MayOpen, Opens, Outside, Reads, ReadFault, Rose, SameCounts}
 use Rattle.stx_host.specs.declared.act.Act.{Act}
 use Rattle.stx_host.specs.declared.act.Act.TheVariants.{Close, Open, Read, Write}
 use Rattle.stx_host.specs.declared.act.Got.TheVariants.{Bytes, End, Failed as Unread}
 use Rattle.stx_host.specs.declared.act.Opened.{Opened}
 use Rattle.stx_host.specs.declared.act.Opened.TheVariants.{Absent, Failed, Id, Memory}
 use Rattle.sheet_files.specs.Acts.{given_behind, is_long_read, is_write, opens, read_behind}
-use Rattle.sheet_files.specs.Held.{HaveDone, SameCounts}
+use Rattle.sheet_files.specs.Held.{HaveDone}
 use Rattle.sheet_files.specs.Steps.{AreCloses, HasFailed}
 use Rattle.sheet_files.proofs.Acting.{none_more}
 

@@ -3,7 +3,7 @@ use Rattle.std.proofs.Common.{◌≡◌, ℕ, ◌<◌, true, false, List, [], �
 use Rattle.std.specs.Option.{option_and_then}
 use Rattle.stx_base.specs.declared.limits.Limits.{Limits}
 use Rattle.stx_host.proofs.OpenIds.{given_is_open}
-use Rattle.stx_host.specs.Outside.{Closes, IsOpen, MayOpen, Opens, Outside, and_more, is_among, opened, place}
+use Rattle.stx_host.specs.Outside.{Closes, IsOpen, MayOpen, Opens, Outside, SameCounts, and_more, is_among, opened, place}
 use Rattle.stx_host.specs.declared.act.Act.{Act}
 use Rattle.stx_host.specs.declared.act.Act.TheVariants.{Open}
 use Rattle.stx_host.specs.declared.act.Doc.{Doc}
@@ -16,7 +16,7 @@ use Rattle.sheet_loader.proofs.Ending.{comes_to_one}
 use Rattle.sheet_loader.proofs.Readers.{in_one_way}
 use Rattle.sheet_loader.specs.Levels.{name_at}
 use Rattle.sheet_loader.specs.Loaders.{EndsInFault, GivesSheet, Standing, is_over, wanted_in}
-use Rattle.sheet_files.specs.Held.{AreNumbered, IsHeld, IsWithin, SameCounts, ids_of, names_of}
+use Rattle.sheet_files.specs.Held.{AreNumbered, IsHeld, IsWithin, ids_of, names_of}
 use Rattle.sheet_files.specs.Loading.{LoadsTo}
 use Rattle.sheet_files.specs.Reading.{IsRead, IsReadBy}
 use Rattle.sheet_files.specs.Steps.{Enters, FailsAs, Finishes, IsEmpty, IsFresh, IsHalted, IsLastOpen, KeepsFiles, LeavesAll, OpensFirst, OpensOwn, StepsTo, names_to}

@@ -1,8 +1,8 @@
 -- How all files that are being read are given back.
 use Rattle.std.proofs.Common.{◌≡◌, ℕ, ◌<◌, List, [], ◌∷◌, ◌++◌, length, Option, Some, None, refl, sym, ap, ◌∙◌, arith, append_assoc, length-append}
-use Rattle.stx_host.specs.Outside.{Outside, and_more}
+use Rattle.stx_host.specs.Outside.{Outside, SameCounts, and_more}
 use Rattle.stx_host.specs.declared.act.Act.{Act}
-use Rattle.sheet_files.specs.Held.{HaveDone, IsHeld, SameCounts, ids_of}
+use Rattle.sheet_files.specs.Held.{HaveDone, IsHeld, ids_of}
 use Rattle.sheet_files.specs.Steps.{AreCloses, Leaves, LeavesAll, files_left}
 use Rattle.sheet_files.specs.declared.going.Going.{Going}
 use Rattle.sheet_files.specs.declared.reading.Reading.{Reading}

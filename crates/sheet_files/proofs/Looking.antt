@@ -2,7 +2,7 @@
 use Rattle.std.proofs.Common.{◌≡◌, ℕ, suc, ◌+◌, ◌<◌, ◌≤◌, Bool, true, false, List, [], ◌∷◌, ◌++◌, length, get_or, Option, None, IfSome, Ok, Err, refl, sym, ap, subst, ◌∙◌, arith, inl, inr}
 use Rattle.std.specs.Vec.{vec_len}
 use Rattle.stx_base.specs.declared.limits.Limits.{Limits}
-use Rattle.stx_host.specs.Outside.{LacksRoom, Outside, ReadFault, Reads, and_more, for_act}
+use Rattle.stx_host.specs.Outside.{LacksRoom, Outside, ReadFault, Reads, SameCounts, and_more, for_act}
 use Rattle.stx_host.specs.declared.act.Act.{Act}
 use Rattle.stx_host.specs.declared.act.Act.TheVariants.{Read}
 use Rattle.stx_host.specs.declared.act.Got.TheVariants.{End}
@@ -13,7 +13,7 @@ use Rattle.sheet_loader.proofs.Ending.{comes_to_one}
 use Rattle.sheet_loader.proofs.Resuming.{cuts_list, takes_element}
 use Rattle.sheet_loader.specs.Loaders.{EndsAtLimit, Standing, is_over, wanted_in}
 use Rattle.sheet_files.specs.Acts.{opens}
-use Rattle.sheet_files.specs.Held.{AreHeld, HaveDone, IsHeld, IsWithin, SameCounts, ids_of, kept_most, names_of, turns_left, turns_of}
+use Rattle.sheet_files.specs.Held.{AreHeld, HaveDone, IsHeld, IsWithin, ids_of, kept_most, names_of, turns_left, turns_of}
 use Rattle.sheet_files.specs.Opened.{places}
 use Rattle.sheet_files.specs.Reading.{IsRead, IsReadBy, WantsBytes}
 use Rattle.sheet_files.specs.Steps.{Gets, HandsOver, IsHalted, Looks, StayUndecided, StepsTo}

@@ -6,7 +6,7 @@ use Rattle.stx_base.specs.declared.fault.SheetFault.{SheetFault}
 use Rattle.stx_base.specs.declared.limits.Limits.{Limits}
 use Rattle.stx_host.specs.Laws.{CountsLater, Later}
 use Rattle.stx_host.proofs.Lacking.{lacks_more, needs_more}
-use Rattle.stx_host.specs.Outside.{LacksRoom, MayOpen, Opens, Outside, document, for_id, place}
+use Rattle.stx_host.specs.Outside.{LacksRoom, MayOpen, Opens, Outside, SameCounts, document, for_id, place}
 use Rattle.stx_host.specs.Rooms.{needed}
 use Rattle.stx_host.specs.declared.act.Act.{Act}
 use Rattle.stx_host.specs.declared.act.Act.TheVariants.{Open}
@@ -20,7 +20,7 @@ use Rattle.sheet_loader.specs.Levels.{name_at}
 use Rattle.sheet_loader.specs.Loaders.{EndsInFault, GivesSheet, Standing, is_over}
 use Rattle.sheet_loader.specs.Values.{Reads}
 use Rattle.sheet_files.specs.Acts.{NoneBehindEnd, given_for, opens, read_since_open}
-use Rattle.sheet_files.specs.Held.{AreNumbered, HasRest, HaveDone, IsWithin, SameCounts, names_of, seen_of, with_going}
+use Rattle.sheet_files.specs.Held.{AreNumbered, HasRest, HaveDone, IsWithin, names_of, seen_of, with_going}
 use Rattle.sheet_files.specs.Loading.{FailsAfter, FailsInOrder, LoadCounts, LoadsTo, NamesFile}
 use Rattle.sheet_files.specs.Opened.{Absent, AreOf, Came, Seen, Whole, documents_told, names_in, place_told, places, whole}
 use Rattle.sheet_files.specs.Reading.{AllEnded, IsReadBy}

@@ -5,7 +5,7 @@ use Rattle.std.specs.Option.{option_map}
 use Rattle.std.specs.Prelude.{if◌then◌else◌}
 use Rattle.stx_base.specs.declared.limits.Limits.{Limits}
 use Rattle.stx_host.proofs.ToCome.{with_here, with_other}
-use Rattle.stx_host.specs.Outside.{Outside, Reads}
+use Rattle.stx_host.specs.Outside.{Outside, Reads, SameCounts}
 use Rattle.stx_host.specs.declared.act.Act.{Act}
 use Rattle.stx_host.specs.declared.act.Act.TheVariants.{Read}
 use Rattle.stx_host.specs.declared.act.Doc.{Doc}
@@ -15,7 +15,7 @@ use Rattle.sheet_loader.specs.Lists.{FilesAre}
 use Rattle.sheet_loader.specs.Loaders.{Standing, is_over, wanted_in}
 use Rattle.sheet_loader.specs.Remaining.{Ended, Progress, Reads_on, Refused_at, Spent, Wants_file}
 use Rattle.sheet_files.specs.Acts.{read_behind}
-use Rattle.sheet_files.specs.Held.{AreHeld, IsWithin, SameCounts, came_of}
+use Rattle.sheet_files.specs.Held.{AreHeld, IsWithin, came_of}
 use Rattle.sheet_files.specs.Opened.{Begun, IsOf, Seen, Whole}
 use Rattle.sheet_files.specs.Reading.{IsRead, IsReadBy}
 use Rattle.sheet_files.specs.Steps.{Gets, StayUndecided, StepsTo}

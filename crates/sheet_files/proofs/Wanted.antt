@@ -3,7 +3,7 @@ use Rattle.std.proofs.Common.{◌≡◌, ℕ, ◌+◌, ◌<◌, true, false, Lis
 use Rattle.std.specs.Option.{option_and_then}
 use Rattle.stx_base.specs.declared.limits.Limits.{Limits}
 use Rattle.stx_base.specs.declared.memory.Memory.{Memory}
-use Rattle.stx_host.specs.Outside.{Closes, DocFault, LacksRoom, MayOpen, Opens, Outside, and_more, for_id, place}
+use Rattle.stx_host.specs.Outside.{Closes, DocFault, LacksRoom, MayOpen, Opens, Outside, SameCounts, and_more, for_id, place}
 use Rattle.stx_host.specs.Rooms.{needed}
 use Rattle.stx_host.specs.declared.act.Act.{Act}
 use Rattle.stx_host.specs.declared.act.Act.TheVariants.{Open}
@@ -15,7 +15,7 @@ use Rattle.sheet_loader.specs.Lists.{IsReading}
 use Rattle.sheet_loader.specs.Loaders.{MissesIt, OpensName, Standing, is_over, wanted_in}
 use Rattle.sheet_loader.specs.Remaining.{Ended, Progress, Reads_on, Refused_at, Spent, Wants_file}
 use Rattle.sheet_files.specs.Acts.{NoneBehindEnd, opens}
-use Rattle.sheet_files.specs.Held.{IsHeld, IsWithin, SameCounts, ids_of, names_of, turns_left, turns_of}
+use Rattle.sheet_files.specs.Held.{IsHeld, IsWithin, ids_of, names_of, turns_left, turns_of}
 use Rattle.sheet_files.specs.Opened.{Absent as Gone, Seen, place_told, places}
 use Rattle.sheet_files.specs.Reading.{IsRead, IsReadBy, WantsFile}
 use Rattle.sheet_files.specs.Steps.{Includes, IsFresh, IsHalted, Lessens, StayUndecided, StepsTo}

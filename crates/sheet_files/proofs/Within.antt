@@ -6,13 +6,13 @@ use Rattle.std.proofs.lemmas.List.Quantifiers.{position-Some}
 use Rattle.std.specs.Option.{option_and_then, option_map}
 use Rattle.std.specs.Prelude.{bytes_eq}
 use Rattle.stx_base.specs.declared.limits.Limits.{Limits}
-use Rattle.stx_host.specs.Outside.{Outside, and_more, document, place}
+use Rattle.stx_host.specs.Outside.{Outside, SameCounts, and_more, document, place}
 use Rattle.stx_host.specs.declared.act.Act.{Act}
 use Rattle.stx_host.specs.declared.act.Doc.{Doc}
 use Rattle.sheet_loader.specs.Files.{changed}
 use Rattle.sheet_loader.specs.Levels.{name_at}
 use Rattle.sheet_files.specs.Acts.{given_behind, given_for, opens, read_behind, read_since_open}
-use Rattle.sheet_files.specs.Held.{AreGiven, AreHeld, AreNumbered, AreOnce, HasRest, HaveDone, IsWithin, SameCounts, came_of, ids_of, names_of, seen_of, with_going}
+use Rattle.sheet_files.specs.Held.{AreGiven, AreHeld, AreNumbered, AreOnce, HasRest, HaveDone, IsWithin, came_of, ids_of, names_of, seen_of, with_going}
 use Rattle.sheet_files.specs.Opened.{AreOf, IsOf, names_in, place_told, places, whole}
 use Rattle.sheet_files.specs.declared.going.Going.{Going}
 use Rattle.sheet_files.proofs.Acting.{given_more, opens_more, read_more}

@@ -3,7 +3,7 @@ use Rattle.std.specs.Prelude.{◌≡◌, ℕ, suc, ◌+◌, ◌-◌, ◌*◌, �
 use Rattle.std.specs.List.{list_any}
 use Rattle.stx_base.specs.declared.limits.Limits.{Limits}
 use Rattle.stx_host.specs.Before.{Between, is_main_read}
-use Rattle.stx_host.specs.Outside.{Outside, and_more, document, is_among}
+use Rattle.stx_host.specs.Outside.{Outside, SameCounts, and_more, document, is_among}
 use Rattle.stx_host.specs.declared.act.Act.{Act}
 use Rattle.stx_host.specs.declared.act.Act.TheVariants.{Open, Read}
 use Rattle.stx_host.specs.declared.act.Doc.{Doc}
@@ -102,13 +102,6 @@ pub record HaveDone (start o : Outside) (acts : List Act) : Type 0 where
   pub no_write : list_any is_write acts ≡ false
   pub no_main_read : list_any is_main_read acts ≡ false
   pub no_long_read : list_any is_long_read acts ≡ false
-
--- no count of failures has risen
-pub record SameCounts (start o : Outside) : Type 0 where
-  pub doc : o.doc_faults ≡ start.doc_faults
-  pub main : o.main_faults ≡ start.main_faults
-  pub out : o.out_faults ≡ start.out_faults
-  pub note : o.note_faults ≡ start.note_faults
 
 -- what was done since a moment, and what came of it
 pub record IsWithin (start o : Outside) (going : List Going) (files : List Doc) (missing : List Seen) (acts : List Act) : Type 0 where

@@ -3,7 +3,7 @@ use Rattle.std.specs.Prelude.{◌≡◌, ℕ, Bool, ◌+◌, ◌<◌, ◌≤◌,
 use Rattle.stx_base.specs.declared.limits.Limits.{Limits}
 use Rattle.stx_base.specs.declared.memory.Memory.{Memory}
 use Rattle.stx_host.specs.Laws.{Later}
-use Rattle.stx_host.specs.Outside.{Closes, LacksRoom, MayOpen, Opens, Outside, ReadFault, Reads as HostReads, Rose, and_more, document, for_act, is_among}
+use Rattle.stx_host.specs.Outside.{Closes, LacksRoom, MayOpen, Opens, Outside, ReadFault, Reads as HostReads, Rose, SameCounts, and_more, document, for_act, is_among}
 use Rattle.stx_host.specs.Rooms.{needed}
 use Rattle.stx_host.specs.declared.act.Act.{Act}
 use Rattle.stx_host.specs.declared.act.Act.TheVariants.{Close, Read}
@@ -31,7 +31,7 @@ use Rattle.sheet_loader.specs.Values.{Reads}
 use Rattle.sheet_loader.specs.Versions.{language, version_of}
 use Rattle.stx_base.specs.Course.{Begins, Say}
 use Rattle.sheet_files.specs.Acts.{NoneBehindEnd, given_for, opens, read_since_open}
-use Rattle.sheet_files.specs.Held.{HaveDone, IsWithin, SameCounts, ids_of, names_of, turns_of}
+use Rattle.sheet_files.specs.Held.{HaveDone, IsWithin, ids_of, names_of, turns_of}
 use Rattle.sheet_files.specs.Opened.{Seen, documents_told, place_told, places}
 use Rattle.sheet_files.specs.Reading.{HasLast, IsRead}
 use Rattle.sheet_files.specs.Undecided.{IsUndecided}

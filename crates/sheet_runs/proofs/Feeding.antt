@@ -10,7 +10,7 @@ use Rattle.std.proofs.lemmas.List.Folds.{concat-append}
 use Rattle.std.proofs.Math.Seq.{drop-append_seam}
 use Rattle.stx_base.specs.Course.{Begins}
 use Rattle.stx_host.specs.Before.{AtMainReads, Between, main_read}
-use Rattle.stx_host.specs.Outside.{GivesBytes, Outside, Reads, with_bytes}
+use Rattle.stx_host.specs.Outside.{GivesBytes, Outside, Reads, SameCounts, with_bytes}
 use Rattle.stx_host.specs.declared.act.Act.{Act}
 use Rattle.stx_host.specs.declared.act.Act.TheVariants.{Read}
 use Rattle.stx_host.specs.declared.act.Got.TheVariants.{Bytes as Got', End as GotEnd}
@@ -21,7 +21,6 @@ use Rattle.run_engine.specs.Taking.{ended_first, fed_first, handed}
 use Rattle.run_engine.specs.declared.piece.Piece.TheVariants as piece
 use Rattle.run_engine.specs.declared.piece.Pumped.TheVariants as pumped
 use Rattle.sheet_files.specs.Acts.{opens}
-use Rattle.sheet_runs.specs.Counts.{SameCounts}
 use Rattle.sheet_runs.specs.Reading.{EndOnce, ReadsOpened, TakesPieces, main_gots}
 use Rattle.sheet_runs.specs.Runs.{IsAsked}
 use Rattle.sheet_runs.specs.Talk.{Besides, Leads, beside_in, beside_with, bytes_in, is_main_end, main_bytes, main_ends, main_in, name_asked, names_in, none_beside, notes_in}

@@ -9,7 +9,7 @@ use Rattle.stx_base.specs.Course.{Begins}
 use Rattle.stx_host.specs.Before.{AtMainReads, Between, main_read}
 use Rattle.stx_host.proofs.Lacking.{needs_for, openings-append}
 use Rattle.stx_host.specs.Rooms.{needed}
-use Rattle.stx_host.specs.Outside.{Closes, DocFault, LacksRoom, MainFault, MayOpen, NoteFault, Opens, OutFault, Outside, ReadFault, Rose, and_more, for_act, for_id, for_writes, place, wrote, writes}
+use Rattle.stx_host.specs.Outside.{Closes, DocFault, LacksRoom, MainFault, MayOpen, NoteFault, Opens, OutFault, Outside, ReadFault, Rose, SameCounts, and_more, for_act, for_id, for_writes, place, wrote, writes}
 use Rattle.stx_host.specs.declared.act.Act.{Act}
 use Rattle.stx_host.specs.declared.act.Act.TheVariants.{Close, Open as OpenAct, Write}
 use Rattle.stx_host.specs.declared.act.Got.TheVariants.{Failed as Unread}
@@ -24,7 +24,7 @@ use Rattle.run_engine.specs.Run as spec
 use Rattle.run_engine.specs.Run.{CanStop, Open, Run, Says, Stage, StandsAt, outcome_in}
 use Rattle.run_engine.specs.declared.piece.Pumped.{Pumped}
 use Rattle.run_engine.specs.declared.piece.Pumped.TheVariants as pumped
-use Rattle.sheet_runs.specs.Counts.{CountsAt, CountsBy, FailsBy, IfFailed, SameCounts}
+use Rattle.sheet_runs.specs.Counts.{CountsAt, CountsBy, FailsBy, IfFailed}
 use Rattle.sheet_runs.specs.Reading.{ReadsOpened}
 use Rattle.sheet_runs.specs.Runs.{EndsBy, HandsMain, HandsOthers, IsAsked, NewestIs, OpensNames, RunsSheet, Writes, WritesAll, WritesFront}
 use Rattle.sheet_runs.specs.Talk.{Exchange, Leads, beside_in, bytes_in, main_ends, main_in, names_in, none_beside, notes_in}

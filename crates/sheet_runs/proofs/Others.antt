@@ -6,7 +6,7 @@ use Rattle.std.proofs.lemmas.Bool.{false≢true}
 use Rattle.std.proofs.lemmas.Bool.Decides.{nat_tests}
 use Rattle.std.proofs.lemmas.List.{append-nil, map-append}
 use Rattle.stx_host.specs.Before.{AtMainReads, Between, is_main_read, main_read}
-use Rattle.stx_host.specs.Outside.{Closes, GivesBytes, MayOpen, Opens, Outside, Reads, place}
+use Rattle.stx_host.specs.Outside.{Closes, GivesBytes, MayOpen, Opens, Outside, Reads, SameCounts, place}
 use Rattle.stx_host.specs.declared.act.Act.{Act}
 use Rattle.stx_host.specs.declared.act.Act.TheVariants.{Close, Open as OpenAct, Read}
 use Rattle.stx_host.specs.declared.act.Got.TheVariants.{Bytes as Got', End as GotEnd}
@@ -21,7 +21,6 @@ use Rattle.run_engine.specs.declared.piece.Piece.TheVariants as piece
 use Rattle.run_engine.specs.declared.piece.Pumped.{Pumped}
 use Rattle.run_engine.specs.declared.piece.Pumped.TheVariants as pumped
 use Rattle.sheet_files.specs.Acts.{opens}
-use Rattle.sheet_runs.specs.Counts.{SameCounts}
 use Rattle.sheet_runs.specs.Reading.{main_gots}
 use Rattle.sheet_runs.specs.Runs.{IsAsked}
 use Rattle.sheet_runs.specs.Talk.{Besides, Leads, beside_in, beside_with, is_main_end, main_bytes, main_ends, main_in, more_in_first, name_asked, names_in, none_beside}

@@ -6,7 +6,7 @@ use Rattle.std.proofs.lemmas.Bool.{false≢true}
 use Rattle.std.proofs.lemmas.List.{append-nil}
 use Rattle.stx_base.specs.declared.limits.Limits.{Limits}
 use Rattle.stx_host.specs.Before.{AtMainReads, Between, is_main_read, main_read}
-use Rattle.stx_host.specs.Outside.{Outside, wrote, writes}
+use Rattle.stx_host.specs.Outside.{Outside, SameCounts, wrote, writes}
 use Rattle.stx_host.specs.declared.act.Act.{Act}
 use Rattle.stx_host.specs.declared.act.Lane.TheVariants.{Note, Out}
 use Rattle.stx_host.proofs.Stretches.{between_joins, between_writes, main_read-append, main_read-writes, main_reads_writes, nothing_between}
@@ -15,7 +15,6 @@ use Rattle.run_engine.specs.Taking.{handed}
 use Rattle.run_engine.specs.declared.piece.Piece.{Piece}
 use Rattle.run_engine.specs.declared.piece.Piece.TheVariants as piece
 use Rattle.run_engine.specs.declared.piece.Pumped.{Pumped}
-use Rattle.sheet_runs.specs.Counts.{SameCounts}
 use Rattle.sheet_runs.specs.Reading.{main_gots}
 use Rattle.sheet_runs.specs.Runs.{HandsMain, IsAsked, IsBegun}
 use Rattle.sheet_runs.specs.Talk.{Exchange, Gives, Leads, beside_in, beside_with, is_main_end, main_bytes, main_ends, main_in, name_asked, none_beside}

@@ -1,19 +1,12 @@
 -- What becomes of the counts of faults.
 use Rattle.std.specs.Prelude.{◌≡◌, ◌⊎◌, ℕ, codes}
-use Rattle.stx_host.specs.Outside.{Outside, Rose}
+use Rattle.stx_host.specs.Outside.{Outside, Rose, SameCounts}
 use Rattle.fault_report.specs.declared.outcome.HostFault.{HostFault}
 use Rattle.fault_report.specs.declared.outcome.HostFault.TheVariants as fault
 use Rattle.fault_report.specs.declared.outcome.Outcome.{Outcome}
 use Rattle.fault_report.specs.declared.outcome.Outcome.TheVariants.{Host, Memory}
 use Rattle.sheet_runs.specs.declared.run.End.{End}
 use Rattle.sheet_runs.specs.declared.run.End.TheVariants.{Told, Unnoted}
-
--- no count of faults changed
-pub record SameCounts (old new : Outside) : Type 0 where
-  pub doc : new.doc_faults ≡ old.doc_faults
-  pub main : new.main_faults ≡ old.main_faults
-  pub out : new.out_faults ≡ old.out_faults
-  pub note : new.note_faults ≡ old.note_faults
 
 -- a fault raised its count, and no other changed
 abbrev pub RoseBy : HostFault → (old new : Outside) → Type 0

@@ -7,7 +7,7 @@ use Rattle.std.proofs.lemmas.Option.{none-some, same_Some}
 use Rattle.stx_base.specs.Course.{Begins}
 use Rattle.stx_host.specs.declared.act.Act.{Act}
 use Rattle.stx_host.specs.Before.{AtMainReads, Taken}
-use Rattle.stx_host.specs.Outside.{LacksRoom, Outside}
+use Rattle.stx_host.specs.Outside.{LacksRoom, Outside, SameCounts}
 use Rattle.stx_host.specs.Rooms.{needed}
 use Rattle.stx_host.specs.declared.act.Doc.{Doc}
 use Rattle.stx_host.proofs.Lacking.{needs_after}
@@ -29,7 +29,6 @@ use Rattle.command_words.specs.declared.command.Mode.{Mode}
 use Rattle.command_words.specs.declared.command.Mode.TheVariants.{Run as AsksRun, Check, Sample}
 use Rattle.run_engine.specs.Run.{IsAtStart, Run}
 use Rattle.sample_maker.specs.Document as sample
-use Rattle.sheet_runs.specs.Counts.{SameCounts}
 use Rattle.sheet_runs.specs.Counts as run_counts
 use Rattle.sheet_runs.specs.Meant.{IsDocument, IsOnOther, IsSettledOn, KeepsMeaning, RunsKeepMeaning}
 use Rattle.sheet_runs.specs.Runs.{RunsSheet}

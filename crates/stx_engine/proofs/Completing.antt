@@ -5,12 +5,11 @@ use Rattle.stx_base.specs.Course.{Begins}
 use Rattle.fault_report.specs.Line.{line_of}
 use Rattle.fault_report.specs.declared.outcome.Outcome.TheVariants.{Done, Fuel, Host, Memory, Run, Sheet, Usage, Xml}
 use Rattle.sheet_loader.specs.Values.{Reads}
-use Rattle.sheet_runs.specs.Counts.{SameCounts}
 use Rattle.stx_host.proofs.CopiedSoFar.{since_told}
 use Rattle.stx_host.proofs.Lacking.{lacks_more, lacks_since, needs_for}
 use Rattle.stx_host.proofs.Stretches.{and_nothing, between_joins, between_writes}
 use Rattle.stx_host.specs.Before.{Between, since}
-use Rattle.stx_host.specs.Outside.{LacksRoom, Outside, for_writes, writes, wrote}
+use Rattle.stx_host.specs.Outside.{LacksRoom, Outside, SameCounts, for_writes, writes, wrote}
 use Rattle.stx_host.specs.Rooms.{needed}
 use Rattle.stx_host.specs.declared.act.Act.{Act}
 use Rattle.stx_host.specs.declared.act.Act.TheVariants.{Write}

@@ -6,19 +6,19 @@ use Rattle.std.proofs.lemmas.List.{append-nil}
 use Rattle.stx_base.specs.Course.{Begins}
 use Rattle.command_words.specs.Words.{command_of}
 use Rattle.stx_host.specs.Before.{AtMainReads, Between, Taken, main_read, since}
-use Rattle.stx_host.specs.Outside.{Outside, Rose, writes}
+use Rattle.stx_host.specs.Outside.{Outside, Rose, SameCounts, TellsMain, writes}
 use Rattle.stx_host.specs.declared.act.Act.{Act}
 use Rattle.stx_host.specs.declared.act.Doc.{Doc}
 use Rattle.stx_host.specs.declared.act.Lane.TheVariants.{Note}
 use Rattle.stx_host.proofs.CopiedSoFar.{since_told}
 use Rattle.stx_host.proofs.Stretches.{between_joins, main_reads_writes, main_read-append, main_read-writes}
 use Rattle.sheet_loader.specs.Values.{Reads}
-use Rattle.sheet_runs.specs.Counts.{CountsBy, SameCounts}
+use Rattle.sheet_runs.specs.Counts.{CountsBy}
 use Rattle.sheet_runs.specs.Reading.{EndOnce, main_gots}
 use Rattle.run_engine.specs.Run.{head}
 use Rattle.stx_engine.specs.Answer.{Answer, loaded, note_of, runs_none, sheet_named}
 use Rattle.stx_engine.specs.Running.{Asks, CountsIn, FailedIn, FailedOn, FailedOnSheet, HasHead, IfDocFailed, IsAnswered, LoadsFirst, OpensNames, RefusesWords, Reports, Runs, RunsAnswered, RunsMain, RunsTold, TakesParts, UnlessFailed, unwritten_status}
-use Rattle.stx_engine.specs.Headline.{AsksSettled, BeginsWell, EndsInLine, GivesAnswer, IsFailure, IsPlainStatus, IsStatus, NotesAfterFailure, NotesFailure, NotesItsFailure, OpensFirst, ReadsSheetFirst, ReadsToEnd, RefusesUnnamed, RoseFor, SomeGreater, SomeRose, Tells, TellsMain}
+use Rattle.stx_engine.specs.Headline.{AsksSettled, BeginsWell, EndsInLine, GivesAnswer, IsFailure, IsPlainStatus, IsStatus, NotesAfterFailure, NotesFailure, NotesItsFailure, OpensFirst, ReadsSheetFirst, ReadsToEnd, RefusesUnnamed, RoseFor, SomeGreater, SomeRose, Tells}
 use Rattle.fault_report.specs.Line.{line_of, status_of}
 use Rattle.fault_report.specs.declared.outcome.HostFault.{HostFault}
 use Rattle.fault_report.specs.declared.outcome.HostFault.TheVariants as fault

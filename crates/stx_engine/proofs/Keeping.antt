@@ -2,11 +2,11 @@
 use Rattle.std.proofs.Common.{◌≡◌, ℕ, true, List, Some}
 use Rattle.stx_base.specs.Course.{Begins}
 use Rattle.stx_host.specs.Before.{since}
-use Rattle.stx_host.specs.Outside.{Outside}
+use Rattle.stx_host.specs.Outside.{Outside, TellsMain}
 use Rattle.stx_host.specs.declared.act.Doc.{Doc}
 use Rattle.sheet_loader.specs.Values.{Reads}
 use Rattle.stx_engine.specs.Answer.{Answer, Asked_for, answer, asked}
-use Rattle.stx_engine.specs.Headline.{KeepsAnswer, KeepsMain, KeepsTold, ReadsBack, Tells, TellsMain}
+use Rattle.stx_engine.specs.Headline.{KeepsAnswer, KeepsMain, KeepsTold, ReadsBack, Tells}
 use Rattle.stx_engine.specs.Laws.{AnswersAreRead, AnswersNest}
 use Rattle.stx_engine.specs.Plain.{takes_in_order}
 use Rattle.stx_engine.specs.RunEnd.{line_in, status_in}

@@ -15,7 +15,7 @@ use Rattle.command_words.specs.declared.command.Command.{Command}
 use Rattle.command_words.specs.declared.command.Mode.{Mode}
 use Rattle.command_words.specs.declared.command.Mode.TheVariants.{Run, Check, Sample}
 use Rattle.stx_host.specs.Before.{AtMainReads, Between, Taken, before, is_main_read, main_read}
-use Rattle.stx_host.specs.Outside.{Outside, Rose, document, place}
+use Rattle.stx_host.specs.Outside.{Outside, Rose, SameCounts, document, place}
 use Rattle.stx_host.specs.declared.act.Act.{Act}
 use Rattle.stx_host.specs.declared.act.Doc.{Doc}
 use Rattle.stx_host.proofs.Stretches.{between_joins, main_reads_join, main_read-append, nothing_between}
@@ -30,7 +30,7 @@ use Rattle.sheet_files.specs.declared.load.Loaded.{Loaded}
 use Rattle.sheet_loader.specs.Files.{loads}
 use Rattle.sheet_loader.specs.Values.{Reads}
 use Rattle.sheet_model.specs.declared.sheet.Sheet as model
-use Rattle.sheet_runs.specs.Counts.{CountsBy, SameCounts}
+use Rattle.sheet_runs.specs.Counts.{CountsBy}
 use Rattle.sheet_runs.specs.Reading.{EndOnce, is_doc_read, main_gots}
 use Rattle.run_engine.specs.Run.{head}
 use Rattle.template_machine.specs.Ending.{Ending, Said}

@@ -3,7 +3,7 @@ use Rattle.std.specs.Prelude.{◌≡◌, ◌≢◌, ◌↔◌, ℕ, ◌<◌, ◌
 use Rattle.std.specs.List.{list_any}
 use Rattle.stx_base.specs.Course.{Begins}
 use Rattle.stx_host.specs.Before.{AtMainReads, main_read, since}
-use Rattle.stx_host.specs.Outside.{LacksRoom, Outside, Rose, place}
+use Rattle.stx_host.specs.Outside.{LacksRoom, Outside, Rose, SameCounts, place}
 use Rattle.stx_host.specs.Rooms.{needed}
 use Rattle.stx_host.specs.declared.act.Act.{Act}
 use Rattle.stx_host.specs.declared.act.Doc.{Doc}
@@ -13,7 +13,6 @@ use Rattle.stx_engine.specs.Nesting.{EndsHaveStarts}
 use Rattle.stx_engine.specs.Plain.{takes_in_order}
 use Rattle.stx_engine.specs.ReadBack.{IsRead}
 use Rattle.stx_engine.specs.Doing.{DoesWords}
-use Rattle.sheet_runs.specs.Counts.{SameCounts}
 use Rattle.sheet_runs.specs.Reading.{EndOnce, main_gots}
 use Rattle.fault_report.specs.Line.{line_of, status_of}
 use Rattle.command_words.specs.Words.{command_of}
@@ -28,14 +27,7 @@ use Rattle.fault_report.specs.declared.outcome.HostFault.TheVariants as fault
 use Rattle.fault_report.specs.declared.outcome.Outcome.{Outcome}
 use Rattle.fault_report.specs.declared.outcome.Outcome.TheVariants.{Host, Memory}
 
--- the host tells its main document, its log and its lanes
-pub record TellsMain (o : Outside) (main : List ℕ) : Type 0 where
-  pub main_document : o.to_come 0 ≡ Some main
-  pub log : IsSome o.log
-  pub out : IsSome o.out
-  pub note : IsSome o.note
-
--- and its documents, and which ids are open
+-- the host tells its documents, the main one among them, its log, its lanes, and which ids are open
 pub record Tells (o : Outside) (docs : List Doc) (main : List ℕ) : Type 0 where
   pub documents : o.documents ≡ Some docs
   pub open_ids : IsSome o.open_ids

@@ -4,7 +4,7 @@ use Rattle.std.specs.List.{list_any}
 use Rattle.stx_base.specs.Course.{Begins}
 use Rattle.stx_base.specs.StandardLimits.{standard_limits}
 use Rattle.stx_host.specs.Before.{AtMainReads, Between, Taken, is_main_read, main_read}
-use Rattle.stx_host.specs.Outside.{LacksRoom, NoteFault, Outside, Rose, document, for_writes, place, wrote}
+use Rattle.stx_host.specs.Outside.{LacksRoom, NoteFault, Outside, Rose, SameCounts, document, for_writes, place, wrote}
 use Rattle.stx_host.specs.Rooms.{needed}
 use Rattle.stx_host.specs.declared.act.Act.{Act}
 use Rattle.stx_host.specs.declared.act.Doc.{Doc}
@@ -21,7 +21,7 @@ use Rattle.sheet_files.specs.Opened.{documents_told}
 use Rattle.sheet_files.specs.Undecided.{ReadUndecided}
 use Rattle.sheet_loader.specs.Values.{Reads}
 use Rattle.sheet_model.specs.declared.sheet.Sheet as model
-use Rattle.sheet_runs.specs.Counts.{CountsBy, SameCounts}
+use Rattle.sheet_runs.specs.Counts.{CountsBy}
 use Rattle.sheet_runs.specs.Meant.{IsSettledOn}
 use Rattle.sheet_runs.specs.Reading.{EndOnce, is_doc_read, main_gots}
 use Rattle.sheet_runs.specs.Runs.{AreAsTold, FailsOn}

@@ -1,4 +1,5 @@
 ghost use Rattle.std.specs.Prelude.{◌≡◌, IfOk, ℕ, List, map};
+ghost use Rattle.stx_host.specs.Outside.{TellsMain};
 ghost use Rattle.stx_host.specs.declared.act.Doc.{Doc};
 ghost use Rattle.command_words.specs.declared.command.Mode.TheVariants as mode;
 ghost use Rattle.run_engine.specs.Run.{IsAtStart};
@@ -6,7 +7,7 @@ ghost use Rattle.sheet_loader.specs.Values.{Reads};
 ghost use Rattle.sheet_model.specs.Sound.{IsSound};
 ghost use Rattle.stx_engine.specs.Answer.{param_of};
 ghost use Rattle.stx_engine.specs.Doing.{AreUsual, Does, DoesCommand, DoesWords, RunsAny, asked_by};
-ghost use Rattle.stx_engine.specs.Headline.{DoesAll, IsStatus, KeepsMain, KeepsTold, RefusesUnnamed, Tells, TellsMain};
+ghost use Rattle.stx_engine.specs.Headline.{DoesAll, IsStatus, KeepsMain, KeepsTold, RefusesUnnamed, Tells};
 ghost use Rattle.stx_engine.specs.Running.{Reports, Runs};
 ghost use Rattle.stx_engine.specs.Words.{spelled};
 ghost use Rattle.stx_engine.specs.declared.run_end.RunEnd.TheVariants as end;

@@ -10,9 +10,9 @@ use Rattle.stx_host.specs.declared.act.Got.TheVariants.{Bytes, End, Failed as Un
 use Rattle.stx_host.specs.declared.act.Lane.TheVariants.{Out}
 use Rattle.stx_host.specs.declared.copy.Copying.{Copying}
 use Rattle.stx_host.specs.declared.copy.Copying.TheVariants.{Whole, Unread as Unread', Unwritten, Unended}
-use Rattle.stx_host.specs.Outside.{Outside, GivesBytes, OutFault, Reads, and_more, writes, wrote}
+use Rattle.stx_host.specs.Outside.{Outside, GivesBytes, OutFault, Reads, TellsMain, and_more, writes, wrote}
 use Rattle.stx_host.specs.Before.{AtMainReads, Between, Taken, main_read, since}
-use Rattle.stx_host.specs.Copy.{CopiesAtReads, CopiesInAll, Copies, Tells}
+use Rattle.stx_host.specs.Copy.{CopiesAtReads, CopiesInAll, Copies}
 use Rattle.stx_host.proofs.Stretches.{between_joins, between_read, between_writes, between_fault, nothing_between, main_read-append, main_reads_one, main_reads_writes, main_read-writes}
 
 pub since_told : {X : Type 0} (told now : Option (List X)) (more : List X) → IsSome told → now ≡ and_more told more → since told now ≡ more
@@ -66,11 +66,11 @@ given_of to_come bytes room n e gives = let given : GivesBytes (Some bytes) n ro
 pub fits_of : (bytes room rest : List ℕ) (n : ℕ) → n ≤ length room → bytes ≡ take n room ++ rest → n ≤ length bytes
 fits_of bytes room rest n fits e = omega (arith, ap length e, length-append (take n room) rest, length-take n room)
 
-pub read_more : (old now mid : Outside) (main room : List ℕ) (n rounds : ℕ) → Tells old main → CopySoFar old now main rounds → GivesBytes (now.to_come 0) n room → Reads now 0 (Bytes n) mid → ReadMore old mid main room n rounds
+pub read_more : (old now mid : Outside) (main room : List ℕ) (n rounds : ℕ) → TellsMain old main → CopySoFar old now main rounds → GivesBytes (now.to_come 0) n room → Reads now 0 (Bytes n) mid → ReadMore old mid main room n rounds
 read_more old now mid main room n rounds tells so_far gives change =
     let acts : List Act = so_far.acts in
     let at : ℕ = main_read acts in
-    let told : now.to_come 0 ≡ Some (drop at main) = main_left old now main acts (take at main) so_far.between tells.document in
+    let told : now.to_come 0 ≡ Some (drop at main) = main_left old now main acts (take at main) so_far.between tells.main_document in
     let next : drop at main ≡ take n room ++ drop n (drop at main) = given_of (now.to_come 0) (drop at main) room n told gives in
     let fits : n ≤ length (drop at main) = fits_of (drop at main) room (drop n (drop at main)) n gives.fits next in
     record {
@@ -133,7 +133,7 @@ pub record EndsSo (old new : Outside) (main out : List ℕ) : Type 0 where
   pub out_is : since old.out new.out ≡ out
   pub note_is : since old.note new.note ≡ []
 
-ends : (old new : Outside) (main : List ℕ) (acts : List Act) (out : List ℕ) → Tells old main → Between old new acts out [] → AtMainReads acts out [] (Copied main) → EndsSo old new main out
+ends : (old new : Outside) (main : List ℕ) (acts : List Act) (out : List ℕ) → TellsMain old main → Between old new acts out [] → AtMainReads acts out [] (Copied main) → EndsSo old new main out
 ends old new main acts out tells between reads =
     let log_is : since old.log new.log ≡ acts = since_told old.log new.log acts tells.log between.log in
     let out_is : since old.out new.out ≡ out = since_told old.out new.out out tells.out between.out_lane in
@@ -148,18 +148,18 @@ copies : (old new : Outside) (main out : List ℕ) (answer : Copying) → EndsSo
 copies old new main out answer ends_so in_all = record { at_reads = ends_so.reads; in_all = subst (CopiesInAll main answer) (sym ends_so.out_is) in_all; no_note = ends_so.note_is }
 
 -- at a read that fails
-pub ends_unread : (old now new : Outside) (main : List ℕ) (rounds : ℕ) → Tells old main → (so_far : CopySoFar old now main rounds) → Reads now 0 Unread new → EndsSo old new main (take (main_read so_far.acts) main)
+pub ends_unread : (old now new : Outside) (main : List ℕ) (rounds : ℕ) → TellsMain old main → (so_far : CopySoFar old now main rounds) → Reads now 0 Unread new → EndsSo old new main (take (main_read so_far.acts) main)
 ends_unread old now new main rounds tells so_far change =
     let out : List ℕ = take (main_read so_far.acts) main in
     ends old new main so_far.acts out tells (and_nothing_more old now new so_far.acts out so_far.between (between_read now new 0 Unread change)) so_far.reads
 
 -- at the end of the main document
-pub ends_whole : (old now new : Outside) (main : List ℕ) (rounds : ℕ) → Tells old main → CopySoFar old now main rounds → IfSome (now.to_come 0) (λ bytes. bytes ≡ []) → Reads now 0 End new → EndsSo old new main main
+pub ends_whole : (old now new : Outside) (main : List ℕ) (rounds : ℕ) → TellsMain old main → CopySoFar old now main rounds → IfSome (now.to_come 0) (λ bytes. bytes ≡ []) → Reads now 0 End new → EndsSo old new main main
 ends_whole old now new main rounds tells so_far at_end change =
     let acts : List Act = so_far.acts in
     let at : ℕ = main_read acts in
     let out : List ℕ = take at main in
-    let told : now.to_come 0 ≡ Some (drop at main) = main_left old now main acts out so_far.between tells.document in
+    let told : now.to_come 0 ≡ Some (drop at main) = main_left old now main acts out so_far.between tells.main_document in
     let none : drop at main ≡ [] = nothing_left (now.to_come 0) (drop at main) told at_end in
     let whole : out ≡ main = take_all at main (omega (arith, length-drop at main, ap length none)) in
     let between : Between old new (acts ++ Read 0 0 ∷ []) out [] = one_act old now new acts (Read 0 0) out so_far.between (between_read now new 0 End change) in
@@ -168,7 +168,7 @@ ends_whole old now new main rounds tells so_far at_end change =
     subst (λ outs. EndsSo old new main outs) whole (ends old new main (acts ++ Read 0 0 ∷ []) out tells between reads)
 
 -- at a write that fails
-pub ends_unwritten : (old mid new : Outside) (main room lens : List ℕ) (n rounds : ℕ) → Tells old main → n ≤ length room → (read : ReadMore old mid main room n rounds) → sum lens < length (take n room)
+pub ends_unwritten : (old mid new : Outside) (main room lens : List ℕ) (n rounds : ℕ) → TellsMain old main → n ≤ length room → (read : ReadMore old mid main room n rounds) → sum lens < length (take n room)
     → OutFault (wrote mid Out lens (take (sum lens) (take n room))) new → EndsSo old new main (take (read.at + sum lens) main)
 ends_unwritten old mid new main room lens n rounds tells fits read some fault =
     let k : ℕ = sum lens in
@@ -179,26 +179,26 @@ ends_unwritten old mid new main room lens n rounds tells fits read some fault =
     subst (λ outs. EndsSo old new main outs) (front_of main room read.at n k (omega (arith, length-take n room)) fits read.next)
     (ends old new main more.acts (take read.at main ++ bytes) tells between more.reads)
 
-pub copies_whole : (old now new : Outside) (main : List ℕ) (rounds : ℕ) → Tells old main → CopySoFar old now main rounds → IfSome (now.to_come 0) (λ bytes. bytes ≡ []) → Reads now 0 End new → Copies old new main Whole
+pub copies_whole : (old now new : Outside) (main : List ℕ) (rounds : ℕ) → TellsMain old main → CopySoFar old now main rounds → IfSome (now.to_come 0) (λ bytes. bytes ≡ []) → Reads now 0 End new → Copies old new main Whole
 copies_whole old now new main rounds tells so_far at_end change = copies old new main main Whole (ends_whole old now new main rounds tells so_far at_end change) refl
 
-pub copies_unread : (old now new : Outside) (main : List ℕ) (rounds : ℕ) → Tells old main → CopySoFar old now main rounds → Reads now 0 Unread new → Copies old new main Unread'
+pub copies_unread : (old now new : Outside) (main : List ℕ) (rounds : ℕ) → TellsMain old main → CopySoFar old now main rounds → Reads now 0 Unread new → Copies old new main Unread'
 copies_unread old now new main rounds tells so_far change =
     copies old new main (take (main_read so_far.acts) main) Unread' (ends_unread old now new main rounds tells so_far change) (main_read so_far.acts, refl)
 
-pub copies_unwritten : (old now mid new : Outside) (main room lens : List ℕ) (n rounds : ℕ) → Tells old main → CopySoFar old now main rounds → GivesBytes (now.to_come 0) n room → Reads now 0 (Bytes n) mid
+pub copies_unwritten : (old now mid new : Outside) (main room lens : List ℕ) (n rounds : ℕ) → TellsMain old main → CopySoFar old now main rounds → GivesBytes (now.to_come 0) n room → Reads now 0 (Bytes n) mid
     → sum lens < length (take n room) → OutFault (wrote mid Out lens (take (sum lens) (take n room))) new → Copies old new main Unwritten
 copies_unwritten old now mid new main room lens n rounds tells so_far gives change some fault =
     let read : ReadMore old mid main room n rounds = read_more old now mid main room n rounds tells so_far gives change in
     copies old new main (take (read.at + sum lens) main) Unwritten (ends_unwritten old mid new main room lens n rounds tells gives.fits read some fault) (read.at + sum lens, refl)
 
-pub copies_so_far : (old now : Outside) (main : List ℕ) (rounds : ℕ) → Tells old main → CopySoFar old now main rounds → Copies old now main Unended
+pub copies_so_far : (old now : Outside) (main : List ℕ) (rounds : ℕ) → TellsMain old main → CopySoFar old now main rounds → Copies old now main Unended
 copies_so_far old now main rounds tells so_far =
     let out : List ℕ = take (main_read so_far.acts) main in
     copies old now main out Unended (ends old now main so_far.acts out tells so_far.between so_far.reads) (main_read so_far.acts, refl)
 
 -- a read whose bytes were all written
-pub copy_step : (old now mid new : Outside) (main room lens : List ℕ) (n rounds : ℕ) → Tells old main → CopySoFar old now main rounds → GivesBytes (now.to_come 0) n room → Reads now 0 (Bytes n) mid
+pub copy_step : (old now mid new : Outside) (main room lens : List ℕ) (n rounds : ℕ) → TellsMain old main → CopySoFar old now main rounds → GivesBytes (now.to_come 0) n room → Reads now 0 (Bytes n) mid
     → sum lens ≡ length (take n room) → new ≡ wrote mid Out lens (take n room) → CopySoFar old new main (rounds + 1)
 copy_step old now mid new main room lens n rounds tells so_far gives change total is =
     copy_goes_on old mid new main room lens n rounds gives.fits (read_more old now mid main room n rounds tells so_far gives change) total is

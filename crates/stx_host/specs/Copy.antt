@@ -1,5 +1,5 @@
 -- What code over any host wrote.
-use Rattle.std.specs.Prelude.{◌≡◌, ℕ, ◌<◌, Bool, true, false, List, [], length, take, sum, Some, IsSome}
+use Rattle.std.specs.Prelude.{◌≡◌, ℕ, ◌<◌, Bool, true, false, List, [], length, take, sum}
 use Rattle.stx_host.specs.declared.act.Lane.{Lane}
 use Rattle.stx_host.specs.declared.copy.Copying.{Copying}
 use Rattle.stx_host.specs.declared.copy.Copying.TheVariants.{Whole, Unread, Unwritten}
@@ -10,13 +10,6 @@ use Rattle.stx_host.specs.Before.{AtMainReads, since}
 abbrev pub WritesAll : Outside → Lane → List ℕ → Bool → Outside → Type 0
 WritesAll old lane bytes true new = (lens : List ℕ) × (sum lens ≡ length bytes) × (new ≡ wrote old lane lens bytes)
 WritesAll old lane bytes false new = (lens : List ℕ) × (sum lens < length bytes) × LaneFault lane (wrote old lane lens (take (sum lens) bytes)) new × LacksRoom old (for_writes lane lens (length bytes))
-
--- the host tells this main document, its log and its lanes
-pub record Tells (o : Outside) (main : List ℕ) : Type 0 where
-  pub document : o.to_come 0 ≡ Some main
-  pub log : IsSome o.log
-  pub out : IsSome o.out
-  pub note : IsSome o.note
 
 -- at each read of the main document all that was read had been written to `Out`, and nothing to `Note`
 abbrev pub CopiesAtReads : Outside → Outside → List ℕ → Type 0

@@ -1,5 +1,5 @@
 -- What a host tells of the outside, and what its four calls do to that.
-use Rattle.std.specs.Prelude.{◌≡◌, ℕ, ◌+◌, ◌-◌, ◌^◌, ◌<◌, ◌≤◌, min, Bool, false, not, ◌==◌, IsTrue, ◌⊎◌, List, [], ◌∷◌, ◌++◌, length, map, take, drop, filter, position, bytes_eq, slice_get, Option, None, IsSome, IfSome, option_map, if◌then◌else◌}
+use Rattle.std.specs.Prelude.{◌≡◌, ℕ, ◌+◌, ◌-◌, ◌^◌, ◌<◌, ◌≤◌, min, Bool, false, not, ◌==◌, IsTrue, ◌⊎◌, List, [], ◌∷◌, ◌++◌, length, map, take, drop, filter, position, bytes_eq, slice_get, Option, None, Some, IsSome, IfSome, option_map, if◌then◌else◌}
 use Rattle.std.specs.List.{list_any}
 use Rattle.std.specs.Option.{option_and_then}
 use Rattle.stx_host.specs.declared.act.Act.{Act}
@@ -40,6 +40,13 @@ pub record Outside : Type 0 where
   pub main_faults : ℕ
   pub out_faults : ℕ
   pub note_faults : ℕ
+
+-- the host tells this main document, its log and its lanes
+pub record TellsMain (o : Outside) (main : List ℕ) : Type 0 where
+  pub main_document : o.to_come 0 ≡ Some main
+  pub log : IsSome o.log
+  pub out : IsSome o.out
+  pub note : IsSome o.note
 
 -- the place of the first document of a name
 abbrev pub place : List Doc → List ℕ → Option ℕ
@@ -100,6 +107,13 @@ for_writes lane before n = record (for_bytes lane n) { acts = length before + 1 
 -- a count rose: it is greater, or stands at the last value of u64
 abbrev pub Rose : ℕ → ℕ → Type 0
 Rose before now = (before < now) ⊎ (now ≡ 2 ^ 64 - 1)
+
+-- no count of faults changed
+pub record SameCounts (old new : Outside) : Type 0 where
+  pub doc : new.doc_faults ≡ old.doc_faults
+  pub main : new.main_faults ≡ old.main_faults
+  pub out : new.out_faults ≡ old.out_faults
+  pub note : new.note_faults ≡ old.note_faults
 
 -- one more, up to the last value of u64
 abbrev pub one_more : ℕ → ℕ

@@ -1,6 +1,7 @@
 //! Code over any host, proved from the trait alone: that the trait says enough.
 ghost use Rattle.std.specs.Prelude.{◌≡◌, ◌≤◌, List, ℕ, length};
-ghost use Rattle.stx_host.specs.Copy.{WritesAll, Tells, Copies, CopyFault};
+ghost use Rattle.stx_host.specs.Outside.{TellsMain};
+ghost use Rattle.stx_host.specs.Copy.{WritesAll, Copies, CopyFault};
 
 use crate::act::{Got, Lane, Put};
 use crate::host::Host;
@@ -34,9 +35,9 @@ pub fn write_all<H: Host>(host: &mut H, lane: Lane, bytes: &[u8]) -> bool
 
 /// Copies the main document to `Lane::Out`. What a read gave is written before the next read.
 pub fn copy_main<H: Host>(host: &mut H) -> Copying
-    ensures copy { (main : List ℕ) → Tells (H.outside host.old) main → Copies (H.outside host.old) (H.outside host.new) main result }
+    ensures copy { (main : List ℕ) → TellsMain (H.outside host.old) main → Copies (H.outside host.old) (H.outside host.new) main result }
     ensures fault { CopyFault (H.outside host.old) result (H.outside host.new) }
-    ensures unended { (main : List ℕ) → Tells (H.outside host.old) main → result ≡ Copying.Unended → u64.MAX ≤ length main }
+    ensures unended { (main : List ℕ) → TellsMain (H.outside host.old) main → result ≡ Copying.Unended → u64.MAX ≤ length main }
 {
     let mut room = [0u8; 4096];
     for _ in 0..u64::MAX {

@@ -5,7 +5,7 @@ use Rattle.std.specs.Option.{option_and_then}
 use Rattle.std.specs.declared.result.Result.{Result}
 use Rattle.stx_base.specs.declared.limits.Limits.{Limits}
 use Rattle.stx_host.specs.Before.{AtMainReads, Between, is_main_read}
-use Rattle.stx_host.specs.Outside.{LacksRoom, MayOpen, Opens, Outside, and_more, document, is_among, place}
+use Rattle.stx_host.specs.Outside.{LacksRoom, MayOpen, Opens, Outside, SameCounts, and_more, document, is_among, place}
 use Rattle.stx_host.specs.Rooms.{needed}
 use Rattle.stx_host.specs.declared.act.Opened.TheVariants.{Id}
 use Rattle.stx_host.specs.declared.act.Act.{Act}
@@ -20,7 +20,7 @@ use Rattle.run_engine.specs.declared.piece.Piece.TheVariants as piece
 use Rattle.run_engine.specs.declared.piece.Pumped.{Pumped}
 use Rattle.run_engine.specs.declared.piece.Pumped.TheVariants as pumped
 use Rattle.sheet_files.specs.Acts.{opens}
-use Rattle.sheet_runs.specs.Counts.{CountsAt, IfFailed, SameCounts}
+use Rattle.sheet_runs.specs.Counts.{CountsAt, IfFailed}
 use Rattle.sheet_runs.specs.Reading.{ReadsOpened}
 use Rattle.sheet_runs.specs.Runs.{AreAbsent, AreWhole, EndsBy, HandsMain, HandsOthers, IsAsked, OpensNames, Writes}
 use Rattle.sheet_runs.specs.Talk.{Besides, Exchange, Leads, Part, beside_in, beside_with, bytes_in, is_main_end, main_bytes, main_ends, main_in, name_asked, names_in, none_beside, notes_in}
